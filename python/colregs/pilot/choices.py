@@ -25,6 +25,9 @@ class Choices:
     speeds: tuple[int, ...]
 
 
+WIDE_COURSES = (1200, -1200, 1500, -1500, 1800)        # 1/10 degree: what an escape may steer beside the scenario's choices
+
+
 def distinct(values: Iterable[int]) -> tuple[int, ...]:
     """Returns the values without repetitions, in the order of their first places."""
     return tuple(dict.fromkeys(values))
@@ -41,3 +44,9 @@ def rewritten(offsets: Offsets, track: Track, reported: Track, without: Sequence
     now, way = round(reported.course * 10), round(reported.speed * 10)
     return Choices(distinct(round(swing(now / 10, course / 10) * 10) for course in courses if course % 3600 not in refused),
                    distinct(speed - way for speed in speeds))
+
+
+def widened(offsets: Offsets, track: Track, holding: Track | None) -> Offsets:
+    """Returns the choices of an escape: what own ship steers first, then those given, then larger turns and no speed at all."""
+    first = ((round(swing(track.course, holding.course) * 10),), (round((holding.speed - track.speed) * 10),)) if holding else ((), ())
+    return Offsets(distinct(first[0] + offsets.courses + WIDE_COURSES), distinct(first[1] + offsets.speeds + (-MOST_SPEED,)))

@@ -7,7 +7,7 @@ from typing import Protocol
 from colregs.pilot.planner import Patience, Planner, Question
 from colregs.pilot.scenario import MOST_TICKS, PilotScenario, Window
 from colregs.pilot.situation import Meeting, Sighting, lasting_meetings, latest_sightings
-from colregs.pilot.states import Answer, Cause, Decision, Memory, Track, decide
+from colregs.pilot.states import Answer, Cause, Decision, Memory, Track, decide, held_order
 
 LONG = 1800            # s: a window this long is cut to the meetings that last, if nobody asked for them before
 BEFORE = 6             # ticks that a window begins before the oldest meeting that lasts
@@ -88,7 +88,8 @@ class Pilot:
     def step(self, log: Log, now: int, track: Track, reported: Track | None, seconds: float = 60, recheck: bool = True) -> Decision:
         """Returns the decision at a time for a track. `reported` is own ship's course and speed of her latest report."""
         window = self.open_window(log, now)
-        answer = self.planner.ask(Question(window, self.lines(log, window), track, reported, seconds), recheck)
+        holding = held_order(self.memory, window.ends) or self.memory.order
+        answer = self.planner.ask(Question(window, self.lines(log, window), track, reported, holding, seconds), recheck)
         return self.settle(answer, window.ends, track)
 
     def stalled(self, now: int, track: Track, words: str) -> Decision:

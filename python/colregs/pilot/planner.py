@@ -5,9 +5,9 @@ import time
 from collections.abc import Callable
 from dataclasses import dataclass, replace
 
-from colregs.pilot.choices import Choices, Offsets, rewritten
+from colregs.pilot.choices import Choices, rewritten, widened
 from colregs.pilot.runner import Report, Runner, status_words
-from colregs.pilot.scenario import PilotScenario, Window
+from colregs.pilot.scenario import PilotScenario, Stage, Window
 from colregs.pilot.states import Answer, Cause, Leg, Plan, Reason, Track
 
 LEAST_WAIT = 0.2       # s: a run gets at least so long, even when the time for an answer is nearly over
@@ -16,12 +16,16 @@ CAUSES = {1: Cause.EVERY_PLAN_FAILS, 3: Cause.SCENARIO, 7: Cause.LIMIT, 9: Cause
 
 @dataclass(frozen=True)
 class Question:
-    """A moment at which a plan is wanted. `reported` is own ship's course and speed of her latest report, if she has both."""
+    """A moment at which a plan is wanted.
+
+    `reported` is own ship's course and speed of her latest report, if she has both, and `holding` what she steers.
+    """
 
     window: Window
     log: bytes
     track: Track
     reported: Track | None
+    holding: Track | None = None
     seconds: float = 60        # how long the answer may take
 
 
@@ -66,19 +70,28 @@ def read_reasons(report: Report, choices: Choices, reported: Track, window: Wind
 class Planner:
     """Asks one runner for plans of one scenario."""
 
-    def __init__(self, scenario: PilotScenario, runner: Runner, offsets: Offsets | None = None, barrier: Barrier | None = None) -> None:
-        """Takes the offsets of the choices, which are the scenario's if left out, and what finds the area that a plan enters."""
-        self.scenario, self.runner = scenario, runner
-        self.offsets, self.barrier = offsets or scenario.offsets, barrier
+    def __init__(self, scenario: PilotScenario, runner: Runner, barrier: Barrier | None = None) -> None:
+        """Takes what finds the area that a plan enters, if there are areas."""
+        self.scenario, self.runner, self.barrier = scenario, runner, barrier
 
     def ask(self, question: Question, recheck: bool = True) -> Answer:
-        """Returns the first plan of the choices that enters no area, or the cause why there is none.
+        """Returns the first plan of the first stage that has one, or the cause why no stage has one, with an escape if there is one."""
+        patience, answer, asked = Patience(question.seconds), Answer(cause=Cause.EVERY_PLAN_FAILS), 0
+        for stage in self.scenario.stages:
+            answer = self.ask_stage(question, stage, patience, recheck)
+            asked += answer.asked
+            if answer.plan is not None or answer.cause not in (Cause.EVERY_PLAN_FAILS, Cause.AREAS):
+                return replace(answer, asked=asked)
+        return replace(answer, escape=self.escape(question, patience), asked=asked + 1)
+
+    def ask_stage(self, question: Question, stage: Stage, patience: Patience, recheck: bool) -> Answer:
+        """Returns the first plan of a stage that enters no area, or the cause why there is none.
 
         The course of the first leg of a plan that enters an area leaves the choices, and the program is asked again.
         """
-        patience, without, area = Patience(question.seconds), list[float](), ""
+        without, area = list[float](), ""
         while True:
-            answer = self.ask_once(question, tuple(without), patience, recheck)
+            answer = self.ask_once(question, stage, tuple(without), patience, recheck)
             if answer is None:
                 return Answer(cause=Cause.AREAS, words="each course enters an area: " + area, asked=len(without))
             answer = replace(answer, asked=len(without) + 1)
@@ -96,13 +109,13 @@ class Planner:
             return answer
         return replace(answer, cause=Cause.AREAS, words="each plan that enters no area fails; %s" % area)
 
-    def ask_once(self, question: Question, without: tuple[float, ...], patience: Patience, recheck: bool) -> Answer | None:
+    def ask_once(self, question: Question, stage: Stage, without: tuple[float, ...], patience: Patience, recheck: bool) -> Answer | None:
         """Returns the program's answer without some courses of the first leg, or nothing if no course is left."""
         reported = question.reported or question.track        # without a report the program answers that own ship is not ready
-        choices = rewritten(self.offsets, question.track, reported, without)
+        choices = rewritten(stage.offsets, question.track, reported, without)
         if not choices.courses:
             return None
-        scenario = self.scenario.text(question.window, choices)
+        scenario = self.scenario.text(question.window, choices, stage)
         report = self.runner.report("plan", scenario, question.log, why=True, timeout=patience.left())
         if report.status == 0:
             plan = read_plan(report, question.window)
@@ -118,6 +131,21 @@ class Planner:
         if patience is not None:
             again = self.runner.report("recheck", scenario, question.log, rows=report.text, timeout=patience.left())
             checked = {0: True, 10: False}.get(again.status)
-        count = len(choices.courses) * len(choices.speeds)
-        words = "every plan of %d choices for a leg fails" % count
+        words = "every plan fails: %d courses and %d speeds for a leg" % (len(choices.courses), len(choices.speeds))
         return Answer(cause=Cause.EVERY_PLAN_FAILS, words=words, reasons=read_reasons(report, choices, reported, question.window), checked=checked)
+
+    def escape(self, question: Question, patience: Patience) -> Plan | None:
+        """Returns a plan that enters no domain and no area whatever rule it breaks, or nothing. What own ship steers comes first."""
+        stage = self.scenario.stages[-1]
+        reported = question.reported or question.track
+        without = list[float]()
+        while True:
+            choices = rewritten(widened(stage.offsets, question.track, question.holding), question.track, reported, without)
+            if not choices.courses:
+                return None
+            scenario = self.scenario.text(question.window, choices, stage, has_rules=False)
+            report = self.runner.report("plan", scenario, question.log, timeout=patience.left())
+            plan = read_plan(report, question.window) if report.status == 0 else None
+            if plan is None or self.barrier is None or not self.barrier(plan, question):
+                return plan
+            without.append(plan.legs[0].course)

@@ -32,6 +32,20 @@ def text_of(words: str) -> str:
     return json.dumps(words, ensure_ascii=False).replace("\x7f", "\\u007f")
 
 
+@dataclass(frozen=True)
+class Stage:
+    """One set of choices: offsets against the track, how many legs of how many ticks, and how many ticks more the last leg is held."""
+
+    offsets: Offsets
+    legs: int
+    leg_ticks: int
+    tail: int
+
+    def seconds(self, tick: int) -> int:
+        """Returns how long a plan of this stage lasts."""
+        return (self.legs * self.leg_ticks + self.tail) * tick
+
+
 def scalar_text(value: object) -> str:
     """Returns a TOML value that is no table: a number, a truth, a text, or a list of such values."""
     if isinstance(value, bool):
@@ -97,7 +111,7 @@ class PilotScenario:
         if not 1 <= self.tick <= 60:
             raise Fault("scenario: window.tick: range")
         self.own = whole(values, "own", "mmsi")
-        self.offsets = Offsets(whole_list(values, "own", "courses"), whole_list(values, "own", "speeds"))
+        self.stages = self.read_stages()
         self.watch, self.range = whole(values, "detect", "watch"), whole(values, "own", "range")
         self.base, self.lengths = whole(values, "own", "base"), whole(values, "own", "lengths")
         self.latitude, self.longitude = whole(values, "reference", "lat"), whole(values, "reference", "lon")
@@ -120,6 +134,20 @@ class PilotScenario:
         own = self.values["own"]
         return whole(self.values, "own", key) if isinstance(own, Mapping) and key in own else at_once
 
+    def read_stages(self) -> tuple[Stage, ...]:
+        """Returns the stages of the table `pilot`, in which a key that is left out is that of `own`; without any, `own` is the only one."""
+        pilot = self.values.get("pilot")
+        listed = pilot.get("stages", [{}]) if isinstance(pilot, Mapping) else [{}]
+        if not isinstance(listed, list) or not listed or not all(isinstance(item, Mapping) for item in listed):
+            raise Fault("scenario: pilot.stages is no list of tables")
+        return tuple(self.read_stage(item) for item in listed)
+
+    def read_stage(self, item: Values) -> Stage:
+        """Returns one stage; a Fault names a key of it that is wrong."""
+        values = {"own": self.own_values() | dict(item)}
+        return Stage(Offsets(whole_list(values, "own", "courses"), whole_list(values, "own", "speeds")),
+                     whole(values, "own", "legs"), whole(values, "own", "leg_ticks"), whole(values, "own", "tail"))
+
     def own_values(self) -> dict[str, object]:
         """Returns the table of own ship."""
         own = self.values["own"]
@@ -129,12 +157,23 @@ class PilotScenario:
         """Returns the scenario with other values in the table of own ship."""
         return PilotScenario({**self.values, "own": self.own_values() | changes}, self.name)
 
-    def text(self, window: Window, choices: Choices | None = None, subjects: tuple[int, ...] = ()) -> str:
-        """Returns the scenario for a window, with own ship's choices and with subjects if there are any."""
-        values: dict[str, object] = {key: value for key, value in self.values.items() if key != "subjects"}
+    def text(self, window: Window, choices: Choices | None = None, stage: Stage | None = None, subjects: tuple[int, ...] = (),
+             has_rules: bool = True) -> str:
+        """Returns the scenario for a window, with own ship's choices of a stage, and with subjects if there are any.
+
+        Without rules no vessel is watched but one within a metre, so that only the domains are left.
+        """
+        values: dict[str, object] = {key: value for key, value in self.values.items() if key not in ("subjects", "pilot")}
         values["window"] = {"start": window.start, "tick": self.tick, "ticks": window.ticks}
         if subjects:
             values["subjects"] = list(subjects)
+        own = self.own_values()
         if choices is not None:
-            values["own"] = self.own_values() | {"courses": list(choices.courses), "speeds": list(choices.speeds)}
+            own |= {"courses": list(choices.courses), "speeds": list(choices.speeds)}
+        if stage is not None:
+            own |= {"legs": stage.legs, "leg_ticks": stage.leg_ticks, "tail": stage.tail}
+        values["own"] = own
+        detect = self.values.get("detect")
+        if not has_rules and isinstance(detect, Mapping):
+            values["detect"] = dict(detect) | {"watch": 1}
         return document_text(values)

@@ -4,7 +4,7 @@ Everything here is pure: `decide` takes the memory, an answer, the time and the 
 """
 from __future__ import annotations
 
-from dataclasses import dataclass, field, replace
+from dataclasses import dataclass, replace
 from enum import Enum
 
 
@@ -68,7 +68,7 @@ class Plan:
 
     def keeps_to(self, track: Track) -> bool:
         """Returns whether each leg orders the track's course and speed, to a tenth."""
-        return all(abs(swing(track.course, leg.course)) < 0.06 and abs(leg.speed - track.speed) < 0.06 for leg in self.legs)
+        return all(orders(leg, track) for leg in self.legs)
 
 
 @dataclass(frozen=True)
@@ -91,7 +91,8 @@ class Answer:
     words: str = ""
     reasons: tuple[Reason, ...] = ()
     checked: bool | None = None        # whether `recheck` confirms the reasons; nothing if it was not asked
-    asked: int = 1                     # how many plans were asked for, the refused ones included
+    escape: Plan | None = None         # without a plan: one that enters no domain, whatever rule it breaks
+    asked: int = 1                     # how many questions the program had to answer
 
 
 @dataclass(frozen=True)
@@ -115,7 +116,8 @@ class Decision:
     held_for: int | None = None
     reasons: tuple[Reason, ...] = ()
     checked: bool | None = None
-    promised: bool = field(default=False)      # whether the course and speed are those of a plan with its promise
+    promised: bool = False             # whether the course and speed are those of a plan with its promise
+    escaping: bool = False             # whether they are those of a plan that keeps out of all domains, and breaks a rule
 
 
 def swing(before: float, after: float) -> float:
@@ -126,19 +128,40 @@ def swing(before: float, after: float) -> float:
 def decide(memory: Memory, answer: Answer, now: int, track: Track) -> tuple[Memory, Decision]:
     """Returns the next memory and the decision at `now`, in seconds since the Unix epoch.
 
-    A new plan is steered. Without one the last plan is steered while its promise lasts, and after that the last course and speed ordered.
+    A new plan is steered. Without one the last plan is steered while its promise lasts. If to go on so would leave no way out of all domains,
+    or no promise is left, the escape is steered if there is one, and otherwise the last course and speed ordered.
     """
     if answer.plan is not None:
         return followed(answer, answer.plan, now, track)
-    leg = memory.plan.leg_at(now) if memory.plan is not None else None
-    last = Track(leg.course, leg.speed) if leg is not None else memory.order or track
-    kept = replace(memory, plan=memory.plan if leg is not None else None, order=last)
-    decision = Decision(unplanned_state(answer.cause, leg is not None), last.course, last.speed, cause=answer.cause, words=answer.words,
-                        reasons=answer.reasons, checked=answer.checked, promised=leg is not None)
-    if leg is None or memory.plan is None:
-        return kept, decision
+    held = held_order(memory, now)
+    if answer.escape is not None and not (held is not None and orders(answer.escape.legs[0], held)):
+        return escaped(answer, answer.escape, now)
+    last = held or memory.order or track
+    decision = Decision(unplanned_state(answer.cause, held is not None), last.course, last.speed, cause=answer.cause, words=answer.words,
+                        reasons=answer.reasons, checked=answer.checked, promised=held is not None)
+    if held is None or memory.plan is None:
+        return Memory(None, last), decision
     ahead = tuple(each for each in memory.plan.legs if now < each.ends)
-    return kept, replace(decision, legs=ahead, held_for=memory.plan.until - now)
+    return Memory(memory.plan, last), replace(decision, legs=ahead, held_for=memory.plan.until - now)
+
+
+def held_order(memory: Memory, now: int) -> Track | None:
+    """Returns the course and speed that the last plan orders at a time, or nothing if its promise is over."""
+    leg = memory.plan.leg_at(now) if memory.plan is not None else None
+    return Track(leg.course, leg.speed) if leg is not None else None
+
+
+def orders(leg: Leg, track: Track) -> bool:
+    """Returns whether a leg orders a course and a speed, to a tenth."""
+    return abs(swing(leg.course, track.course)) < 0.06 and abs(leg.speed - track.speed) < 0.06
+
+
+def escaped(answer: Answer, escape: Plan, now: int) -> tuple[Memory, Decision]:
+    """Returns the memory and the decision where only a plan is left that breaks a rule: own ship keeps out of all domains."""
+    leg = escape.leg_at(now) or escape.legs[0]
+    decision = Decision(unplanned_state(answer.cause, False), leg.course, leg.speed, escape.legs, cause=answer.cause, words=answer.words,
+                        reasons=answer.reasons, checked=answer.checked, escaping=True)
+    return Memory(None, Track(leg.course, leg.speed)), decision
 
 
 def followed(answer: Answer, plan: Plan, now: int, track: Track) -> tuple[Memory, Decision]:

@@ -11,7 +11,7 @@ from colregs.pilot.states import Track
 
 OWN_LENGTH = 100           # m
 FIRST_OTHER = 200000100    # the MMSI of the first of the others
-SHORTEST, LONGEST = 600.0, 2400.0      # s until two that keep on are nearest
+SHORTEST = 600.0           # s until two that keep on are nearest, at least
 EARLIER = 1.2              # the others begin so much farther off than the watch or the horizon reach, so that no meeting has begun
 MISS = 150                 # m: the standard deviation of the place at which another would be nearest
 
@@ -58,19 +58,17 @@ def seconds_to_nearest(scenario: PilotScenario, own: Track, other: Track) -> flo
     mine, theirs = velocity(own), velocity(other)
     closing = max(0.1, math.dist(mine, theirs))
     horizon = whole(scenario.values, "detect", "horizon")
-    return max(SHORTEST, min(scenario.watch / closing, horizon + 0.0) * EARLIER)
+    return max(SHORTEST, min(scenario.watch / closing, float(horizon)) * EARLIER)
 
 
-def drawn(scenario: PilotScenario, own: Track, kinds: list[str], targets: tuple[int, int], draw: random.Random) -> list[Begin]:
-    """Returns the others of a run, at least `targets[0]` and at most `targets[1]`, each of a kind of the list."""
-    found = []
+def drawn(scenario: PilotScenario, own: Track, kinds: tuple[str, ...], targets: tuple[int, int], draw: random.Random) -> tuple[str, list[Begin]]:
+    """Returns the kind of a run, one of the list, and its others, at least `targets[0]` and at most `targets[1]`."""
+    name, found = draw.choice(kinds), list[Begin]()
     for number in range(draw.randint(*targets)):
-        name = draw.choice(kinds)
         kind = KINDS[draw.choice(list(KINDS)) if name == ANY else name]
         track = Track((own.course + draw.uniform(*kind.courses)) % 360, own.speed * draw.uniform(*kind.speeds))
         seconds = seconds_to_nearest(scenario, own, track) * (1.0 if number == 0 else draw.uniform(1.0, 1.5))
         miss = draw.gauss(0, MISS), draw.gauss(0, MISS)
         length = round(draw.triangular(20, 300, 100))
-        found.append(Begin(FIRST_OTHER + number, f"OTHER {number + 1}", length,
-                           nearest_place(own, track, min(seconds, LONGEST * 1.5), miss), track, kind.name))
-    return found
+        found.append(Begin(FIRST_OTHER + number, f"OTHER {number + 1}", length, nearest_place(own, track, seconds, miss), track, kind.name))
+    return name, found

@@ -67,7 +67,7 @@ class Plane:
     def __init__(self, latitude: int, longitude: int) -> None:
         """Takes the reference in 1/10000 minute."""
         self.latitude, self.longitude = latitude, longitude
-        self.east = math.cos(math.radians(latitude / 600000)) * 1852
+        self.east = math.cos(math.radians(round(abs(latitude) / 60000) / 10)) * 1852
 
     def position(self, place: Place) -> tuple[int, int]:
         """Returns latitude and longitude of a place, in 1/10000 minute."""

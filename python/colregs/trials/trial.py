@@ -3,11 +3,11 @@ from __future__ import annotations
 
 import math
 import random
+import time
 from collections import Counter
 from dataclasses import dataclass, field
 
-from colregs.pilot.choices import Offsets
-from colregs.pilot.motion import KNOT, Rates, moved
+from colregs.pilot.motion import KNOT, Place, Rates, moved
 from colregs.pilot.pilot import Pilot
 from colregs.pilot.planner import Patience, Planner
 from colregs.pilot.record import Record
@@ -22,6 +22,7 @@ WARM = 60                  # s: own ship's pilot begins once all have reported
 MOST = 7200                # s: no run is longer
 AFTER = 180                # s: a run goes on for so long after own ship has passed all others and is on her track again
 HISTORY = 3600             # s
+PATIENCE = 600             # s of the clock: simulated time does not pass while the program plans
 OTHERS = "straight", "planning", "contrary"
 
 
@@ -36,8 +37,8 @@ class Setting:
     sluggish: bool = False
     every: int = 60                    # s between two plans
     track: Track = Track(0.0, 14.0)
-    offsets: Offsets | None = None
-    begins: tuple[Begin, ...] = ()     # the others, if they are not drawn
+    begins: tuple[Begin, ...] = ()     # the others, if they are not drawn,
+    label: str = ""                    # and the kind of the run
 
 
 @dataclass
@@ -64,7 +65,7 @@ class Result:
     """What came of a run. Distances are in metres, times in seconds after the start."""
 
     seed: int
-    kinds: list[str]
+    kind: str
     others: list[Begin] = field(default_factory=list)
     least: float = math.inf
     nearest: int = 0
@@ -75,6 +76,7 @@ class Result:
     none: int = 0                      # answers that every plan fails
     held: int = 0                      # moments at which an old plan was held
     lapsed: int = 0                    # moments without a plan and without a promise
+    escapes: int = 0                   # of these, moments at which a plan that breaks a rule keeps out of all domains
     other_causes: int = 0              # moments without a plan for another cause
     turns: int = 0                     # moments at which the course to steer changed
     first_turn: float | None = None    # degrees of the first course off the track, starboard positive
@@ -106,8 +108,8 @@ class Sailor:
 
     def plan(self, record: Record, now: int) -> Decision:
         """Asks the pilot at a time, and returns what it says."""
-        self.pilot.shorten(record, now, Patience(60))
-        self.decision = self.pilot.step(record, now, self.wanted, self.sender.reported, recheck=False)
+        self.pilot.shorten(record, now, Patience(PATIENCE))
+        self.decision = self.pilot.step(record, now, self.wanted, self.sender.reported, PATIENCE, recheck=False)
         return self.decision
 
     def steer(self, now: int) -> None:
@@ -144,9 +146,10 @@ class Trial:
     def __init__(self, scenario: PilotScenario, runner: Runner, setting: Setting, seed: int, pictured: bool = False) -> None:
         """Draws the run. Each source of random numbers has its own seed, so that noise changes no meeting."""
         self.scenario, self.runner, self.setting, self.seed, self.pictured = scenario, runner, setting, seed, pictured
-        draw = random.Random(f"{seed} meetings")
-        begins = list(setting.begins) or drawn(scenario, setting.track, list(setting.kinds), setting.targets, draw)
-        self.result = Result(seed, sorted({begin.kind for begin in begins}), begins)
+        kind, begins = setting.label, list(setting.begins)
+        if not begins:
+            kind, begins = drawn(scenario, setting.track, setting.kinds, setting.targets, random.Random(f"{seed} meetings"))
+        self.result = Result(seed, kind, begins)
         self.record, self.plane = Record(HISTORY + scenario.gap), Plane(scenario.latitude, scenario.longitude)
         self.noise = random.Random(f"{seed} noise")
         self.rates = Rates(scenario.turn_rate / 10 / scenario.tick, scenario.speed_rate / 10 / scenario.tick)
@@ -176,7 +179,7 @@ class Trial:
 
     def pilot(self, scenario: PilotScenario) -> Pilot:
         """Returns a pilot of a scenario."""
-        return Pilot(scenario, Planner(scenario, self.runner, self.setting.offsets), HISTORY)
+        return Pilot(scenario, Planner(scenario, self.runner), HISTORY)
 
     def make_sailors(self) -> list[Sailor]:
         """Returns the others as ships with pilots, each with the scenario as own ship."""
@@ -230,9 +233,10 @@ class Trial:
     def plan(self, second: int) -> None:
         """Lets each ship with a pilot plan, and counts what own ship's says."""
         for sailor in self.sailors:
-            before = sailor.decision
+            before, clock = sailor.decision, time.monotonic()
             decision = sailor.plan(self.record, START + second)
             if sailor is self.own:
+                self.result.seconds.append(time.monotonic() - clock)
                 self.count(second, before, decision)
 
     def count(self, second: int, before: Decision | None, decision: Decision) -> None:
@@ -243,6 +247,7 @@ class Trial:
         result.other_causes += decision.cause not in (None, Cause.EVERY_PLAN_FAILS)
         result.held += decision.state is State.HELD
         result.lapsed += decision.state is State.NONE
+        result.escapes += decision.escaping
         if decision.cause not in (None, Cause.EVERY_PLAN_FAILS):
             result.fault = decision.words
         off = swing(self.setting.track.course, decision.course)

@@ -1,0 +1,66 @@
+"""Runs many trials, side by side, and gives their results in the order of their seeds."""
+from __future__ import annotations
+
+import sys
+import time
+from collections.abc import Iterable, Iterator, Sequence
+from concurrent.futures import ProcessPoolExecutor
+from dataclasses import dataclass
+
+from colregs.pilot.runner import ProcessRunner
+from colregs.pilot.scenario import PilotScenario
+from colregs.trials.trial import Result, Setting, Trial
+
+BAR = 30               # characters of the progress bar
+SHOWN_EVERY = 0.5      # s between two drawings of it
+
+
+@dataclass(frozen=True)
+class Job:
+    """One run: its setting and its seed, and whether its tracks are wanted."""
+
+    setting: Setting
+    seed: int
+    pictured: bool = False
+
+
+class Worker:
+    """What each process of a batch has: the scenario, and a runner of the program."""
+
+    scenario: PilotScenario
+    runner: ProcessRunner
+
+
+def begin_worker(path: str, program: str) -> None:
+    """Reads the scenario and makes the runner, once in each process."""
+    Worker.scenario, Worker.runner = PilotScenario.read(path), ProcessRunner(program)
+
+
+def run_job(job: Job) -> Result:
+    """Runs one trial."""
+    return Trial(Worker.scenario, Worker.runner, job.setting, job.seed, job.pictured).run()
+
+
+def run_all(path: str, program: str, jobs: Sequence[Job], processes: int) -> Iterator[Result]:
+    """Yields the result of each job, in their order."""
+    if processes == 1:
+        begin_worker(path, program)
+        yield from map(run_job, jobs)
+        Worker.runner.close()
+        return
+    with ProcessPoolExecutor(processes, initializer=begin_worker, initargs=(path, program)) as pool:
+        yield from pool.map(run_job, jobs)
+
+
+def with_progress(results: Iterable[Result], count: int, name: str) -> Iterator[Result]:
+    """Yields the results, and draws a progress bar on standard error if that is a terminal."""
+    begin, shown = time.monotonic(), 0.0
+    for done, result in enumerate(results, 1):
+        now = time.monotonic()
+        if sys.stderr.isatty() and (now - shown > SHOWN_EVERY or done == count):
+            shown, filled = now, BAR * done // count
+            left = (now - begin) / done * (count - done)
+            print(f"\r{name}: [{'#' * filled}{'.' * (BAR - filled)}] {done} of {count} runs, {left:.0f} s left ", end="", file=sys.stderr, flush=True)
+        yield result
+    if sys.stderr.isatty():
+        print(file=sys.stderr)

@@ -1,0 +1,116 @@
+"""What trials show together: for each kind its collisions, domains, distances, answers, rules and ways lost, as rows and as JSON."""
+from __future__ import annotations
+
+import math
+import statistics
+from collections import Counter
+from collections.abc import Sequence
+from dataclasses import asdict, dataclass
+
+from colregs.trials.trial import Result, Setting
+
+Json = dict[str, object]
+
+
+@dataclass(frozen=True)
+class Group:
+    """The runs of one kind with one number of others. Distances are in metres, shares in percent, quartiles from the least to the greatest."""
+
+    kind: str
+    others: int
+    runs: int
+    collisions: int            # runs in which own ship came nearer to another than half their lengths
+    domains: int               # runs in which she entered the domain of one who did not begin within it
+    least: tuple[float, ...]   # least distances: the least, the quartiles, the greatest
+    replans: int
+    none: int
+    none_share: float
+    none_runs: int
+    held: int
+    lapsed: int                # held past the promise: neither a plan nor a promise
+    escapes: int               # of these, with a plan that keeps out of all domains
+    broke: int                 # runs in which own ship broke a rule
+    broke_share: float
+    planned: int               # of these, runs in which she followed a new plan when a breach began
+    rules: dict[str, int]      # runs in which she broke each rule
+    reasons: dict[str, int]    # why plans failed where all did
+    way_lost: float            # median
+    turns: float               # mean number of changes of the course to steer
+    faults: int                # runs with an answer that was neither a plan nor `none`
+
+
+HEAD = ("kind", "others", "runs", "collisions", "domains", "least", "least_quarter", "least_median", "least_three_quarters", "replans", "none",
+        "none_percent", "none_runs", "held", "lapsed", "escapes", "broke", "broke_percent", "planned", "rules", "way_lost", "turns", "faults")
+
+
+def quartiles(values: Sequence[float]) -> tuple[float, ...]:
+    """Returns the least, the quartiles and the greatest of values, each of which is one of them."""
+    ordered = sorted(values)
+    return tuple(round(ordered[k * (len(ordered) - 1) // 4], 1) for k in range(5))
+
+
+def percent(part: int, whole: int) -> float:
+    """Returns a part of a whole in percent, to a hundredth."""
+    return round(100 * part / whole, 2) if whole else 0.0
+
+
+def group_of(kind: str, others: int, results: Sequence[Result]) -> Group:
+    """Returns what the runs of one kind show."""
+    rules, reasons = Counter[str](), Counter[str]()
+    for result in results:
+        rules.update({breach.rule for breach in result.broken})
+        reasons.update(result.reasons)
+    replans, none, broke = (sum(values) for values in zip(*((result.replans, result.none, bool(result.broken)) for result in results)))
+    return Group(kind, others, len(results), sum(bool(result.collided) for result in results), sum(bool(result.entered) for result in results),
+                 quartiles([result.least for result in results]), replans, none, percent(none, replans), sum(result.none > 0 for result in results),
+                 sum(result.held for result in results), sum(result.lapsed for result in results), sum(result.escapes for result in results),
+                 broke, percent(broke, len(results)), sum(any(breach.planned for breach in result.broken) for result in results),
+                 dict(sorted(rules.items())), dict(sorted(reasons.items())), round(statistics.median(result.way_lost for result in results), 1),
+                 round(statistics.mean(result.turns for result in results), 2), sum(bool(result.fault) for result in results))
+
+
+def groups_of(results: Sequence[Result]) -> list[Group]:
+    """Returns a group for each kind and number of others, and one of all if there are several."""
+    parts: dict[tuple[str, int], list[Result]] = {}
+    for result in results:
+        parts.setdefault((result.kind, len(result.others)), []).append(result)
+    groups = [group_of(kind, others, part) for (kind, others), part in sorted(parts.items())]
+    return groups + ([group_of("all", 0, results)] if len(groups) > 1 else [])
+
+
+def rows_of(groups: Sequence[Group]) -> str:
+    """Returns the groups as CSV, with a head."""
+    lines = [",".join(HEAD)]
+    for group in groups:
+        rules = " ".join(f"{rule}:{count}" for rule, count in group.rules.items())
+        values = (group.kind, group.others or "", group.runs, group.collisions, group.domains, *group.least[:4], group.replans, group.none,
+                  group.none_share, group.none_runs, group.held, group.lapsed, group.escapes, group.broke, group.broke_share, group.planned, rules,
+                  group.way_lost, group.turns, group.faults)
+        lines.append(",".join(str(value) for value in values))
+    return "\n".join(lines) + "\n"
+
+
+def run_json(result: Result) -> Json:
+    """Returns one run as JSON: the same for the same seed. Seconds of the clock are no part of it."""
+    found = asdict(result)
+    for key in ("seconds", "fixes"):
+        del found[key]
+    return found | {"least": round(result.least, 2), "room": round(result.room, 2) if math.isfinite(result.room) else None, "way_lost": round(result.way_lost, 2),
+                    "off_track": round(result.off_track, 2)}
+
+
+def measured(results: Sequence[Result]) -> Json:
+    """Returns how long plans took, in seconds of the clock: different each time."""
+    seconds = [value for result in results for value in result.seconds]
+    return {"plans": len(seconds), "median": round(statistics.median(seconds), 4), "greatest": round(max(seconds), 4)} if seconds else {"plans": 0}
+
+
+def report_json(scenario: str, setting: Setting, results: Sequence[Result]) -> Json:
+    """Returns all runs and their groups; only what is `measured` differs from one time to the next."""
+    return {"scenario": scenario, "setting": asdict(setting), "groups": [asdict(group) for group in groups_of(results)],
+            "runs": [run_json(result) for result in results], "measured": measured(results)}
+
+
+def worst(results: Sequence[Result], count: int) -> list[Result]:
+    """Returns the worst runs, the worst first."""
+    return sorted(results, key=lambda result: (result.badness, -result.seed), reverse=True)[:count]
