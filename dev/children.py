@@ -3,6 +3,7 @@ from __future__ import annotations
 
 import ctypes
 import os
+import re
 import resource
 import signal
 import subprocess
@@ -11,9 +12,10 @@ import time
 from types import TracebackType
 from typing import IO, List, Mapping, Optional, Type
 
-from .repository import Fault, say
+from .repository import Fault, read_if_there, say
 
 EACH = 20.0      # seconds between two lines of progress
+_MEMORY = 2500 * 1000 * 1000      # bytes that one processor's work takes at most, by and large, when it proves or compiles
 _DIE_WITH_PARENT = 1      # PR_SET_PDEATHSIG of prctl(2)
 _C = ctypes.CDLL(None, use_errno=True)
 
@@ -81,3 +83,11 @@ def limit_of_memory() -> Optional[int]:
     """Returns the bytes that a process may take by `ulimit -v` or `ulimit -d`, or None if neither is set."""
     limits = [resource.getrlimit(kind)[0] for kind in (resource.RLIMIT_AS, resource.RLIMIT_DATA)]
     return min((it for it in limits if it != resource.RLIM_INFINITY), default=None)
+
+
+def processors() -> int:
+    """Returns the number of processors to use: no more than there is memory for."""
+    free = re.search(r"^MemAvailable:\s+(\d+)", read_if_there("/proc/meminfo"), re.M)
+    limit = read_if_there("/sys/fs/cgroup/memory.max").strip()
+    memory = [1024 * int(it.group(1)) for it in [free] if it] + [int(it) for it in [limit] if it.isdigit()]
+    return max(1, min([len(os.sched_getaffinity(0))] + [it // _MEMORY for it in memory]))

@@ -22,7 +22,7 @@ import tempfile
 import time
 from typing import Dict, List, Optional, Set
 
-from .children import EACH, Child
+from .children import EACH, Child, processors
 from .kit import SETTINGS, Kit, asked
 from .program import PROVED, alone, stamp
 from .repository import NO_PROGRAM, PROGRAM, TOP, Fault, crates_of, files_of, listed_crates, path_of, read_if_there, say
@@ -30,7 +30,6 @@ from .sums import Record, sums
 
 # Here `rt` allows sources that lie in libraries; it makes none of the program, and the gate leaves them.
 PLACE = path_of("crates", PROGRAM, "out", "rlib")
-MEMORY = 2500 * 1000 * 1000      # bytes that a processor's part of a proof takes at most, by and large
 MOST_JOBS = 4                    # the most processors that were tried for one crate
 # The facts that the last line of a proof may state. Others are refused: they may name what HANDLES does not allow, as a bound by which a function need not return.
 EXPECTED = {"logic", "functions", "axioms", "target", "cpu", "sum", "native", "logic-built", "libraries-built", "statements"}
@@ -65,14 +64,6 @@ def path_lengths(crates: Dict[str, Crate]) -> Dict[str, int]:
         for below in crates[name].below:
             lengths[below] = max(lengths[below], lengths[name])
     return lengths
-
-
-def processors() -> int:
-    """Returns the number of processors to use: no more than there is memory for."""
-    free = re.search(r"^MemAvailable:\s+(\d+)", read_if_there("/proc/meminfo"), re.M)
-    limit = read_if_there("/sys/fs/cgroup/memory.max").strip()
-    memory = [1024 * int(it.group(1)) for it in [free] if it] + [int(it) for it in [limit] if it.isdigit()]
-    return max(1, min([len(os.sched_getaffinity(0))] + [it // MEMORY for it in memory]))
 
 
 class Proof:

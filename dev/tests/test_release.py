@@ -1,28 +1,32 @@
 """What `.ci/release` makes: that its program and tools run where they are unpacked, and what BUILD says of them."""
+from __future__ import annotations
+
 import hashlib
 import os
 import shutil
 import subprocess
 import unittest
 
-from given import EXAMPLES, InFolder, PROGRAM, TOP, needs, text_of, with_program
+from dev.tests.given import EXAMPLES, PROGRAM, TOP, InFolder, has_program, needs, text_of
 
 
-@with_program
+@has_program
 @needs("git")
 @needs("rt")
 @needs("dpkg-deb")
 @unittest.skipUnless(os.path.exists(os.path.join(TOP, ".git")), "this is no clone")
 class Release(InFolder):
-    def made(self, *words):
+    def made(self, *words: str) -> tuple[int, str]:
+        """Makes a release of the program: the status and standard error."""
         done = subprocess.run([os.path.join(TOP, ".ci", "release"), *words, self.path("out"), PROGRAM], capture_output=True, text=True, timeout=120)
         return done.returncode, done.stderr
 
-    def report(self, *command):
+    def report(self, *command: str) -> str:
+        """Returns the report of the head-on encounter by a program."""
         with open(os.path.join(EXAMPLES, "head_on.log"), "rb") as log:
             return subprocess.run([*command, "audit", os.path.join(EXAMPLES, "head_on.toml")], stdin=log, capture_output=True, text=True).stdout
 
-    def test_both_hold_the_program_the_tools_and_what_they_were_made_of(self):
+    def test_both_hold_the_program_the_tools_and_what_they_were_made_of(self) -> None:
         self.assertEqual(self.made("--untested"), (0, ""))
         tar, deb = (next(os.path.join(self.path("out"), name) for name in os.listdir(self.path("out")) if name.endswith(end)) for end in (".gz", ".deb"))
         os.makedirs(self.path("unpacked"))
@@ -43,14 +47,14 @@ class Release(InFolder):
         self.assertEqual(self.report(self.path("root/usr/bin/colregs")), wanted)
         self.assertEqual(subprocess.run([self.path("root/usr/bin/colregs-case"), "--help"], capture_output=True).returncode, 0)
 
-    def test_what_the_gate_has_not_passed_is_refused(self):
+    def test_what_the_gate_has_not_passed_is_refused(self) -> None:
         other = shutil.copy("/bin/true", self.path("other"))
         done = subprocess.run([os.path.join(TOP, ".ci", "release"), self.path("out"), other], capture_output=True, text=True)
         self.assertEqual(done.returncode, 1)
         self.assertIn("has not passed this program", done.stderr)
 
-    def test_bash_completes_modes_options_and_scenarios(self):
-        def completed(*words):
+    def test_bash_completes_modes_options_and_scenarios(self) -> None:
+        def completed(*words: str) -> list[str]:
             script = '. "$0"; COMP_WORDS=("$@"); COMP_CWORD=$(($# - 1)); _colregs; printf "%s\\n" "${COMPREPLY[@]}"'
             return subprocess.run(["bash", "-c", script, os.path.join(TOP, "tools", "completion", "colregs.bash"), "colregs", *words], cwd=self.folder,
                                   capture_output=True, text=True).stdout.split("\n")[:-1]
