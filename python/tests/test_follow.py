@@ -8,8 +8,10 @@ import sys
 import time
 import unittest
 from collections.abc import Callable
+from typing import Any
 
 import crowd
+import drawn_logs
 import test_joins
 from given import InFolder, PROGRAM, TOOLS, example, needs, text_of, with_program
 from colregs.io.sources import stamped
@@ -149,7 +151,7 @@ class Meetings(InFolder):
         self.assertEqual(status, 0, error)
         told = [json.loads(line) for line in out.splitlines()]
         done = subprocess.run([PROGRAM, "audit", self.path("s.toml")], input=text, capture_output=True)
-        whole = [absolute(row, test_joins.START) for row in crowd.stretches(done.stdout.decode())]
+        whole = [absolute(row, drawn_logs.START) for row in crowd.stretches(done.stdout.decode())]
         marked = [absolute(row["row"], row["run"]) for row in told if row.get("begins_before")]
         return [absolute(row["row"], row["run"]) for row in told if not row.get("begins_before")], marked, whole
 
@@ -163,11 +165,11 @@ class Meetings(InFolder):
         self.assertTrue(all(str(test_joins.YACHT) in row for row in marked))
 
     def test_a_ship_type_that_was_reported_once_counts_in_every_window_of_a_stream(self) -> None:
-        rows = [*test_joins.two(), (6, test_joins.stamped(6, test_joins.sentences.sentence(test_joins.sentences.hull_part(test_joins.YACHT, 36, (0, 0, 0, 0)))))]
+        rows = [*test_joins.two(), (6, drawn_logs.stamped(6, sentences.sentence(sentences.hull_part(test_joins.YACHT, 36, (0, 0, 0, 0)))))]
         found, marked, whole = self.followed(rows, test_joins.RANKS)
         self.assertIn(f"verdict,{test_joins.CARGO},{test_joins.YACHT},r16,broken", "\n".join(whole))
         self.assertEqual((sorted(found), marked), (sorted(whole), []))
-        self.assertEqual(json.loads(text_of(self.path("days/types.json"))), {str(test_joins.YACHT): [36, test_joins.START + 6]})
+        self.assertEqual(json.loads(text_of(self.path("days/types.json"))), {str(test_joins.YACHT): [36, drawn_logs.START + 6]})
 
 
 class Healths(Streams):

@@ -223,7 +223,8 @@ class KeptResults(Joins):
         self.write("log.gz", gzip.compress(log, 1))
         self.write("s.toml", crowd.SCENARIO)
         found = []
-        for words in ([], ["--group", "25"]):
+        ways: tuple[list[str], ...] = ([], ["--group", "25"])
+        for words in ways:
             self.write("jobs", self.many("plan", "s.toml", "log.gz", "--ticks", str(crowd.STEPS), *words)[1])
             self.many("jobs", "--jobs", "2")
             found.append(crowd.stretches(self.many("join", "jobs")[1]))
