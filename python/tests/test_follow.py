@@ -8,12 +8,17 @@ import sys
 import time
 import unittest
 from collections.abc import Callable
+from typing import Any
 
 import crowd
+import drawn_logs
 import test_joins
 from given import InFolder, PROGRAM, TOOLS, example, needs, text_of, with_program
 from colregs.io.sources import stamped
-from colregs.stream.day_files import LEAP, SURE, Clock, DayFiles
+from colregs.io import sentences
+from colregs.io.sieve import Senders
+from colregs.stream.day_files import LEAP, SURE, Clock, DayFiles, MedianClock
+from colregs.stream.health import Health
 from colregs.stream.rows import steps_of
 
 SHIFT = 1700006400 - 1700001000          # s: midnight comes 1000 s behind the beginning of the harbour's log
@@ -125,7 +130,7 @@ exec %s "$@"
 
 
 class Killed(Streams):
-    def test_a_run_that_is_killed_while_it_writes_a_row_begins_again(self):
+    def test_a_run_that_is_killed_while_it_writes_a_row_begins_again(self) -> None:
         program = self.write("wrapped", KILLED % (PROGRAM, PROGRAM))
         os.chmod(program, 0o755)
         out, error = self.follow("--whole", "--program", program, source="".join(self.lines))
@@ -137,7 +142,7 @@ class Killed(Streams):
 class Meetings(InFolder):
     """Streams of drawn vessels in windows of 1000 s that overlap by as much."""
 
-    def followed(self, rows, scenario):
+    def followed(self, rows: list[tuple[float, bytes]], scenario: str) -> tuple[list[str], list[str], list[str]]:
         text = b"".join(line + b"\n" for _, line in sorted(rows, key=lambda row: row[0]))
         self.write("s.toml", scenario)
         self.write("log", text)
@@ -146,11 +151,11 @@ class Meetings(InFolder):
         self.assertEqual(status, 0, error)
         told = [json.loads(line) for line in out.splitlines()]
         done = subprocess.run([PROGRAM, "audit", self.path("s.toml")], input=text, capture_output=True)
-        whole = [absolute(row, test_joins.START) for row in crowd.stretches(done.stdout.decode())]
+        whole = [absolute(row, drawn_logs.START) for row in crowd.stretches(done.stdout.decode())]
         marked = [absolute(row["row"], row["run"]) for row in told if row.get("begins_before")]
         return [absolute(row["row"], row["run"]) for row in told if not row.get("begins_before")], marked, whole
 
-    def test_rows_of_a_meeting_that_began_before_their_window_say_so(self):
+    def test_rows_of_a_meeting_that_began_before_their_window_say_so(self) -> None:
         still = [*test_joins.way(test_joins.YACHT, 0, 0, 0, 5, to=10800), *test_joins.way(test_joins.CARGO, 0, 0, 0, 7, x=50, to=10800)]
         met = [*test_joins.way(test_joins.EAST, 9, 0, 5000, 3, x=9000, to=10800), *test_joins.way(test_joins.NORTH, 9, 180, 5000, 4, x=9100, to=10800)]
         rows, marked, whole = self.followed(still + met, test_joins.SCENARIO.replace("ticks = 2160", "ticks = 1080"))
@@ -159,12 +164,62 @@ class Meetings(InFolder):
         self.assertTrue(marked)
         self.assertTrue(all(str(test_joins.YACHT) in row for row in marked))
 
-    def test_a_ship_type_that_was_reported_once_counts_in_every_window_of_a_stream(self):
-        rows = [*test_joins.two(), (6, test_joins.stamped(6, test_joins.sentences.sentence(test_joins.sentences.hull_part(test_joins.YACHT, 36, (0, 0, 0, 0)))))]
+    def test_a_ship_type_that_was_reported_once_counts_in_every_window_of_a_stream(self) -> None:
+        rows = [*test_joins.two(), (6, drawn_logs.stamped(6, sentences.sentence(sentences.hull_part(test_joins.YACHT, 36, (0, 0, 0, 0)))))]
         found, marked, whole = self.followed(rows, test_joins.RANKS)
         self.assertIn(f"verdict,{test_joins.CARGO},{test_joins.YACHT},r16,broken", "\n".join(whole))
         self.assertEqual((sorted(found), marked), (sorted(whole), []))
-        self.assertEqual(json.loads(text_of(self.path("days/types.json"))), {str(test_joins.YACHT): [36, test_joins.START + 6]})
+        self.assertEqual(json.loads(text_of(self.path("days/types.json"))), {str(test_joins.YACHT): [36, drawn_logs.START + 6]})
+
+
+class Healths(Streams):
+    def of_stations(self, ahead: int) -> str:
+        """The harbour's lines as three stations hear them, a third of the vessels each; the clock of the last is ahead."""
+        made = []
+        for line in self.lines:
+            if not line.startswith("\\"):
+                made.append(line)
+                continue
+            at, rest = int(line[3:13]), line.split("\\", 2)[2]
+            name = "ABC"[(Senders().of(rest.encode()) or 0) % 3]
+            made.append(sentences.block(at + (ahead if name == "C" else 0), b"s:" + name.encode()).decode() + rest)
+        return "".join(made)
+
+    def health(self) -> Any:
+        return json.loads(text_of(self.path("days/health.jsonl")).splitlines()[-1])
+
+    def met(self, text: str) -> list[tuple[int, int, str]]:
+        return sorted((row["subject"], row["other"], row["encounter"]) for row in map(json.loads, text.splitlines()) if row["kind"] == "meeting")
+
+    def test_a_station_whose_clock_is_ahead_is_named(self) -> None:
+        out, error = self.follow("--whole", source=self.of_stations(1200))
+        self.assertIn("the clock of the station C is", error)
+        self.assertIn("are `late`: a station whose clock is ahead", error)
+        self.assertGreater(self.health()["stations"]["C"]["lead"], 1000)
+
+    def test_by_the_clock_of_most_stations_its_vessels_meet_as_they_did(self) -> None:
+        wanted = self.met(self.follow("--whole", source=self.of_stations(0), days="good")[0])
+        self.assertGreater(len(wanted), 8)
+        out, error = self.follow("--whole", "--clock", "median", source=self.of_stations(1200))
+        self.assertEqual(self.met(out), wanted)
+        self.assertGreater(self.health()["stations"]["C"]["restamped"], 100)
+        self.assertEqual(self.health()["rows"], len(out.splitlines()))
+
+    def test_a_first_line_a_day_ahead_and_ten_lines_a_year_ahead_lose_nothing(self) -> None:
+        for ahead, count in ((86400, 1), (31536000, 10)):
+            tagged = [line.split("\\", 2)[2] for line in self.lines if line.startswith("\\")]
+            wrong = [sentences.block(START + ahead + k).decode() + rest for k, rest in enumerate(tagged[:count])]
+            out, _ = self.follow("--whole", "--clock", "median", source="".join(wrong + self.lines), days=f"days{ahead}")
+            self.assertEqual(sorted(self.rows(out)), sorted(self.whole()), ahead)
+
+    def test_a_minute_without_a_line_is_told_once(self) -> None:
+        said: list[str] = []
+        health = Health(self.folder, 30, said.append)
+        health.heard -= 61
+        health.look(None, 0)
+        health.look(None, 0)
+        health.came()
+        self.assertEqual(said, ["no line came for 60 s", "lines come again"])
 
 
 class Limits(Streams):
@@ -204,6 +259,16 @@ class Parts(InFolder):
         for k in range(SURE):
             clock.take(b"\\c:%d*00\\" % (10 ** 9 + k))
         self.assertEqual(clock.time, 10 ** 9)
+
+    def test_the_clock_of_most_goes_back(self) -> None:
+        clock = MedianClock(30)
+        for at, told in ((9000, 9000), (100, 100), (101, 101), (9001, 101), (102, 102)):
+            self.assertEqual(clock.take(b"\\c:%d*00\\" % at), told, at)
+        for name, at, told in (("a", 200, 200), ("b", 201, 201), ("c", 999, 201), ("a", 230, 230), ("d", 231, 231)):
+            self.assertEqual(clock.take(b"\\s:%s,c:%d*00\\" % (name.encode(), at)), told, name)
+        self.assertEqual(clock.timed(b"\\s:c,c:999*00\\!x"), b"\\s:c,c:999*00\\!x")        # a damaged block stays as it is
+        line = sentences.block(999, b"s:c") + b"!x"
+        self.assertEqual(clock.timed(line), sentences.block(231, b"s:c") + b"!x")
 
     def test_a_line_that_was_cut_off_is_not_gone_on_with(self) -> None:
         files = DayFiles(self.folder)

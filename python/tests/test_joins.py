@@ -8,18 +8,21 @@ import os
 import tempfile
 import unittest
 import unittest.mock
+from collections.abc import Iterable, Iterator
+from typing import Any
 
 import crowd
 import drawn_logs
 from drawn_logs import METRE, START, in_parts, stamped, voyage
 from given import InFolder, PROGRAM, text_of, with_program
 from colregs.io import sentences
-from colregs.io.lines import Joiner, Stamps, bits_of, line_of, sentence_of, stamp_of_block
+from colregs.io.lines import Joiner, Sentence, Stamps, bits_of, line_of, sentence_of, stamp_of_block
 from colregs.model.formulas import YES, sight_of
 from colregs.model.scenario import Scenario
 from colregs.shares.jobs import whole_result
 from colregs.shares.spans import Span, believed
 
+Row = tuple[float, bytes]
 NUMBERS = range(9000, 9036)         # drawn logs that run here; `drawn_logs.py PROGRAM --count 20000` runs more
 YACHT, CARGO, EAST, NORTH = 200000001, 200000002, 200000003, 200000004
 SCENARIO = f"""version = 2
@@ -45,7 +48,8 @@ RANKS = SCENARIO + "ranks = 1\n"
 CROSSING = 3 * 3600 + 1800          # s after the start at which two vessels cross, far from the first window
 
 
-def way(mmsi, knots, course, at, offset, x=0.0, y=0.0, to=21600, every=30, status=15, stamp=None):
+def way(mmsi: int, knots: int, course: int, at: int, offset: int, x: float = 0.0, y: float = 0.0, to: int = 21600, every: int = 30,
+        status: int = 15) -> Iterator[Row]:
     """Reports of a vessel that is at a place at a time, with the moments at which they come."""
     for second in range(offset, to, every):
         far = knots * 1852 / 3600 * (second - at)
@@ -54,22 +58,29 @@ def way(mmsi, knots, course, at, offset, x=0.0, y=0.0, to=21600, every=30, statu
         yield second, stamped(second, sentences.sentence(fields))
 
 
-def two(at=CROSSING, **more):
+def two(at: int = CROSSING, to: int = 21600) -> list[Row]:
     """A yacht that gives way by her course, and a cargo ship, who meet in a crossing."""
-    return [*way(YACHT, 8, 90, at, 5, **more), *way(CARGO, 12, 0, at, 7, x=100, status=0, **more)]
+    return [*way(YACHT, 8, 90, at, 5, to=to), *way(CARGO, 12, 0, at, 7, x=100, status=0, to=to)]
+
+
+def read_part(line: bytes) -> Sentence:
+    """The sentence of a line, which has one."""
+    sentence = sentence_of(line)
+    assert sentence is not None
+    return sentence
 
 
 @with_program
 class Joins(InFolder):
-    def many(self, *words, status=0):
+    def many(self, *words: str, status: int = 0) -> tuple[Any, str, str]:
         done = self.within("colregs-many", *words, "--program", PROGRAM)
         self.assertEqual(done[0], status, done[2])
         return done
 
-    def log(self, rows, name="log.gz"):
+    def log(self, rows: Iterable[Row], name: str = "log.gz") -> None:
         self.write(name, gzip.compress(b"".join(line + b"\n" for _, line in sorted(rows, key=lambda row: row[0])), 1))
 
-    def joined(self, *words, files=("log.gz",), scenario=SCENARIO):
+    def joined(self, *words: str, files: tuple[str, ...] = ("log.gz",), scenario: str = SCENARIO) -> tuple[list[str], list[str]]:
         """The joined rows of meetings and verdicts, and those of one run."""
         self.write("s.toml", scenario)
         self.write("jobs", self.many("plan", "s.toml", *files, *words)[1])
@@ -77,12 +88,12 @@ class Joins(InFolder):
         self.write("whole", b"".join(gzip.decompress(open(self.path(name), "rb").read()) for name in files))
         return crowd.stretches(self.many("join", "jobs")[1]), crowd.stretches(self.program("audit", self.path("s.toml"), self.path("whole")))
 
-    def doubts(self):
+    def doubts(self) -> list[dict[str, str]]:
         return list(csv.DictReader(io.StringIO(text_of(self.path("jobs.kept/doubts.csv")))))
 
 
 class Windows(Joins):
-    def test_a_ship_type_that_was_reported_once_counts_in_every_window(self):
+    def test_a_ship_type_that_was_reported_once_counts_in_every_window(self) -> None:
         self.log([*two(), (6, stamped(6, sentences.sentence(sentences.hull_part(YACHT, 36, (0, 0, 0, 0)))))])
         joined, whole = self.joined("--ticks-each", "360", scenario=RANKS)
         self.assertIn(f"verdict,{CARGO},{YACHT},r16,broken", "\n".join(whole))          # power gives way to sail
@@ -90,7 +101,7 @@ class Windows(Joins):
         job = json.loads(text_of(self.path("jobs")).splitlines()[3])
         self.assertEqual(job["types"], {str(YACHT): 36})
 
-    def test_a_ship_type_in_parts_of_two_files_counts_too(self):
+    def test_a_ship_type_in_parts_of_two_files_counts_too(self) -> None:
         rows, parts = sorted(two(), key=lambda row: row[0]), in_parts(voyage(YACHT, 36), b"1", b"A", 0)
         self.log([*[row for row in rows if row[0] < 40], (39, stamped(39, parts[0]))], "one.gz")
         self.log([(40, parts[1]), *[row for row in rows if row[0] >= 40]], "two.gz")
@@ -98,7 +109,7 @@ class Windows(Joins):
         self.assertIn(f"verdict,{CARGO},{YACHT},r16,broken", "\n".join(whole))
         self.assertEqual(joined, whole)
 
-    def test_two_vessels_with_one_mmsi_are_doubtful(self):
+    def test_two_vessels_with_one_mmsi_are_doubtful(self) -> None:
         self.log([*way(YACHT, 0, 0, 0, 0, x=30000), *two(at=CROSSING)])
         for each in ("333", "360", "361"):
             joined, whole = self.joined("--ticks-each", each)
@@ -106,7 +117,7 @@ class Windows(Joins):
             if len(joined) > len(whole):
                 self.assertIn(str(YACHT), [doubt["subject"] for doubt in self.doubts()], each)
 
-    def test_a_formula_of_ones_own_that_looks_back_beyond_the_gap(self):
+    def test_a_formula_of_ones_own_that_looks_back_beyond_the_gap(self) -> None:
         rows = list(way(CARGO, 0, 0, 0, 7, to=10800))
         for second, line in [*way(YACHT, 5, 90, 3300, 5, y=150, to=4500), *way(YACHT, 5, 270, 5700, 4505, y=150, to=10800)]:
             rows.append((second, line))
@@ -122,7 +133,7 @@ class Windows(Joins):
             self.assertTrue(all("again" in row for row in missing), missing)
             self.assertTrue(not missing or self.doubts(), missing)
 
-    def test_a_meeting_longer_than_the_overlap_is_one_row_and_its_verdicts_are_marked(self):
+    def test_a_meeting_longer_than_the_overlap_is_one_row_and_its_verdicts_are_marked(self) -> None:
         self.log([*way(YACHT, 0, 0, 0, 5, to=10800), *way(CARGO, 0, 0, 0, 7, x=50, to=10800), *way(EAST, 9, 0, 5000, 3, x=2000, to=10800),
                   *way(NORTH, 9, 180, 5000, 4, x=2100, to=10800)])
         joined, whole = self.joined("--ticks-each", "100", scenario=SCENARIO.replace("ticks = 2160", "ticks = 1080"))
@@ -136,7 +147,7 @@ class Windows(Joins):
         marked = [row for row in joined if row.endswith(",cut")]
         self.assertTrue(all({str(YACHT), str(CARGO)} == set(row.split(",")[1:3]) for row in marked))
 
-    def test_one_stamp_ten_years_ahead_makes_no_windows(self):
+    def test_one_stamp_ten_years_ahead_makes_no_windows(self) -> None:
         rows = two(to=14400)
         self.log([*rows, (100, stamped(10 ** 8 * 3, sentences.sentence(sentences.class_a(CARGO, (0, 0, 0, 0, 0, 0)))))])
         self.write("s.toml", SCENARIO)
@@ -144,7 +155,7 @@ class Windows(Joins):
         self.assertEqual(len(done[1].splitlines()), 3)
         self.assertIn("1 lines have a time more than a day after all others", done[2])
 
-    def test_drawn_logs_are_those_of_one_run_or_refused_or_marked(self):
+    def test_drawn_logs_are_those_of_one_run_or_refused_or_marked(self) -> None:
         for number in NUMBERS:
             with tempfile.TemporaryDirectory() as folder, unittest.mock.patch("sys.stderr", io.StringIO()):
                 outcome = drawn_logs.tried(number, PROGRAM, folder)
@@ -152,7 +163,7 @@ class Windows(Joins):
 
 
 class Tiles(Joins):
-    def test_a_file_that_changed_after_the_plan_is_refused(self):
+    def test_a_file_that_changed_after_the_plan_is_refused(self) -> None:
         rows = [*two(at=1500, to=3600), *way(EAST, 8, 90, 1500, 9, x=20000, to=3600)]
         self.log(rows)
         self.write("s.toml", SCENARIO)
@@ -161,10 +172,10 @@ class Tiles(Joins):
         self.assertIn("log.gz changed after the jobs were planned: plan again", self.many("jobs", status=1)[2])
         self.assertIn("log.gz changed after the jobs were planned: plan again", self.many("join", "jobs", status=1)[2])
 
-    def four(self):
+    def four(self) -> list[Row]:
         return [*two(at=1500, to=3600), *way(EAST, 8, 90, 1500, 9, x=40000, to=3600), *way(NORTH, 12, 0, 1500, 11, x=40100, to=3600)]
 
-    def test_a_damaged_first_part_of_another_vessel_takes_no_part_away(self):
+    def test_a_damaged_first_part_of_another_vessel_takes_no_part_away(self) -> None:
         first, last = in_parts(voyage(YACHT, 36), b"3", b"A", 0)
         damaged = in_parts(voyage(EAST, 70), b"3", b"A", 1)[0]
         self.log([*self.four(), (600, stamped(600, first)), (600.1, stamped(600, damaged)), (600.2, stamped(600, last))])
@@ -172,7 +183,7 @@ class Tiles(Joins):
         self.assertIn(f"verdict,{CARGO},{YACHT},r16,broken", "\n".join(whole))
         self.assertEqual(joined, whole)
 
-    def test_an_overlong_line_of_another_vessel_moves_no_clock(self):
+    def test_an_overlong_line_of_another_vessel_moves_no_clock(self) -> None:
         fields = sentences.class_a(EAST, (0, round(38000 * METRE), 80, 900, 90, 0))
         self.log([*self.four(), (1000, stamped(3400, sentences.sentence(fields) + b" " + b"x" * 2000))])
         joined, whole = self.joined("--tiles", "2x1", "--ticks", "400")
@@ -181,7 +192,7 @@ class Tiles(Joins):
 
 
 class KeptResults(Joins):
-    def test_a_result_that_is_empty_or_cut_off_is_made_again(self):
+    def test_a_result_that_is_empty_or_cut_off_is_made_again(self) -> None:
         self.log(two())
         joined, _ = self.joined("--ticks-each", "360")
         names = sorted(name for name in os.listdir(self.path("jobs.kept")) if name.endswith(".csv") and len(name) > 60)
@@ -192,7 +203,7 @@ class KeptResults(Joins):
         self.assertIn("3 were kept before, 2 ran, 0 failed", self.many("jobs")[2])
         self.assertEqual(crowd.stretches(self.many("join", "jobs")[1]), joined)
 
-    def test_a_result_ends_with_the_sum_of_its_lines(self):
+    def test_a_result_ends_with_the_sum_of_its_lines(self) -> None:
         self.log(two())
         self.joined("--ticks-each", "360")
         name = next(name for name in os.listdir(self.path("jobs.kept")) if len(name) > 60)
@@ -202,17 +213,18 @@ class KeptResults(Joins):
             self.assertIsNone(whole_result(wrong))
         self.assertEqual(os.stat(self.path("jobs.kept/" + name)).st_mode & 0o777, 0o666 & ~self.mask())
 
-    def mask(self):
+    def mask(self) -> int:
         mask = os.umask(0)
         os.umask(mask)
         return mask
 
-    def test_a_share_with_too_many_pairs_is_split_by_itself(self):
+    def test_a_share_with_too_many_pairs_is_split_by_itself(self) -> None:
         log = crowd.log(100, 8000).encode()
         self.write("log.gz", gzip.compress(log, 1))
         self.write("s.toml", crowd.SCENARIO)
         found = []
-        for words in ([], ["--group", "25"]):
+        ways: tuple[list[str], ...] = ([], ["--group", "25"])
+        for words in ways:
             self.write("jobs", self.many("plan", "s.toml", "log.gz", "--ticks", str(crowd.STEPS), *words)[1])
             self.many("jobs", "--jobs", "2")
             found.append(crowd.stretches(self.many("join", "jobs")[1]))
@@ -221,7 +233,7 @@ class KeptResults(Joins):
 
 
 class Parts(InFolder):
-    def test_lines_are_read_as_the_program_reads_them(self):
+    def test_lines_are_read_as_the_program_reads_them(self) -> None:
         # docs/LOG.md, each by hand: the sum of `c:1700000001` is 5E
         good = b"\\c:1700000001*5E\\!AIVDM,1,1,,B,12vg22hP2<G:B?4KVut3Q2l20000,0*27"
         for line, stamp in ((good, 1700000001), (good[:16] + b"F" + good[17:], None), (b"\\c:1700000001000*6E\\", 1700000001), (good + b"x" * 1024, None),
@@ -231,20 +243,21 @@ class Parts(InFolder):
         self.assertIsNotNone(sentence_of(good + b"\r\n"))
         for wrong in (good[:-1] + b"8", good.replace(b",1,1,", b",1,2,"), good + b"x", good[1:], good.replace(b"12vg", b"12v\x80")):
             self.assertIsNone(sentence_of(wrong), wrong)
-        self.assertEqual(bits_of([sentence_of(good)]).number(8, 30), 200000011)
+        self.assertEqual(bits_of([read_part(good)]).number(8, 30), 200000011)
         self.assertEqual(line_of(b"a\r\n"), b"a")
 
-    def test_parts_are_joined_by_the_last_ones_of_their_key(self):
-        first, last = (sentence_of(part) for part in in_parts(voyage(YACHT, 36), b"1", b"A", 0))
+    def test_parts_are_joined_by_the_last_ones_of_their_key(self) -> None:
+        first, last = (read_part(part) for part in in_parts(voyage(YACHT, 36), b"1", b"A", 0))
         self.assertEqual(Joiner().take(last, 5), None)
         joiner = Joiner()
         joiner.take(first, 5)
         self.assertEqual(joiner.take(last, 36), None)                  # more than 30 s behind the first
         joiner.take(first, 40)
         message = joiner.take(last, 70)
+        assert message is not None
         self.assertEqual((message.time, message.earliest, bits_of(message.parts).number(232, 8)), (70, 40, 36))
 
-    def test_what_a_formula_sees(self):
+    def test_what_a_formula_sees(self) -> None:
         for text, back, ahead, meetings, no_edge in (
                 ("engaged -> clear(100)", 0, 0, True, True), ("begin -> !O[60,900] begin", 900, 0, True, True), ("H[0,600] engaged -> seen", 600, 0, True, False), ("O[0,600] engaged -> seen", 600, 0, True, True),
                 ("engaged -> H[0,60] seen", 60, 0, True, False), ("clear(100)", 0, 0, False, True), ("G[0,60] F[10,20] !engaged", 0, 80, True, True),
@@ -252,13 +265,13 @@ class Parts(InFolder):
             sight = sight_of(text)
             self.assertEqual((sight.back, sight.ahead, sight.values == {YES}, sight.no_edge), (back, ahead, meetings, no_edge), text)
 
-    def test_times_that_few_lines_have_are_not_believed(self):
+    def test_times_that_few_lines_have_are_not_believed(self) -> None:
         spans = [Span("a", "", {10: [500, 36000, 39000], 11: [400, 39600, 40000]}), Span("b", "", {99: [2, 356400, 356500], 999: [1, 3596400, 3596400]})]
         found = believed(spans, 0)
         self.assertEqual((found.last, found.beyond, found.greatest), (40000, 3, 3596400))
         spans.append(Span("c", "", {99: [100, 356400, 356500]}))
         self.assertEqual(believed(spans, 0).last, 356500)
 
-    def test_a_scenario_of_ranks_says_so(self):
+    def test_a_scenario_of_ranks_says_so(self) -> None:
         self.assertTrue(Scenario(self.write("s.toml", RANKS)).ranks)
         self.assertFalse(Scenario(self.write("s.toml", SCENARIO)).ranks)

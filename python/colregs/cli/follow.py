@@ -40,6 +40,8 @@ def parser() -> argparse.ArgumentParser:
     words.add_argument("--modes", type=modes, default=["audit"], help="audit (the default), watch, or audit,watch")
     words.add_argument("--ticks-each", dest="every", type=int, default=360, metavar="N", help="from a window's start to the next one's (default: 360)")
     words.add_argument("--overlap", type=int, default=3600, metavar="SECONDS", help="how far a window runs on into the next (default: 3600)")
+    words.add_argument("--clock", choices=("greatest", "median"), default="greatest",
+                       help="the stream's clock is the greatest time so far (the default), or that of most stations, which then restamps lines of those ahead")
     words.add_argument("--group", type=int, default=32, metavar="N", help="subjects of a run at most if a window is split (default: 32)")
     words.add_argument("--out", metavar="FILE", help="a file that rows are added to, instead of standard output")
     words.add_argument("--to", metavar="COMMAND", help="a command that reads the rows")

@@ -1,15 +1,22 @@
 """The lines of a stream in files by the day of their clock, from which runs are fed as they grow, also after a restart."""
 import calendar
+import collections
 import os
+import statistics
 import time
 from collections.abc import Callable, Iterator
 from typing import BinaryIO
 
-from colregs.io.tag_blocks import stamp
 from colregs.errors import Fault, reason
+from colregs.io.forms import Unsure
+from colregs.io.sentences import block
+from colregs.io.tag_blocks import blocks, stamp
+from colregs.stream.health import station_of
 
 Mark = tuple[str, int]           # a place in the day files: a day, and bytes from its beginning
 LEAP, SURE = 3600, 10            # s: a time so far ahead counts once so many lines in a row tell such
+LEAST_STATIONS, ACTIVE = 3, 100  # stations with names whose clocks are compared, and lines in which a station is heard
+RECENT, AHEAD = 21, 300          # else lines that are compared, and s that a stamp may lie ahead of their middle
 
 
 class Clock:
@@ -31,6 +38,53 @@ class Clock:
             if len(self.ahead) == SURE:
                 self.time, self.ahead = min(self.ahead), []
         return self.time
+
+
+class MedianClock:
+    """The clock of most stations, or, if fewer than three have names, of most of the last lines. It can go back.
+
+    Its time is the greatest stamp that is at most a tolerance ahead of the middle. So no single station, and no few lines, set it.
+    """
+
+    def __init__(self, slack: int) -> None:
+        self.slack, self.lines = slack, 0
+        self.time: int | None = None
+        self.stations: dict[str, tuple[int, int]] = {}          # their last stamps, and the numbers of those lines
+        self.recent: collections.deque[int] = collections.deque(maxlen=RECENT)
+
+    def take(self, line: bytes) -> int | None:
+        """Takes a line; returns the time of the clock after it."""
+        at = stamp(line)
+        if at is None:
+            return self.time
+        self.lines += 1
+        self.recent.append(at)
+        self.stations[station_of(line)] = at, self.lines
+        if self.lines % ACTIVE == 0:
+            self.stations = {name: told for name, told in self.stations.items() if told[1] > self.lines - ACTIVE}
+        told = [last for last, _ in self.stations.values()] if self.has_several() else list(self.recent)
+        middle = statistics.median_low(told)
+        self.time = max(one for one in told if one <= middle + self.tolerance())
+        return self.time
+
+    def has_several(self) -> bool:
+        """Returns whether enough stations have names for their clocks to be compared."""
+        return len(self.stations) >= LEAST_STATIONS
+
+    def tolerance(self) -> int:
+        """Returns how many seconds a stamp may lie ahead of the middle."""
+        return self.slack if self.has_several() else AHEAD
+
+    def timed(self, line: bytes) -> bytes:
+        """Returns a line with the clock's time if its own is ahead of that by more than the tolerance; else as it is."""
+        at = stamp(line)
+        if at is None or self.time is None or at <= self.time + self.tolerance():
+            return line
+        try:
+            _, more, rest = blocks(line)
+        except Unsure:
+            return line
+        return block(self.time, more) + rest
 
 
 def day_of(at: int) -> str:

@@ -22,7 +22,8 @@ from colregs.io.sources import stamped
 from colregs.model.scenario import MOST_SUBJECTS, Scenario
 from colregs.shares.heads import STRADDLE
 from colregs.stream.beginnings import Beginnings
-from colregs.stream.day_files import Clock, DayFiles, Mark, lines_of
+from colregs.stream.day_files import Clock, DayFiles, Mark, MedianClock, lines_of
+from colregs.stream.health import Health
 from colregs.stream.rows import Sink, Written, steps_of
 from colregs.stream.runs import StreamRun, Window
 from colregs.stream.sources import Source
@@ -70,7 +71,9 @@ class Follow:
     def __init__(self, given: argparse.Namespace, scenario: Scenario, program: str, sink: Sink) -> None:
         self.given, self.scenario, self.program, self.sink = given, scenario, program, sink
         self.numbers = Numbers(scenario, given.every, -(-given.overlap // scenario.tick))
-        self.files, self.clock, self.senders = DayFiles(given.days), Clock(), Senders()
+        self.files, self.senders = DayFiles(given.days), Senders()
+        self.clock: Clock | MedianClock = MedianClock(scenario.slack) if given.clock == "median" else Clock()
+        self.health = Health(given.days, scenario.slack, self.say)
         self.written, self.types = Written(given.days, sink), StreamTypes(given.days, scenario.slack, scenario.ranks)
         self.beginnings = Beginnings(self.numbers.last, given.every + scenario.steps(max(scenario.gap, STRADDLE)) + 1, given.every)
         self.restarts: dict[tuple[int, str, frozenset[int] | None], int] = {}     # of runs that were killed
@@ -121,9 +124,15 @@ class Follow:
                 offset += len(line)
         if self.clock.time is not None:
             for start in range(self.undone(), self.now(), self.numbers.every * self.numbers.tick):
-                self.begin_window(start, True)          # a run that was killed may have been behind the clock
+                if self.has_lines(start):               # a run that was killed may have been behind the clock
+                    self.begin_window(start, True)
             self.open(again=True)
             self.close_those_over()
+
+    def has_lines(self, start: int) -> bool:
+        """Returns whether the day files have lines from about a window's time."""
+        first, last = start - self.numbers.more, start + self.numbers.ticks * self.numbers.tick + self.numbers.more
+        return any(first // MARK <= mark <= last // MARK for mark in self.marks)
 
     def undone(self) -> int:
         """Returns the start of the first window of which an earlier run has not written all rows; if none is stored, the clock."""
@@ -154,6 +163,8 @@ class Follow:
             line = stamped(line.rstrip(b"\r\n"), int(time.time())) + b"\n" if self.given.now else line
             before = self.clock.time
             now = self.clock.take(line)
+            came, line = line, self.clock.timed(line) if isinstance(self.clock, MedianClock) else line
+            self.health.take(came, came != line)
             if now is None:
                 continue                                # nobody knows its time yet
             if now != before:
@@ -162,6 +173,7 @@ class Follow:
             self.hear(line)
             self.types.take(line, now)
         self.files.flush()
+        self.health.came()
         self.close_those_over()
         self.take_in_new(False)
         self.types.store()
@@ -244,6 +256,8 @@ class Follow:
         """Takes the end of a run."""
         self.runs.discard(run)
         status = run.child.returncode
+        if run.mode == "audit" and status == 0:
+            self.health.ended(run.window.start, run.counts)
         if status == 7 and "pairs" in words:
             self.split_at_limit(run)
         elif status < 0 and self.restarts.get(run.key(), 0) < MOST_RESTARTS:
@@ -254,6 +268,7 @@ class Follow:
     def begin_again(self, run: StreamRun) -> None:
         """Begins a run again that was killed, from the day files; the rows that it wrote are not written again."""
         self.restarts[run.key()] = self.restarts.get(run.key(), 0) + 1
+        self.health.restarts += 1
         self.say(f"a run of `{run.mode}` from {run.window.start} was killed by signal {-run.child.returncode}, and begins again from the day files")
         before = set(self.runs)
         self.begin(run.window, run.mode, run.group)
@@ -293,7 +308,7 @@ class Follow:
         if last > numbers.last and first < numbers.every + numbers.warm:
             self.tell_long(run, row)
         if numbers.behind < last <= numbers.last or last > numbers.last and self.is_last(run):
-            self.written.write(row, run.mode, start, numbers.tick, before)
+            self.health.rows += self.written.write(row, run.mode, start, numbers.tick, before)
 
     def begins_before(self, run: StreamRun, row: str, pair: tuple[int, int], first: int, last: int) -> bool:
         """Returns whether a row's meeting began before its window. Alarms do not say."""
@@ -353,6 +368,7 @@ class Follow:
                     source.done(mark)
                 room.release()
             event = self.next(not waiting)
+            self.health.look(self.clock.time, len(self.heard))
             if event and event[0] == "lines":
                 waiting.append(event[1:])
             elif event and event[0] == "end":
@@ -398,6 +414,7 @@ class Follow:
             event = self.next(True)
             if event and event[0] in ("row", "ended"):
                 self.handle(event)
+        self.health.write(self.clock.time, len(self.heard))
 
     def say(self, words: str) -> None:
         """Writes one line on standard error."""

@@ -136,17 +136,18 @@ class Written:
                     row = json.loads(line)
                     self.known.setdefault((row["mode"], row["run"]), set()).add(row["row"])
 
-    def write(self, row: str, mode: str, start: int, tick: int, begins_before: bool = False) -> None:
-        """Writes a row that was not written yet."""
+    def write(self, row: str, mode: str, start: int, tick: int, begins_before: bool = False) -> bool:
+        """Writes a row that was not written yet, and returns whether it was not."""
         self.load(start)
         known = self.known.setdefault((mode, start), set())
         if row in known:
-            return
+            return False
         known.add(row)
         line = json.dumps(as_values(row, mode, start, tick, begins_before)) + "\n"
         self.sink.write(line)
         with open(self.path(start), "a", encoding="utf-8") as out:
             out.write(line)
+        return True
 
     def forget(self, before: int) -> None:
         """Forgets the windows that began before a time."""
