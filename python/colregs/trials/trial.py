@@ -90,6 +90,7 @@ class Result:
     fault: str = ""
     fixes: list[Fix] = field(default_factory=list)
     states: list[tuple[int, str, float, float]] = field(default_factory=list)
+    log: bytes = b""
     seconds: list[float] = field(default_factory=list)      # of the clock for each plan: measured, and different each time
 
     @property
@@ -302,7 +303,9 @@ class Trial:
         result.off_track = abs(own.place[0] * math.cos(angle) - own.place[1] * math.sin(angle))
         result.way_lost = self.setting.track.speed * KNOT * seconds - along
         self.audit()
-        if not self.pictured:
+        if self.pictured:
+            result.log = self.record_of_all()
+        else:
             result.fixes = []
 
     def audit(self) -> None:
