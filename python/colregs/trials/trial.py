@@ -11,7 +11,7 @@ from colregs.pilot.motion import KNOT, Place, Rates, moved
 from colregs.pilot.pilot import Pilot
 from colregs.pilot.planner import Patience, Planner
 from colregs.pilot.record import Record
-from colregs.pilot.runner import Report, Runner
+from colregs.pilot.runner import Report, Runner, status_words
 from colregs.pilot.scenario import PilotScenario, Window, whole
 from colregs.pilot.states import Cause, Decision, State, Track, swing
 from colregs.trials.meetings import OWN_LENGTH, Begin, drawn
@@ -315,7 +315,7 @@ class Trial:
         text = self.scenario.text(window, subjects=(self.scenario.own,))
         report = self.runner.report("audit", text, self.record_of_all())
         if report.status != 0:
-            result.fault = f"the audit ended with status {report.status}: {report.words}"
+            result.fault = "the audit: " + status_words(report)
         self.take_audit(report, tick)
 
     def record_of_all(self) -> bytes:
