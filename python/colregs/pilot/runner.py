@@ -15,6 +15,7 @@ from colregs.errors import Fault
 from colregs.run.program import found
 
 MISSING, NO_ANSWER = 127, 124       # statuses of our own: the program cannot be started; it gave no answer in time
+MEMORY = "/dev/shm"                  # files that live in memory: a plan waits for no disk
 
 
 @dataclass(frozen=True)
@@ -46,7 +47,7 @@ class ProcessRunner:
     def __init__(self, program: str) -> None:
         """Takes the path of the built program."""
         self.program = program
-        self.room = tempfile.TemporaryDirectory(prefix="colregs-")
+        self.room = tempfile.TemporaryDirectory(prefix="colregs-", dir=MEMORY if os.access(MEMORY, os.W_OK) else None)
 
     def close(self) -> None:
         """Removes the folder."""
