@@ -1,19 +1,23 @@
 """The pilot: what it says at each moment, its choices, areas, routes and sentences, and the loop over a stream."""
+import functools
 import json
 import os
 import signal
 import subprocess
 import sys
 import time
+import types
 import unittest
 
 from given import InFolder, PROGRAM, TOOLS, example, text_of, with_program
+from colregs import library
 from colregs.io.sentences import block, class_a, sentence, total
 from colregs.pilot.areas import Area, read_areas
 from colregs.pilot.choices import Offsets, rewritten
 from colregs.pilot.nmea import command_sentence, text_sentence
 from colregs.pilot.record import Record
 from colregs.pilot.route import read_route
+from colregs.pilot.runner import LibraryRunner, ProcessRunner, status_words
 from colregs.pilot.scenario import PilotScenario
 from colregs.pilot.states import Answer, Cause, Decision, Leg, Memory, Plan, State, Track, decide
 
@@ -313,3 +317,28 @@ class Going(InFolder):
         found = [json.loads(child.stdout.readline()) for _ in range(2)][-1]
         self.assertEqual(found["state"], "stale")
         self.assertIn("--now", found["words"])
+
+
+@with_program
+class Library(InFolder):
+    def test_a_call_of_the_library_gives_the_report_of_the_process(self):
+        text, log = text_of(example("giving_way.toml")), text_of(example("giving_way.log")).encode()
+        process, call = ProcessRunner(PROGRAM), LibraryRunner(functools.partial(library.report, program=PROGRAM))
+        self.addCleanup(process.close)
+        few = text.replace("courses = [0, 150, 300, 450, 600]", "courses = [0]")
+        refused = text.replace("risk = 500", "risk = 0")
+        for mode, scenario, why in (("plan", text, False), ("plan", few, True), ("audit", text, False), ("points", refused, False)):
+            one, two = (runner.report(mode, scenario, log, why=why) for runner in (process, call))
+            self.assertEqual((one.status, one.text, one.words), (two.status, two.text, two.words))
+        why = process.report("plan", few, log, why=True).text
+        self.assertEqual([runner.report("recheck", few, log, rows=why).status for runner in (process, call)], [0, 0])
+
+    def test_a_call_that_fails_or_hangs_is_a_status(self):
+        def hangs(*_, **more):
+            time.sleep(1)
+            return types.SimpleNamespace(status=0, text=b"", fault="")
+
+        def fails(*_, **more):
+            raise MemoryError("memory")
+        for call, words in ((hangs, "no answer"), (fails, "memory")):
+            self.assertIn(words, status_words(LibraryRunner(call).report("plan", "", b"", timeout=0.1)))
