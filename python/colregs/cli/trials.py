@@ -28,6 +28,7 @@ from colregs.trials.summary import groups_of, measured, report_json, rows_of, wo
 from colregs.trials.trial import OTHERS, Result, Setting
 
 MOST_OTHERS = 8
+FIXED = "crossing ", "geometry "      # how the kinds of fixed meetings begin
 
 
 def kinds(word: str) -> tuple[str, ...]:
@@ -77,7 +78,8 @@ def parser() -> argparse.ArgumentParser:
     words.add_argument("--no-draw", dest="drawn", action="store_false", help="make no runs of drawn meetings")
     words.add_argument("--json", metavar="FILE", help="write every run, and the table, as JSON")
     words.add_argument("--page", metavar="FILE", help="write a page with pictures of the worst runs")
-    words.add_argument("--worst", type=at_least(0, 100), default=12, metavar="N", help="how many runs the page shows (default: 12)")
+    words.add_argument("--logs", metavar="DIR", help="write the logs of the worst runs into this folder")
+    words.add_argument("--worst", type=at_least(0, 100), default=12, metavar="N", help="how many runs --page and --logs are of (default: 12)")
     add_program(words)
     return words
 
@@ -101,7 +103,7 @@ def jobs_of(given: argparse.Namespace, scenario: PilotScenario, setting: Setting
 
 def group_label(result: Result) -> Result:
     """Returns a run with the name of its group: crossing angles are one group."""
-    return replace(result, kind=result.kind.split()[0]) if result.kind.startswith(("crossing ", "geometry ")) else result
+    return replace(result, kind=result.kind.split()[0]) if result.kind.startswith(FIXED) else result
 
 
 def about(given: argparse.Namespace, setting: Setting, count: int) -> str:
@@ -111,16 +113,26 @@ def about(given: argparse.Namespace, setting: Setting, count: int) -> str:
             f"{', with ' + ' and '.join(more) if more else ''}, a plan each {setting.every} s, track {setting.track.course:05.1f} at {setting.track.speed:g} knots.")
 
 
-def write_page(given: argparse.Namespace, scenario: PilotScenario, program: str, setting: Setting, jobs: list[Job], results: list[Result]) -> None:
-    """Writes the page. The worst runs are made again for their tracks."""
+def made_again(given: argparse.Namespace, program: str, jobs: list[Job], results: list[Result]) -> list[Result]:
+    """Returns the worst runs, made again for their tracks and logs."""
     by_key = {(job.seed, job.setting.label): job for job in jobs}
-    again = [replace(by_key[result.seed, result.kind if result.kind.startswith(("crossing ", "geometry ")) else ""], pictured=True)
-             for result in worst(results, given.worst)]
-    pictured = list(run_all(given.scenario, program, again, 1))
+    again = [replace(by_key[result.seed, result.kind if result.kind.startswith(FIXED) else ""], pictured=True) for result in worst(results, given.worst)]
+    return list(run_all(given.scenario, program, again, 1))
+
+
+def write_page(given: argparse.Namespace, scenario: PilotScenario, setting: Setting, results: list[Result], pictured: list[Result]) -> None:
+    """Writes the page."""
     groups = groups_of([group_label(result) for result in results])
     crossing = [result for result in results if result.kind.startswith("crossing ")]
     text = page(f"Sea trials of {os.path.basename(given.scenario)}", about(given, setting, len(results)), scenario, groups, pictured, crossing)
     replace_file(given.page, text.encode())
+
+
+def write_logs(folder: str, pictured: list[Result]) -> None:
+    """Writes the log of each run, named by its kind and seed."""
+    os.makedirs(folder, exist_ok=True)
+    for result in pictured:
+        replace_file(os.path.join(folder, f"{result.kind.replace(' ', '_')}_{result.seed}.log"), result.log)
 
 
 def main(arguments: Sequence[str] | None = None) -> int:
@@ -140,8 +152,12 @@ def main(arguments: Sequence[str] | None = None) -> int:
         report("trials", f"{times['plans']} plans, {times['median']} s each by their median, {times['greatest']} s the longest")
     if given.json:
         replace_file(given.json, (json.dumps(report_json(os.path.basename(given.scenario), setting, results), indent=1) + "\n").encode())
-    if given.page:
-        write_page(given, scenario, program, setting, jobs, results)
+    if given.page or given.logs:
+        pictured = made_again(given, program, jobs, results)
+        if given.page:
+            write_page(given, scenario, setting, results, pictured)
+        if given.logs:
+            write_logs(given.logs, pictured)
     return 1 if faults else 0
 
 

@@ -4,9 +4,11 @@ from __future__ import annotations
 from dataclasses import dataclass
 from typing import Protocol
 
+from colregs.pilot.motion import Place
 from colregs.pilot.planner import Patience, Planner, Question
+from colregs.pilot.runner import Report
 from colregs.pilot.scenario import MOST_TICKS, PilotScenario, Window
-from colregs.pilot.situation import Meeting, Sighting, lasting_meetings, latest_sightings
+from colregs.pilot.situation import Meeting, Sighting, lasting_meetings, latest_sightings, names_of
 from colregs.pilot.states import Answer, Cause, Decision, Memory, Track, decide, held_order
 
 LONG = 1800            # s: a window this long is cut to the meetings that last, if nobody asked for them before
@@ -31,6 +33,7 @@ class Scene:
 
     sightings: dict[int, Sighting]
     meetings: list[Meeting]
+    names: dict[int, tuple[str, int]]      # the name and the length in metres of each vessel
 
 
 class Pilot:
@@ -61,15 +64,13 @@ class Pilot:
     def scene(self, log: Log, now: int, patience: Patience) -> Scene:
         """Returns who is where and which meetings last, and cuts the window to these."""
         window = self.open_window(log, now)
-        lines = self.lines(log, window)
-        text = self.scenario.text(window, subjects=(self.scenario.own,))
+        lines, text = self.lines(log, window), self.scenario.text(window, subjects=(self.scenario.own,))
         points = self.planner.runner.report("points", text, lines, timeout=patience.left())
-        meetings = self.lasting(window, lines, text, patience)
-        return Scene(latest_sightings(points) if points.status == 0 else {}, meetings)
-
-    def lasting(self, window: Window, lines: bytes, text: str, patience: Patience) -> list[Meeting]:
-        """Returns own ship's meetings that last, and lets the next window begin before the oldest one."""
         audit = self.planner.runner.report("audit", text, lines, timeout=patience.left())
+        return Scene(latest_sightings(points) if points.status == 0 else {}, self.lasting(window, audit), names_of(audit))
+
+    def lasting(self, window: Window, audit: Report) -> list[Meeting]:
+        """Returns own ship's meetings that last, and lets the next window begin before the oldest one."""
         if audit.status != 0:
             return []
         meetings = lasting_meetings(audit, self.scenario.own, window, self.scenario.gap)
@@ -83,13 +84,17 @@ class Pilot:
         window = self.open_window(log, now)
         if window.ends - window.start > LONG:
             text = self.scenario.text(window, subjects=(self.scenario.own,))
-            self.lasting(window, self.lines(log, window), text, patience)
+            self.lasting(window, self.planner.runner.report("audit", text, self.lines(log, window), timeout=patience.left()))
 
-    def step(self, log: Log, now: int, track: Track, reported: Track | None, seconds: float = 60, recheck: bool = True) -> Decision:
-        """Returns the decision at a time for a track. `reported` is own ship's course and speed of her latest report."""
+    def step(self, log: Log, now: int, track: Track, reported: Track | None, seconds: float = 60, recheck: bool = True,
+             place: Place | None = None) -> Decision:
+        """Returns the decision at a time for a track.
+
+        `reported` is own ship's course and speed of her latest report, and `place` where she is, which areas need.
+        """
         window = self.open_window(log, now)
         holding = held_order(self.memory, window.ends) or self.memory.order
-        answer = self.planner.ask(Question(window, self.lines(log, window), track, reported, holding, seconds), recheck)
+        answer = self.planner.ask(Question(window, self.lines(log, window), track, reported, holding, seconds, place), recheck)
         return self.settle(answer, window.ends, track)
 
     def stalled(self, now: int, track: Track, words: str) -> Decision:

@@ -6,6 +6,7 @@ from collections.abc import Callable
 from dataclasses import dataclass, replace
 
 from colregs.pilot.choices import Choices, rewritten, widened
+from colregs.pilot.motion import Place
 from colregs.pilot.runner import Report, Runner, status_words
 from colregs.pilot.scenario import PilotScenario, Stage, Window
 from colregs.pilot.states import Answer, Cause, Leg, Plan, Reason, Track
@@ -26,7 +27,8 @@ class Question:
     track: Track
     reported: Track | None
     holding: Track | None = None
-    seconds: float = 60        # how long the answer may take
+    seconds: float = 60            # how long the answer may take
+    place: Place | None = None     # where own ship is, in metres on the plane
 
 
 class Patience:

@@ -1,14 +1,21 @@
 """Runs the program on a scenario and a log that are in memory: one small interface, so that a library can take the place of a process."""
 from __future__ import annotations
 
+import importlib
 import os
 import subprocess
 import tempfile
+import threading
 import time
-from dataclasses import dataclass
-from typing import Protocol
+from collections.abc import Callable
+from dataclasses import dataclass, replace
+from typing import Any, Protocol
+
+from colregs.errors import Fault
+from colregs.run.program import found
 
 MISSING, NO_ANSWER = 127, 124       # statuses of our own: the program cannot be started; it gave no answer in time
+MEMORY = "/dev/shm"                  # files that live in memory: a plan waits for no disk
 
 
 @dataclass(frozen=True)
@@ -40,7 +47,7 @@ class ProcessRunner:
     def __init__(self, program: str) -> None:
         """Takes the path of the built program."""
         self.program = program
-        self.room = tempfile.TemporaryDirectory(prefix="colregs-")
+        self.room = tempfile.TemporaryDirectory(prefix="colregs-", dir=MEMORY if os.access(MEMORY, os.W_OK) else None)
 
     def close(self) -> None:
         """Removes the folder."""
@@ -66,6 +73,45 @@ class ProcessRunner:
             return Report(MISSING, "", "%s cannot be run: %s" % (self.program, (error.strerror or str(error)).lower()), time.monotonic() - begin)
         told = done.stderr.decode("utf-8", "replace").strip()
         return Report(done.returncode, done.stdout.decode("utf-8", "replace"), told, time.monotonic() - begin)
+
+
+class LibraryRunner:
+    """Runs the program's code in this process, by a call of `colregs.library`. A call that hangs is left behind in its thread."""
+
+    def __init__(self, call: Callable[..., Any]) -> None:
+        """Takes `colregs.library.report`, or what has its form."""
+        self.call = call
+
+    def close(self) -> None:
+        """Does nothing: there is no folder."""
+
+    def report(self, mode: str, scenario: str, log: bytes, rows: str | None = None, why: bool = False, timeout: float = 60) -> Report:
+        """Returns the report of one call; what the call raises, and a call that takes too long, is a status with words."""
+        begin, made = time.monotonic(), list[Report]()
+
+        def work() -> None:
+            try:
+                answer = self.call(mode, scenario, log, rows=rows or "", why=why, whole=False)
+                made.append(Report(answer.status, answer.text.decode("utf-8", "replace"), answer.fault, 0.0))
+            except (Fault, MemoryError, ValueError, OSError) as error:
+                made.append(Report(MISSING, "", f"the library failed: {error}", 0.0))
+        thread = threading.Thread(target=work, daemon=True)
+        thread.start()
+        thread.join(timeout)
+        taken = time.monotonic() - begin
+        return replace(made[0], seconds=taken) if made else Report(NO_ANSWER, "", "the library gave no answer in %.1f s" % timeout, taken)
+
+
+def runner_of(program: str | None) -> ProcessRunner | LibraryRunner:
+    """Returns a runner of the program that is given; of the library if none is given and it is installed; otherwise of the program that is found."""
+    if program is None:
+        try:
+            library = importlib.import_module("colregs.library")
+            if library.library_at(os.environ.get(library.VARIABLE)):
+                return LibraryRunner(library.report)
+        except (ImportError, AttributeError):
+            pass
+    return ProcessRunner(found(program))
 
 
 def status_words(report: Report) -> str:

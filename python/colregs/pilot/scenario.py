@@ -157,6 +157,16 @@ class PilotScenario:
         """Returns the scenario with other values in the table of own ship."""
         return PilotScenario({**self.values, "own": self.own_values() | changes}, self.name)
 
+    def with_offsets(self, courses: list[int], speeds: list[int] | None) -> PilotScenario:
+        """Returns the scenario with other offsets in each stage; without speeds, each stage has its own."""
+        changes: dict[str, object] = {"courses": courses} | ({"speeds": speeds} if speeds is not None else {})
+        pilot = self.values.get("pilot")
+        stages = pilot.get("stages") if isinstance(pilot, Mapping) else None
+        values: dict[str, object] = {**self.values, "own": self.own_values() | changes}
+        if isinstance(stages, list):
+            values["pilot"] = {"stages": [dict(item) | changes for item in stages]}
+        return PilotScenario(values, self.name)
+
     def text(self, window: Window, choices: Choices | None = None, stage: Stage | None = None, subjects: tuple[int, ...] = (),
              has_rules: bool = True) -> str:
         """Returns the scenario for a window, with own ship's choices of a stage, and with subjects if there are any.

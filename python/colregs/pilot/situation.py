@@ -1,6 +1,7 @@
 """Where own ship and the others are now, how near they come, and which rules bind own ship: all from the program's rows."""
 from __future__ import annotations
 
+import csv
 import math
 from dataclasses import dataclass
 
@@ -98,6 +99,5 @@ def targets_of(scenario: PilotScenario, sightings: dict[int, Sighting], meetings
 
 def names_of(plan: Report) -> dict[int, tuple[str, int]]:
     """Returns the name and the length in metres of each vessel among the rows of a report; a name may hold commas and quotes."""
-    import csv
     lines = [line for line in plan.text.split("\n") if line.startswith("vessel,")]
     return {int(row[1]): (row[2], int(row[4])) for row in csv.reader(lines) if len(row) == 7}

@@ -12,10 +12,9 @@ from colregs.pilot.scenario import PilotScenario
 from colregs.trials.geometries import RATIOS
 from colregs.trials.meetings import OWN_LENGTH
 from colregs.trials.summary import Group, Json
-from colregs.trials.trial import Result
+from colregs.trials.trial import FIX_EVERY, Result
 
 ASSETS = os.path.join(os.path.dirname(os.path.abspath(__file__)), "assets")
-FIX_EVERY = 10         # s between two places of a run
 
 
 def asset(name: str) -> str:

@@ -6,7 +6,7 @@ import random
 from dataclasses import dataclass, field
 
 from colregs.io.sentences import NO_HEADING, block, class_a, class_b, hull_part, name_part, sentence
-from colregs.pilot.motion import Place, Rates, moved, turned
+from colregs.pilot.motion import Place, Rates, turned, velocity
 from colregs.pilot.states import Track
 
 STATIC_EVERY = 360         # s between two reports of static data (ITU-R M.1371)
@@ -44,16 +44,18 @@ class Ship:
     state: Track
     rates: Rates
     order: Track = field(init=False)
+    drift: Place = field(init=False)       # metres a second to the east and to the north
 
     def __post_init__(self) -> None:
         """Lets her steer what she is on."""
-        self.order = self.state
+        self.order, self.drift = self.state, velocity(self.state)
 
-    def step(self, seconds: int = 1) -> None:
-        """Moves her on, turning toward her order."""
-        if self.state != self.order:
-            self.state = turned(self.state, self.order, self.rates, seconds)
-        self.place = moved(self.place, self.state, seconds)
+    def step(self) -> None:
+        """Moves her on by a second, turning toward her order."""
+        if self.state is not self.order and self.state != self.order:
+            self.state = turned(self.state, self.order, self.rates, 1)
+            self.drift = velocity(self.state)
+        self.place = self.place[0] + self.drift[0], self.place[1] + self.drift[1]
 
     def hull(self) -> tuple[int, int, int, int]:
         """Returns the metres from her antenna to bow, stern, port and starboard."""
@@ -83,6 +85,10 @@ class Transmitter:
         self.next, self.next_static = draw.randrange(errors.interval), 0
         self.wander = [draw.gauss(0, errors.place), draw.gauss(0, errors.place)] if errors.place else [0.0, 0.0]
         self.reported: Track | None = None
+
+    def is_due(self, second: int) -> bool:
+        """Returns whether she sends anything in a second."""
+        return second >= self.next or second >= self.next_static
 
     def lines(self, second: int, start: int) -> list[tuple[int, bytes]]:
         """Returns the lines of a second, each with the time at which it comes."""

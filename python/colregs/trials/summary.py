@@ -93,7 +93,7 @@ def rows_of(groups: Sequence[Group]) -> str:
 def run_json(result: Result) -> Json:
     """Returns one run as JSON: the same for the same seed. Seconds of the clock are no part of it."""
     found = asdict(result)
-    for key in ("seconds", "fixes"):
+    for key in ("seconds", "fixes", "log"):
         del found[key]
     return found | {"least": round(result.least, 2), "room": round(result.room, 2) if math.isfinite(result.room) else None, "way_lost": round(result.way_lost, 2),
                     "off_track": round(result.off_track, 2)}

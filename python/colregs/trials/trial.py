@@ -7,11 +7,11 @@ import time
 from collections import Counter
 from dataclasses import dataclass, field
 
-from colregs.pilot.motion import KNOT, Place, Rates, moved
+from colregs.pilot.motion import KNOT, Rates, velocity
 from colregs.pilot.pilot import Pilot
 from colregs.pilot.planner import Patience, Planner
 from colregs.pilot.record import Record
-from colregs.pilot.runner import Report, Runner
+from colregs.pilot.runner import Report, Runner, status_words
 from colregs.pilot.scenario import PilotScenario, Window, whole
 from colregs.pilot.states import Cause, Decision, State, Track, swing
 from colregs.trials.meetings import OWN_LENGTH, Begin, drawn
@@ -22,6 +22,7 @@ WARM = 60                  # s: own ship's pilot begins once all have reported
 MOST = 7200                # s: no run is longer
 AFTER = 180                # s: a run goes on for so long after own ship has passed all others and is on her track again
 HISTORY = 3600             # s
+FIX_EVERY = 10             # s between two places of a run that pictures have
 PATIENCE = 600             # s of the clock: simulated time does not pass while the program plans
 OTHERS = "straight", "planning", "contrary"
 
@@ -90,6 +91,7 @@ class Result:
     fault: str = ""
     fixes: list[Fix] = field(default_factory=list)
     states: list[tuple[int, str, float, float]] = field(default_factory=list)
+    log: bytes = b""
     seconds: list[float] = field(default_factory=list)      # of the clock for each plan: measured, and different each time
 
     @property
@@ -158,6 +160,7 @@ class Trial:
         self.senders = [self.own.sender] + [Transmitter(ship, self.plane, self.errors(False), self.noise) for ship in self.ships[1:]]
         self.sailors = [self.own] + (self.make_sailors() if setting.others == "planning" else [])
         self.wrong = self.make_wrong(random.Random(f"{seed} contrary")) if setting.others == "contrary" else []
+        self.domains = [(ship, self.radius(ship)) for ship in self.ships[1:]]
         self.inside = {ship.mmsi for ship in self.ships[1:] if math.hypot(*ship.place) < self.radius(ship)}
         self.waiting: list[tuple[int, int, bytes]] = []
         self.lines: list[bytes] = []
@@ -193,7 +196,8 @@ class Trial:
     def until_nearest(self, ship: Ship) -> float:
         """Returns the seconds until own ship and another are nearest, if both keep on from their beginnings."""
         apart = ship.place
-        drift = tuple(there - here for there, here in zip(moved((0.0, 0.0), ship.state, 1), moved((0.0, 0.0), self.setting.track, 1)))
+        mine = velocity(self.setting.track)
+        drift = ship.drift[0] - mine[0], ship.drift[1] - mine[1]
         square = drift[0] ** 2 + drift[1] ** 2
         return max(0.0, -(apart[0] * drift[0] + apart[1] * drift[1]) / square) if square else 0.0
 
@@ -212,7 +216,7 @@ class Trial:
             for wrong in self.wrong:
                 wrong.steer(second)
             self.measure(second)
-            if self.is_over(second):
+            if second % FIX_EVERY == 0 and self.is_over(second):
                 break
             for ship in self.ships:
                 ship.step()
@@ -222,9 +226,10 @@ class Trial:
     def send(self, second: int) -> None:
         """Sends what each ship sends in a second; late lines wait until they come."""
         for number, sender in enumerate(self.senders):
-            self.waiting += [(at, number, line) for at, line in sender.lines(second, START)]
-        due = sorted(entry for entry in self.waiting if entry[0] <= START + second)
-        if due:
+            if sender.is_due(second):
+                self.waiting += [(at, number, line) for at, line in sender.lines(second, START)]
+        if self.waiting:
+            due = sorted(entry for entry in self.waiting if entry[0] <= START + second)
             self.waiting = [entry for entry in self.waiting if entry[0] > START + second]
             for at, _, line in due:
                 self.record.take(line, at)
@@ -262,18 +267,17 @@ class Trial:
     def measure(self, second: int) -> None:
         """Measures the distances of a second."""
         result, (east, north) = self.result, self.ships[0].place
-        for ship in self.ships[1:]:
+        for ship, radius in self.domains:
             distance = math.hypot(ship.place[0] - east, ship.place[1] - north)
             if distance < result.least:
                 result.least, result.nearest = distance, ship.mmsi
-            radius = self.radius(ship)
             if ship.mmsi not in self.inside:
                 result.room = min(result.room, distance - radius)
                 if distance < radius and ship.mmsi not in result.entered:
                     result.entered.append(ship.mmsi)
             if distance < (ship.length + OWN_LENGTH) / 2 and ship.mmsi not in result.collided:
                 result.collided.append(ship.mmsi)
-        if second % 10 == 0:
+        if second % FIX_EVERY == 0:
             result.fixes.append(Fix(second, [(round(ship.place[0]), round(ship.place[1])) for ship in self.ships]))
 
     def is_over(self, second: int) -> bool:
@@ -289,7 +293,7 @@ class Trial:
         """Returns whether own ship and another draw apart, farther off than the distance at which a meeting ends."""
         own = self.ships[0]
         apart = ship.place[0] - own.place[0], ship.place[1] - own.place[1]
-        drift = tuple(there - here for there, here in zip(moved((0.0, 0.0), ship.state, 1), moved((0.0, 0.0), own.state, 1)))
+        drift = ship.drift[0] - own.drift[0], ship.drift[1] - own.drift[1]
         return math.hypot(*apart) > clear and apart[0] * drift[0] + apart[1] * drift[1] > 0
 
     def finish(self) -> None:
@@ -302,7 +306,9 @@ class Trial:
         result.off_track = abs(own.place[0] * math.cos(angle) - own.place[1] * math.sin(angle))
         result.way_lost = self.setting.track.speed * KNOT * seconds - along
         self.audit()
-        if not self.pictured:
+        if self.pictured:
+            result.log = self.record_of_all()
+        else:
             result.fixes = []
 
     def audit(self) -> None:
@@ -312,7 +318,7 @@ class Trial:
         text = self.scenario.text(window, subjects=(self.scenario.own,))
         report = self.runner.report("audit", text, self.record_of_all())
         if report.status != 0:
-            result.fault = f"the audit ended with status {report.status}: {report.words}"
+            result.fault = "the audit: " + status_words(report)
         self.take_audit(report, tick)
 
     def record_of_all(self) -> bytes:
