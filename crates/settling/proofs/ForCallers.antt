@@ -18,7 +18,7 @@ pub use Rattle.settling.proofs.SomeMarks.{some_mark}
 pub use Rattle.settling.proofs.TakenTicks.{many_settled_in_all}
 
 pub few_settled : (scenario : Scenario) (audit : SettledAudit) (lines : List (List ℕ)) (given : List Row) → StandsFor audit scenario lines given → HaveManySettled scenario lines → ⊥
-few_settled scenario audit = few_taken scenario (audit_taker audit.audit) audit.ticks
+few_settled scenario audit = few_taken scenario (audit_taker audit.settled.taker) audit.settled.ticks
 
 pub few_watched : (scenario : Scenario) (watch : SettledWatch) (lines : List (List ℕ)) (given : List Alarm) → WatchStandsFor watch scenario lines given → HaveManySettled scenario lines → ⊥
-few_watched scenario watch = few_taken scenario (watch_taker watch.watch) watch.ticks
+few_watched scenario watch = few_taken scenario (watch_taker watch.settled.taker) watch.settled.ticks

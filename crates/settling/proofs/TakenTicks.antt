@@ -15,10 +15,10 @@ use Rattle.settled_ticks.specs.Sightings.{seen_first, sighted, sighting_by}
 use Rattle.settled_ticks.specs.Standing.{IsHandedOut, handed_out, latest_sighting as sighting_of}
 use Rattle.settled_ticks.specs.declared.settled_ticks.SettledTicks.{SettledTicks}
 use Rattle.settled_ticks.proofs.ForCallers.{first_push, none_settled, settled_ticks_are_first, settled_ticks_stay, what_is_settled_stays}
-use Rattle.settling.specs.Inner.TakenTicks.{HasTaken, HasTakenSettled, IsSettling, Taker}
+use Rattle.settling.specs.Inner.TakenTicks.{HasTaken, HasTakenAll, HasTakenSettled, IsBeforeAll, IsSettling, Taker, TakesNext}
 use Rattle.settling.specs.ManySettled.{HaveManySettled}
 use Rattle.settling.specs.ScenarioAudit.{audit_numbers}
-use Rattle.traces.specs.Audited.{AuditNumbers, Begins, MoveLittle, SeenVessels, Sighting, last_sighting}
+use Rattle.traces.specs.Audited.{AuditNumbers, Begins, MoveLittle, SeenVessels, Sighting}
 use Rattle.traces.specs.ManyTraces.{HaveMoreThan}
 use Rattle.traces.specs.declared.all_traces.TheConstants.{MOST_TRACES}
 use Rattle.tracks.specs.VesselsHeld.{Sent}
@@ -35,15 +35,15 @@ none_begin numbers h = some h.pairs h.many h.begin
     some [] lt all = absurd (omega arith)
     some (pair ∷ pairs) lt all = (all 0 pair (omega arith)).1.begins.contact
 
-pub before_all : {Item : Type 0} (taker : Taker Item) (ticks : SettledTicks) (scenario : Scenario) → handed_out ticks ≡ 0 → taker.Sound → taker.count ≡ 0
-    → taker.last_tick ≡ scenario.window.ticks → taker.Stands (audit_numbers scenario) [] [] → HasTakenSettled taker ticks scenario [] []
-before_all taker ticks scenario none sound count last stands = record {
+pub before_all : {Item : Type 0} (taker : Taker Item) (ticks : SettledTicks) (scenario : Scenario) → handed_out ticks ≡ 0
+    → IsBeforeAll taker scenario → HasTakenSettled taker ticks scenario [] []
+before_all taker ticks scenario none before = record {
   settled = λ i. ((λ h. absurd (none_settled scenario i h)), (λ lt. absurd (omega (arith, none))));
   taken = record {
-    sound = sound;
-    next = count ∙ sym none;
-    last = last;
-    stands = rw none stands;
+    sound = before.sound;
+    next = before.count ∙ sym none;
+    last = before.last;
+    stands = rw none before.stands;
     few = rw none (none_begin (audit_numbers scenario));
   };
 }
@@ -51,22 +51,15 @@ before_all taker ticks scenario none sound count last stands = record {
 -- ---- what a tick that was handed out is to the one who takes it
 
 module _ (scenario : Scenario) (old ticks : SettledTicks) (judge : Judge) (handed : IsHandedOut old ticks scenario judge) where
-  pub moves_then : (latest : SeenVessels) (lines : List (List ℕ)) → JudgeStandsFor judge scenario lines
-      → latest ≡ (last_sighting (seen_first scenario (sent scenario lines) (handed_out old))).vessels → MoveLittle latest (sighting_of ticks).vessels
-  moves_then latest lines judged is = subst (λ (vessels : SeenVessels). MoveLittle vessels (sighting_of ticks).vessels) (sym is) (handed.moves lines judged)
+  pub moves_now : {Item : Type 0} (taker : Taker Item) (lines : List (List ℕ)) (given : List Item) → JudgeStandsFor judge scenario lines
+      → HasTaken taker old scenario lines given → MoveLittle taker.latest (sighting_of ticks).vessels
+  moves_now taker lines given judged up =
+      let seen = seen_first scenario (sent scenario lines) (handed_out old) in
+      subst (λ (vessels : SeenVessels). MoveLittle vessels (sighting_of ticks).vessels)
+      (sym (taker.seen_last (audit_numbers scenario) seen given up.stands)) (handed.moves lines judged)
 
   pub more_then : {Item : Type 0} (taker : Taker Item) (lines : List (List ℕ)) (given : List Item) → HasTaken taker old scenario lines given → taker.count ≤ taker.last_tick
   more_then taker lines given up = let next = up.next in let last = up.last in let within = handed.within in omega (arith, next, last, within)
-
--- With the tick at which this is seen it takes a further one, and gives these items.
-pub record TakesNext {Item : Type 0} (old new : Taker Item) (seen : Sighting) (items : List Item) : Type 0 where
-  pub sound : new.Sound
-  pub count : new.count ≡ old.count + 1
-  pub last_tick : new.last_tick ≡ old.last_tick
-  pub stands : (numbers : AuditNumbers) (before : List Sighting) (given : List Item) → old.Stands numbers before given
-      → new.Stands numbers (before ++ seen ∷ []) (given ++ items)
-  pub few : (numbers : AuditNumbers) (before : List Sighting) (given : List Item) → old.Stands numbers before given
-      → HaveMoreThan MOST_TRACES numbers (before ++ seen ∷ []) → ⊥
 
 -- what is given, of the vessels and their ranks
 pub sighting_given : (ticks : SettledTicks) (vessels : SeenVessels) (ranks : List Rank) → vessels ≡ (sighting_of ticks).vessels → ranks ≡ (sighting_of ticks).ranks
@@ -214,16 +207,23 @@ module _ (scenario : Scenario) where
 
     -- ---- behind the last tick
 
-    pub all_handed_out : (lines : List (List ℕ)) (given : List Item) → HasTaken taker ticks scenario lines given → taker.count ≤ taker.last_tick + 1
+    all_handed_out : (lines : List (List ℕ)) (given : List Item) → HasTaken taker ticks scenario lines given
         → scenario.window.ticks < handed_out ticks → handed_out ticks ≡ scenario.window.ticks + 1
-    all_handed_out lines given up few past = let next = up.next in let last = up.last in omega (arith, few, next, last, past)
+    all_handed_out lines given up past =
+        let within = taker.within up.sound in
+        let next = up.next in
+        let last = up.last in
+        omega (arith, within, next, last, past)
 
     -- What stands for all ticks that were handed out stands for the window's, where none is left.
-    pub whole_window : (lines : List (List ℕ)) (given : List Item) → handed_out ticks ≡ scenario.window.ticks + 1 → HasTaken taker ticks scenario lines given
-        → taker.Stands (audit_numbers scenario) (sighted scenario (sent scenario lines)) given
-    whole_window lines given all up = subst (λ (k : ℕ). taker.Stands (audit_numbers scenario) (seen_first scenario (sent scenario lines) k) given) all up.stands
-
-    pub few_in_window : (lines : List (List ℕ)) (given : List Item) → handed_out ticks ≡ scenario.window.ticks + 1 → HasTaken taker ticks scenario lines given
-        → HaveMoreThan MOST_TRACES (audit_numbers scenario) (sighted scenario (sent scenario lines)) → ⊥
-    few_in_window lines given all up many =
-        up.few (subst (λ (k : ℕ). HaveMoreThan MOST_TRACES (audit_numbers scenario) (seen_first scenario (sent scenario lines) k)) (sym all) many)
+    pub taken_all : (lines : List (List ℕ)) (given : List Item) → HasTaken taker ticks scenario lines given → scenario.window.ticks < handed_out ticks
+        → HasTakenAll taker scenario lines given
+    taken_all lines given up past =
+        let all = all_handed_out lines given up past in
+        record {
+          sound = up.sound;
+          all = up.next ∙ all ∙ ap (λ (n : ℕ). n + 1) (sym up.last);
+          stands = subst (λ (k : ℕ). taker.Stands (audit_numbers scenario) (seen_first scenario (sent scenario lines) k) given) all up.stands;
+          few = λ many.
+              up.few (subst (λ (k : ℕ). HaveMoreThan MOST_TRACES (audit_numbers scenario) (seen_first scenario (sent scenario lines) k)) (sym all) many);
+        }

@@ -10,12 +10,14 @@ use Rattle.settling.specs.declared.settled_audit.SettledAudit.{SettledAudit}
 
 -- The settled ticks are those that were audited, by what these lines tell, and these rows were given.
 abbrev pub StandsFor : SettledAudit → Scenario → List (List ℕ) → List Row → Type 0
-StandsFor audit scenario lines given = HasTakenSettled (audit_taker audit.audit) audit.ticks scenario lines given
+StandsFor audit scenario lines given =
+    HasTakenSettled (audit_taker audit.settled.taker) audit.settled.ticks scenario lines given
 
 -- The audit stands for lines that the judge has taken, before further ones.
 abbrev pub AreOfOneLog : SettledAudit → Scenario → Judge → Type 0
-AreOfOneLog audit scenario judge = HasTakenOneLog (audit_taker audit.audit) audit.ticks scenario judge
+AreOfOneLog audit scenario judge =
+    HasTakenOneLog (audit_taker audit.settled.taker) audit.settled.ticks scenario judge
 
 -- how many ticks it has audited: the first ones
 abbrev pub audited_ticks : SettledAudit → ℕ
-audited_ticks audit = handed_out audit.ticks
+audited_ticks audit = handed_out audit.settled.ticks

@@ -10,12 +10,14 @@ use Rattle.settling.specs.declared.settled_watch.SettledWatch.{SettledWatch}
 
 -- The settled ticks are those that were watched, by what these lines tell, and these alarms were given.
 abbrev pub StandsFor : SettledWatch → Scenario → List (List ℕ) → List Alarm → Type 0
-StandsFor watch scenario lines given = HasTakenSettled (watch_taker watch.watch) watch.ticks scenario lines given
+StandsFor watch scenario lines given =
+    HasTakenSettled (watch_taker watch.settled.taker) watch.settled.ticks scenario lines given
 
 -- The watch stands for lines that the judge has taken, before further ones.
 abbrev pub AreOfOneLog : SettledWatch → Scenario → Judge → Type 0
-AreOfOneLog watch scenario judge = HasTakenOneLog (watch_taker watch.watch) watch.ticks scenario judge
+AreOfOneLog watch scenario judge =
+    HasTakenOneLog (watch_taker watch.settled.taker) watch.settled.ticks scenario judge
 
 -- how many ticks it has watched: the first ones
 abbrev pub watched_ticks : SettledWatch → ℕ
-watched_ticks watch = handed_out watch.ticks
+watched_ticks watch = handed_out watch.settled.ticks

@@ -11,8 +11,10 @@
 
 pub mod laws;
 mod lists;
+mod settled;
 mod settled_audit;
 mod settled_watch;
 
+pub use settled::{Settled, TickTaker};
 pub use settled_audit::SettledAudit;
 pub use settled_watch::SettledWatch;

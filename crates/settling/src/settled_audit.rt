@@ -1,5 +1,5 @@
 //! The audit of a window's ticks, as the lines of a log settle them.
-ghost use Rattle.std.specs.Prelude.{◌≡◌, ◌+◌, ◌++◌, [], ℕ, List, IfOk, OnOk, Err};
+ghost use Rattle.std.specs.Prelude.{◌≡◌, ◌++◌, [], ℕ, List, IfOk, OnOk, Err};
 ghost use Rattle.audit_rows.specs.declared.row.Row.{Row};
 ghost use Rattle.auditor.specs.AuditRows.{AreAuditRows};
 ghost use Rattle.auditor.specs.AuditTotals.{AreTotals};
@@ -9,29 +9,42 @@ ghost use Rattle.log_lines.specs.SentLines.{sent};
 ghost use Rattle.log_lines.specs.Standing.{StandsFor as JudgeStandsFor, keeping_of};
 ghost use Rattle.scenario_values.specs.ValueRanges.{IsInRange};
 ghost use Rattle.settling.specs.DecidedRows.{AreDecided};
-ghost use Rattle.settling.specs.Inner.AuditedTicks.{audit_taker};
-ghost use Rattle.settling.specs.Inner.TakenTicks.{HasTaken, IsReady};
 ghost use Rattle.settling.specs.ManySettled.{HaveManySettled};
 ghost use Rattle.traces.specs.declared.all_traces.TheConstants.{MOST_TRACES};
-ghost use Rattle.settled_ticks.specs.Standing.{RemembersTicks, handed_out, latest_time};
+ghost use Rattle.settled_ticks.specs.Standing.{RemembersTicks, latest_time};
 ghost use Rattle.settled_ticks.specs.Sightings.{sighted};
 ghost use Rattle.settling.specs.ScenarioAudit.{audit_numbers};
 ghost use Rattle.settling.specs.Standing.{AreOfOneLog, StandsFor, audited_ticks};
 
-use crate::lists::add;
+use crate::settled::{Settled, TickTaker};
 use auditor::{Audit, AuditEnd, AuditFault, Row};
 use log_lines::Judge;
+use motion::TickState;
 use out_of_memory::Memory;
+use ranks::Rank;
 use scenario_values::Scenario;
-use settled_ticks::SettledTicks;
 use std::alloc::Global;
+
+impl TickTaker for Audit {
+    ghost use Rattle.settling.specs.Inner.AuditedTicks.{audit_taker};
+
+    type Item = Row;
+
+    ghost taker = { audit_taker };
+
+    fn take_tick(
+        &mut self,
+        seen: &[(u32, TickState)],
+        ranks: &[Rank],
+    ) -> Result<Vec<Row>, AuditFault> {
+        self.step_ranked(seen, ranks)
+    }
+}
 
 /// The audit of a window's ticks, of which each is taken once the lines of a log settle it.
 #[derive(Drop)]
 pub struct SettledAudit {
-    alloc: Global,
-    audit: Audit,
-    ticks: SettledTicks,
+    settled: Settled<Audit>,
 }
 
 impl SettledAudit {
@@ -49,9 +62,7 @@ impl SettledAudit {
             scenario.window,
         )?;
         Ok(SettledAudit {
-            alloc,
-            audit,
-            ticks: SettledTicks::new(alloc),
+            settled: Settled::new(alloc, audit),
         })
     }
 
@@ -59,7 +70,7 @@ impl SettledAudit {
     pub fn count(&self) -> u32
         ensures { result ≡ audited_ticks self.now }
     {
-        self.ticks.count()
+        self.settled.count()
     }
 
     /// The time of the tick that was taken last, or of the first one where none was: where vessels were before is not looked at again, and
@@ -68,82 +79,73 @@ impl SettledAudit {
         requires { IsInRange scenario.now }
         ensures { result ≡ latest_time scenario.now (audited_ticks self.now) }
     {
-        self.ticks.latest_time(scenario)
+        self.settled.latest_time(scenario)
     }
 
     /// Audits each further tick that the judge's lines settle, and gives the rows that they decide, behind those that were given.
     /// Where no further tick is settled, this takes no memory. After an `Err` the audit may only be dropped.
     pub fn settle(&mut self, scenario: &Scenario, judge: &Judge) -> Result<Vec<Row>, AuditFault>
         requires in_range { IsInRange scenario.now }
-        requires remembers { RemembersTicks (keeping_of judge.now) scenario.now (audited_ticks self.old) }
+        requires remembers { RemembersTicks (keeping_of judge.now) scenario.now
+            (audited_ticks self.old) }
         requires one_log { AreOfOneLog self.old scenario.now judge.now }
-        ensures stands { IfOk result (λ rows. (lines more : List (List ℕ)) (given : List Row) → StandsFor self.old scenario.now lines given
+        ensures stands { IfOk result (λ rows. (lines more : List (List ℕ)) (given : List Row)
+            → StandsFor self.old scenario.now lines given
             → JudgeStandsFor judge.now scenario.now (lines ++ more)
             → StandsFor self.new scenario.now (lines ++ more) (given ++ rows.items)) }
-        ensures remembers { OnOk result (RemembersTicks (keeping_of judge.now) scenario.now (audited_ticks self.new)) }
-        ensures decided { IfOk result (λ rows. (lines more : List (List ℕ)) (given : List Row) → StandsFor self.old scenario.now lines given
+        ensures remembers { OnOk result
+            (RemembersTicks (keeping_of judge.now) scenario.now (audited_ticks self.new)) }
+        ensures decided { IfOk result (λ rows. (lines more : List (List ℕ)) (given : List Row)
+            → StandsFor self.old scenario.now lines given
             → JudgeStandsFor judge.now scenario.now (lines ++ more)
             → AreDecided scenario.now (lines ++ more) (given ++ rows.items)) }
         // The limit is met exactly where a 4097th trace begins at a settled tick; memory may run out before.
-        ensures many { result ≡ Err TooManyPairs → (lines more : List (List ℕ)) (given : List Row) → StandsFor self.old scenario.now lines given
-            → JudgeStandsFor judge.now scenario.now (lines ++ more) → HaveManySettled scenario.now (lines ++ more) }
-        ensures few { OnOk result ((lines more : List (List ℕ)) (given : List Row) → StandsFor self.old scenario.now lines given
-            → JudgeStandsFor judge.now scenario.now (lines ++ more) → HaveManySettled scenario.now (lines ++ more) → ⊥) }
+        ensures many { result ≡ Err TooManyPairs → (lines more : List (List ℕ)) (given : List Row)
+            → StandsFor self.old scenario.now lines given
+            → JudgeStandsFor judge.now scenario.now (lines ++ more)
+            → HaveManySettled scenario.now (lines ++ more) }
+        ensures few { OnOk result ((lines more : List (List ℕ)) (given : List Row)
+            → StandsFor self.old scenario.now lines given
+            → JudgeStandsFor judge.now scenario.now (lines ++ more)
+            → HaveManySettled scenario.now (lines ++ more) → ⊥) }
     {
-        let mut rows = Vec::new(self.alloc);
-        while self.ticks.next(scenario, judge)? {
-            let further = self
-                .audit
-                .step_ranked(self.ticks.seen(), self.ticks.ranks())?;
-            add(&mut rows, further)?;
-        }
-        Ok(rows)
-    }
-
-    /// Audits the ticks that are left by what the judge's lines tell, and gives the rows that they decide.
-    fn finish(&mut self, scenario: &Scenario, judge: &Judge) -> Result<Vec<Row>, AuditFault>
-        requires in_range { IsInRange scenario.now }
-        requires remembers { RemembersTicks (keeping_of judge.now) scenario.now (audited_ticks self.old) }
-        requires ready { IsReady (audit_taker self.old.audit) self.old.ticks scenario.now judge.now }
-        ensures all { OnOk result (handed_out self.new.ticks ≡ scenario.now.window.ticks + 1) }
-        ensures audited { IfOk result (λ rows. (lines : List (List ℕ)) (given : List Row) → JudgeStandsFor judge.now scenario.now lines
-            → HasTaken (audit_taker self.old.audit) self.old.ticks scenario.now lines given → HasTaken (audit_taker self.new.audit) self.new.ticks scenario.now lines (given ++ rows.items)) }
-        ensures many { result ≡ Err TooManyPairs → (lines : List (List ℕ)) (given : List Row) → JudgeStandsFor judge.now scenario.now lines
-            → HasTaken (audit_taker self.old.audit) self.old.ticks scenario.now lines given
-            → HaveMoreThan MOST_TRACES (audit_numbers scenario.now) (sighted scenario.now (sent scenario.now lines)) }
-    {
-        let mut rows = Vec::new(self.alloc);
-        while self.ticks.next_at_end(scenario, judge)? {
-            let further = self
-                .audit
-                .step_ranked(self.ticks.seen(), self.ticks.ranks())?;
-            add(&mut rows, further)?;
-        }
-        Ok(rows)
+        self.settled.settle(scenario, judge)
     }
 
     /// Audits the ticks that are left by what the lines of the whole log tell, and ends the audit: the rows behind those that were
     /// given, and one total for each rule.
-    pub fn end(mut self, scenario: &Scenario, judge: &Judge) -> Result<AuditEnd, AuditFault>
+    pub fn end(self, scenario: &Scenario, judge: &Judge) -> Result<AuditEnd, AuditFault>
         requires in_range { IsInRange scenario.now }
-        requires remembers { RemembersTicks (keeping_of judge.now) scenario.now (audited_ticks self) }
+        requires remembers { RemembersTicks (keeping_of judge.now) scenario.now
+            (audited_ticks self) }
         requires one_log { AreOfOneLog self scenario.now judge.now }
-        ensures rows { IfOk result (λ end. (lines more : List (List ℕ)) (given : List Row) → StandsFor self scenario.now lines given
+        ensures rows { IfOk result (λ end. (lines more : List (List ℕ)) (given : List Row)
+            → StandsFor self scenario.now lines given
             → JudgeStandsFor judge.now scenario.now (lines ++ more)
-            → AreAuditRows (audit_numbers scenario.now) (sighted scenario.now (sent scenario.now (lines ++ more))) (given ++ end.rows.items)) }
-        ensures totals { IfOk result (λ end. (lines more : List (List ℕ)) (given : List Row) → StandsFor self scenario.now lines given
+            → AreAuditRows (audit_numbers scenario.now)
+            (sighted scenario.now (sent scenario.now (lines ++ more)))
+            (given ++ end.rows.items)) }
+        ensures totals { IfOk result (λ end. (lines more : List (List ℕ)) (given : List Row)
+            → StandsFor self scenario.now lines given
             → JudgeStandsFor judge.now scenario.now (lines ++ more)
-            → AreTotals (audit_numbers scenario.now) (sighted scenario.now (sent scenario.now (lines ++ more))) (given ++ end.rows.items) end.totals.items) }
+            → AreTotals (audit_numbers scenario.now)
+            (sighted scenario.now (sent scenario.now (lines ++ more)))
+            (given ++ end.rows.items) end.totals.items) }
         // The limit is met exactly where a 4097th trace begins; memory may run out before.
-        ensures many { result ≡ Err TooManyPairs → (lines more : List (List ℕ)) (given : List Row) → StandsFor self scenario.now lines given
+        ensures many { result ≡ Err TooManyPairs → (lines more : List (List ℕ)) (given : List Row)
+            → StandsFor self scenario.now lines given
             → JudgeStandsFor judge.now scenario.now (lines ++ more)
-            → HaveMoreThan MOST_TRACES (audit_numbers scenario.now) (sighted scenario.now (sent scenario.now (lines ++ more))) }
-        ensures few { OnOk result ((lines more : List (List ℕ)) (given : List Row) → StandsFor self scenario.now lines given
+            → HaveMoreThan MOST_TRACES (audit_numbers scenario.now)
+            (sighted scenario.now (sent scenario.now (lines ++ more))) }
+        ensures few { OnOk result ((lines more : List (List ℕ)) (given : List Row)
+            → StandsFor self scenario.now lines given
             → JudgeStandsFor judge.now scenario.now (lines ++ more)
-            → HaveMoreThan MOST_TRACES (audit_numbers scenario.now) (sighted scenario.now (sent scenario.now (lines ++ more))) → ⊥) }
+            → HaveMoreThan MOST_TRACES (audit_numbers scenario.now)
+            (sighted scenario.now (sent scenario.now (lines ++ more))) → ⊥) }
     {
-        let mut rows = self.finish(scenario, judge)?;
-        let totals = self.audit.end_into(&mut rows)?;
+        let SettledAudit { mut settled } = self;
+        let mut rows = settled.finish(scenario, judge)?;
+        let totals = settled.taker.end_into(&mut rows)?;
         Ok(AuditEnd { rows, totals })
     }
 }

@@ -1,5 +1,5 @@
 //! The watch over a window's ticks, as the lines of a log settle them.
-ghost use Rattle.std.specs.Prelude.{◌≡◌, ◌+◌, ◌++◌, [], ℕ, List, IfOk, OnOk, Err};
+ghost use Rattle.std.specs.Prelude.{◌≡◌, ◌++◌, [], ℕ, List, IfOk, OnOk, Err};
 ghost use Rattle.early_monitor.specs.Alarms.{AreAlarms};
 ghost use Rattle.early_monitor.specs.declared.alarm.Alarm.{Alarm};
 ghost use Rattle.log_lines.specs.SentLines.{sent};
@@ -15,20 +15,35 @@ ghost use Rattle.traces.specs.ManyTraces.{HaveMoreThan};
 ghost use Rattle.traces.specs.declared.all_traces.TheConstants.{MOST_TRACES};
 ghost use Rattle.traces.specs.declared.fault.TickFault.TheVariants.{TooManyPairs};
 
-use crate::lists::add;
+use crate::settled::{Settled, TickTaker};
 use early_monitor::{Alarm, Watch, WatchFault};
 use log_lines::Judge;
+use motion::TickState;
 use out_of_memory::Memory;
+use ranks::Rank;
 use scenario_values::Scenario;
-use settled_ticks::SettledTicks;
 use std::alloc::Global;
+
+impl TickTaker for Watch {
+    ghost use Rattle.settling.specs.Inner.WatchedTicks.{watch_taker};
+
+    type Item = Alarm;
+
+    ghost taker = { watch_taker };
+
+    fn take_tick(
+        &mut self,
+        seen: &[(u32, TickState)],
+        ranks: &[Rank],
+    ) -> Result<Vec<Alarm>, WatchFault> {
+        self.step(seen, ranks)
+    }
+}
 
 /// The watch over a window's ticks, of which each is taken once the lines of a log settle it.
 #[derive(Drop)]
 pub struct SettledWatch {
-    alloc: Global,
-    watch: Watch,
-    ticks: SettledTicks,
+    settled: Settled<Watch>,
 }
 
 impl SettledWatch {
@@ -46,9 +61,7 @@ impl SettledWatch {
             scenario.window,
         )?;
         Ok(SettledWatch {
-            alloc,
-            watch,
-            ticks: SettledTicks::new(alloc),
+            settled: Settled::new(alloc, watch),
         })
     }
 
@@ -56,7 +69,7 @@ impl SettledWatch {
     pub fn count(&self) -> u32
         ensures { result ≡ watched_ticks self.now }
     {
-        self.ticks.count()
+        self.settled.count()
     }
 
     /// The time of the tick that was taken last, or of the first one where none was: where vessels were before is not looked at again, and
@@ -65,58 +78,65 @@ impl SettledWatch {
         requires { IsInRange scenario.now }
         ensures { result ≡ latest_time scenario.now (watched_ticks self.now) }
     {
-        self.ticks.latest_time(scenario)
+        self.settled.latest_time(scenario)
     }
 
     /// Watches each further tick that the judge's lines settle, and gives the alarms of these ticks, behind those that were given.
     /// Where no further tick is settled, this takes no memory. After an `Err` the watch may only be dropped.
     pub fn settle(&mut self, scenario: &Scenario, judge: &Judge) -> Result<Vec<Alarm>, WatchFault>
         requires in_range { IsInRange scenario.now }
-        requires remembers { RemembersTicks (keeping_of judge.now) scenario.now (watched_ticks self.old) }
+        requires remembers { RemembersTicks (keeping_of judge.now) scenario.now
+            (watched_ticks self.old) }
         requires one_log { AreOfOneLog self.old scenario.now judge.now }
-        ensures stands { IfOk result (λ alarms. (lines more : List (List ℕ)) (given : List Alarm) → StandsFor self.old scenario.now lines given
+        ensures stands { IfOk result (λ alarms. (lines more : List (List ℕ)) (given : List Alarm)
+            → StandsFor self.old scenario.now lines given
             → JudgeStandsFor judge.now scenario.now (lines ++ more)
             → StandsFor self.new scenario.now (lines ++ more) (given ++ alarms.items)) }
-        ensures remembers { OnOk result (RemembersTicks (keeping_of judge.now) scenario.now (watched_ticks self.new)) }
-        ensures decided { IfOk result (λ alarms. (lines more : List (List ℕ)) (given : List Alarm) → StandsFor self.old scenario.now lines given
+        ensures remembers { OnOk result
+            (RemembersTicks (keeping_of judge.now) scenario.now (watched_ticks self.new)) }
+        ensures decided { IfOk result (λ alarms. (lines more : List (List ℕ)) (given : List Alarm)
+            → StandsFor self.old scenario.now lines given
             → JudgeStandsFor judge.now scenario.now (lines ++ more)
             → AreDecidedAlarms scenario.now (lines ++ more) (given ++ alarms.items)) }
         // The limit is met exactly where a 4097th trace begins at a settled tick; memory may run out before.
-        ensures many { result ≡ Err TooManyPairs → (lines more : List (List ℕ)) (given : List Alarm) → StandsFor self.old scenario.now lines given
-            → JudgeStandsFor judge.now scenario.now (lines ++ more) → HaveManySettled scenario.now (lines ++ more) }
-        ensures few { OnOk result ((lines more : List (List ℕ)) (given : List Alarm) → StandsFor self.old scenario.now lines given
-            → JudgeStandsFor judge.now scenario.now (lines ++ more) → HaveManySettled scenario.now (lines ++ more) → ⊥) }
+        ensures many { result ≡ Err TooManyPairs
+            → (lines more : List (List ℕ)) (given : List Alarm)
+            → StandsFor self.old scenario.now lines given
+            → JudgeStandsFor judge.now scenario.now (lines ++ more)
+            → HaveManySettled scenario.now (lines ++ more) }
+        ensures few { OnOk result ((lines more : List (List ℕ)) (given : List Alarm)
+            → StandsFor self.old scenario.now lines given
+            → JudgeStandsFor judge.now scenario.now (lines ++ more)
+            → HaveManySettled scenario.now (lines ++ more) → ⊥) }
     {
-        let mut alarms = Vec::new(self.alloc);
-        while self.ticks.next(scenario, judge)? {
-            let further = self.watch.step(self.ticks.seen(), self.ticks.ranks())?;
-            add(&mut alarms, further)?;
-        }
-        Ok(alarms)
+        self.settled.settle(scenario, judge)
     }
 
     /// Watches the ticks that are left by what the lines of the whole log tell, and ends the watch: the alarms behind those that were
     /// given.
     pub fn end(mut self, scenario: &Scenario, judge: &Judge) -> Result<Vec<Alarm>, WatchFault>
         requires in_range { IsInRange scenario.now }
-        requires remembers { RemembersTicks (keeping_of judge.now) scenario.now (watched_ticks self) }
+        requires remembers { RemembersTicks (keeping_of judge.now) scenario.now
+            (watched_ticks self) }
         requires one_log { AreOfOneLog self scenario.now judge.now }
-        ensures alarms { IfOk result (λ rest. (lines more : List (List ℕ)) (given : List Alarm) → StandsFor self scenario.now lines given
+        ensures alarms { IfOk result (λ rest. (lines more : List (List ℕ)) (given : List Alarm)
+            → StandsFor self scenario.now lines given
             → JudgeStandsFor judge.now scenario.now (lines ++ more)
-            → AreAlarms (audit_numbers scenario.now) (sighted scenario.now (sent scenario.now (lines ++ more))) (given ++ rest.items)) }
+            → AreAlarms (audit_numbers scenario.now)
+            (sighted scenario.now (sent scenario.now (lines ++ more))) (given ++ rest.items)) }
         // The limit is met exactly where a 4097th trace begins; memory may run out before.
-        ensures many { result ≡ Err TooManyPairs → (lines more : List (List ℕ)) (given : List Alarm) → StandsFor self scenario.now lines given
+        ensures many { result ≡ Err TooManyPairs
+            → (lines more : List (List ℕ)) (given : List Alarm)
+            → StandsFor self scenario.now lines given
             → JudgeStandsFor judge.now scenario.now (lines ++ more)
-            → HaveMoreThan MOST_TRACES (audit_numbers scenario.now) (sighted scenario.now (sent scenario.now (lines ++ more))) }
-        ensures few { OnOk result ((lines more : List (List ℕ)) (given : List Alarm) → StandsFor self scenario.now lines given
+            → HaveMoreThan MOST_TRACES (audit_numbers scenario.now)
+            (sighted scenario.now (sent scenario.now (lines ++ more))) }
+        ensures few { OnOk result ((lines more : List (List ℕ)) (given : List Alarm)
+            → StandsFor self scenario.now lines given
             → JudgeStandsFor judge.now scenario.now (lines ++ more)
-            → HaveMoreThan MOST_TRACES (audit_numbers scenario.now) (sighted scenario.now (sent scenario.now (lines ++ more))) → ⊥) }
+            → HaveMoreThan MOST_TRACES (audit_numbers scenario.now)
+            (sighted scenario.now (sent scenario.now (lines ++ more))) → ⊥) }
     {
-        let mut rest = Vec::new(self.alloc);
-        while self.ticks.next_at_end(scenario, judge)? {
-            let further = self.watch.step(self.ticks.seen(), self.ticks.ranks())?;
-            add(&mut rest, further)?;
-        }
-        Ok(rest)
+        self.settled.finish(scenario, judge)
     }
 }

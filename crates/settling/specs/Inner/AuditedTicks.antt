@@ -3,7 +3,7 @@ use Rattle.std.specs.Prelude.{◌-◌, List, length}
 use Rattle.audit_rows.specs.declared.row.Row.{Row}
 use Rattle.auditor.specs.AuditRows.{AreAuditRowsBelow}
 use Rattle.auditor.specs.SettledRows.{settled_by}
-use Rattle.auditor.specs.Standing.{IsSound, StandsFor as AuditStandsFor, given_of, last_tick_of}
+use Rattle.auditor.specs.Standing.{IsSound, StandsFor as AuditStandsFor, given_of, last_tick_of, latest_vessels}
 use Rattle.auditor.specs.declared.audit.Audit.{Audit}
 use Rattle.traces.specs.Audited.{AuditNumbers, Sighting}
 use Rattle.settling.specs.Inner.TakenTicks.{Taker}
@@ -14,4 +14,12 @@ pub record HasAudited (audit : Audit) (numbers : AuditNumbers) (ticks : List Sig
   pub rows : AreAuditRowsBelow numbers ticks (settled_by numbers (length ticks - 1)) given
 
 abbrev pub audit_taker : Audit → Taker Row
-audit_taker audit = record { Sound = IsSound audit; count = given_of audit; last_tick = last_tick_of audit; Stands = HasAudited audit }
+audit_taker audit = record {
+  Sound = IsSound audit;
+  count = given_of audit;
+  last_tick = last_tick_of audit;
+  latest = latest_vessels audit;
+  Stands = HasAudited audit;
+  within = λ sound. sound.traces.given;
+  seen_last = λ numbers ticks given up. (λ i. (up.stands.traces.latest i).vessels);
+}

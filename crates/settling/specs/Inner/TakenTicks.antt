@@ -1,24 +1,61 @@
--- What one keeps who takes the ticks of a window as they are handed out, and gives something with each: an audit rows, a watch alarms.
-use Rattle.std.specs.Prelude.{ℕ, ◌≡◌, ◌<◌, ◌↔◌, ◌++◌, List}
+-- What one keeps who takes the ticks of a window as they are handed out, and gives items with each: an audit rows, a watch alarms.
+use Rattle.std.specs.Prelude.{ℕ, ◌≡◌, ◌+◌, ◌<◌, ◌≤◌, ◌↔◌, [], ◌∷◌, ◌++◌, List}
 use Rattle.log_lines.specs.SentLines.{sent}
 use Rattle.log_lines.specs.Standing.{StandsFor as JudgeStandsFor}
 use Rattle.log_lines.specs.declared.judge.Judge.{Judge}
 use Rattle.scenario_values.specs.declared.values.Scenario.{Scenario}
 use Rattle.settled_ticks.specs.Settled.{IsSettled}
-use Rattle.settled_ticks.specs.Sightings.{seen_first}
+use Rattle.settled_ticks.specs.Sightings.{seen_first, sighted}
 use Rattle.settled_ticks.specs.Standing.{handed_out}
 use Rattle.settled_ticks.specs.declared.settled_ticks.SettledTicks.{SettledTicks}
 use Rattle.settling.specs.ScenarioAudit.{audit_numbers}
-use Rattle.traces.specs.Audited.{AuditNumbers, Sighting}
+use Rattle.traces.specs.Audited.{AuditNumbers, SeenVessels, Sighting, last_sighting}
 use Rattle.traces.specs.ManyTraces.{HaveMoreThan}
 use Rattle.traces.specs.declared.all_traces.TheConstants.{MOST_TRACES}
 
--- One who takes ticks: how many it was given, how many the window has, and for which numbers, ticks and given items it stands.
+-- One who takes ticks: how many it was given, and how many the window has; which vessels are seen at the latest; and for which numbers,
+-- ticks and given items it stands.
 pub record Taker (Item : Type 0) : Type 1 where
   pub Sound : Type 0
   pub count : ℕ
   pub last_tick : ℕ
+  pub latest : SeenVessels
   pub Stands : AuditNumbers → List Sighting → List Item → Type 0
+  pub within : Sound → count ≤ last_tick + 1
+  pub seen_last : (numbers : AuditNumbers) (ticks : List Sighting) (given : List Item)
+      → Stands numbers ticks given → latest ≡ (last_sighting ticks).vessels
+
+-- With the tick at which this is seen it takes a further one, and gives these items.
+pub record TakesNext {Item : Type 0} (old new : Taker Item) (seen : Sighting) (items : List Item)
+    : Type 0 where
+  pub sound : new.Sound
+  pub count : new.count ≡ old.count + 1
+  pub last_tick : new.last_tick ≡ old.last_tick
+  pub stands : (numbers : AuditNumbers) (before : List Sighting) (given : List Item)
+      → old.Stands numbers before given → new.Stands numbers (before ++ seen ∷ []) (given ++ items)
+  pub few : (numbers : AuditNumbers) (before : List Sighting) (given : List Item)
+      → old.Stands numbers before given → HaveMoreThan MOST_TRACES numbers (before ++ seen ∷ []) → ⊥
+
+-- That tick begins too many traces for it.
+abbrev pub IsTooManyFor : {Item : Type 0} → Taker Item → Sighting → Type 0
+IsTooManyFor {Item} old seen = (numbers : AuditNumbers) (before : List Sighting) (given : List Item)
+    → old.Stands numbers before given → HaveMoreThan MOST_TRACES numbers (before ++ seen ∷ [])
+
+-- It was given no tick of the scenario's window.
+pub record IsBeforeAll {Item : Type 0} (taker : Taker Item) (scenario : Scenario) : Type 0 where
+  pub sound : taker.Sound
+  pub count : taker.count ≡ 0
+  pub last : taker.last_tick ≡ scenario.window.ticks
+  pub stands : taker.Stands (audit_numbers scenario) [] []
+
+-- It has taken all ticks of the scenario's window, by what these lines tell, and these items were given.
+pub record HasTakenAll {Item : Type 0} (taker : Taker Item) (scenario : Scenario)
+    (lines : List (List ℕ)) (given : List Item) : Type 0 where
+  pub sound : taker.Sound
+  pub all : taker.count ≡ taker.last_tick + 1
+  pub stands : taker.Stands (audit_numbers scenario) (sighted scenario (sent scenario lines)) given
+  pub few : HaveMoreThan MOST_TRACES (audit_numbers scenario)
+      (sighted scenario (sent scenario lines)) → ⊥
 
 module _ {Item : Type 0} (taker : Taker Item) (ticks : SettledTicks) (scenario : Scenario) where
   -- The ticks that were handed out were taken by what these lines tell, and these items were given.
@@ -26,15 +63,10 @@ module _ {Item : Type 0} (taker : Taker Item) (ticks : SettledTicks) (scenario :
     pub sound : taker.Sound
     pub next : taker.count ≡ handed_out ticks
     pub last : taker.last_tick ≡ scenario.window.ticks
-    pub stands : taker.Stands (audit_numbers scenario) (seen_first scenario (sent scenario lines) (handed_out ticks)) given
-    pub few : HaveMoreThan MOST_TRACES (audit_numbers scenario) (seen_first scenario (sent scenario lines) (handed_out ticks)) → ⊥
-
-  -- They were taken by what the judge's lines tell.
-  pub record IsReady (judge : Judge) : Type 0 where
-    pub lines : List (List ℕ)
-    pub given : List Item
-    pub taken : HasTaken lines given
-    pub judged : JudgeStandsFor judge scenario lines
+    pub stands : taker.Stands (audit_numbers scenario)
+        (seen_first scenario (sent scenario lines) (handed_out ticks)) given
+    pub few : HaveMoreThan MOST_TRACES (audit_numbers scenario)
+        (seen_first scenario (sent scenario lines) (handed_out ticks)) → ⊥
 
   -- They were taken, and are settled.
   pub record IsSettling (lines : List (List ℕ)) (given : List Item) : Type 0 where

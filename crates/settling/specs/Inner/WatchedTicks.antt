@@ -1,7 +1,7 @@
 -- A watch as one who takes ticks.
 use Rattle.std.specs.Prelude.{List}
 use Rattle.early_monitor.specs.Alarms.{AreAlarms}
-use Rattle.early_monitor.specs.Watching.{IsSound, StandsFor as WatchStandsFor, given_of, last_tick_of}
+use Rattle.early_monitor.specs.Watching.{IsSound, StandsFor as WatchStandsFor, given_of, last_tick_of, latest_vessels}
 use Rattle.early_monitor.specs.declared.alarm.Alarm.{Alarm}
 use Rattle.early_monitor.specs.declared.watch.Watch.{Watch}
 use Rattle.traces.specs.Audited.{AuditNumbers, Sighting}
@@ -13,4 +13,12 @@ pub record HasWatched (watch : Watch) (numbers : AuditNumbers) (ticks : List Sig
   pub alarms : AreAlarms numbers ticks given
 
 abbrev pub watch_taker : Watch → Taker Alarm
-watch_taker watch = record { Sound = IsSound watch; count = given_of watch; last_tick = last_tick_of watch; Stands = HasWatched watch }
+watch_taker watch = record {
+  Sound = IsSound watch;
+  count = given_of watch;
+  last_tick = last_tick_of watch;
+  latest = latest_vessels watch;
+  Stands = HasWatched watch;
+  within = λ sound. sound.traces.given;
+  seen_last = λ numbers ticks given up. (λ i. (up.stands.traces.latest i).vessels);
+}

@@ -1,9 +1,7 @@
 use Rattle.std.proofs.Common.{ℕ, List, [], subst}
 use Rattle.auditor.specs.Standing.{StandsFor as AuditStandsFor}
-use Rattle.settling.specs.Inner.AuditedTicks.{audit_taker}
 use Rattle.settling.specs.ScenarioAudit.{audit_numbers}
 use Rattle.settling.proofs.AuditedTicks.{audited_none}
-use Rattle.settling.proofs.TakenTicks.{before_all}
 use Rattle.settling.proofs.settled_audit.SettledAudit.new.Goals as goal
 
 pub returns : goal.returns
@@ -17,5 +15,9 @@ returns c =
       subjects = subjects;
       rules = scenario.rules;
     }) [] []) c.as_slice.ensures c.in_ok-audit.ensures.stands in
-    before_all (audit_taker c.in_ok-audit.audit) _ scenario c.new-2.ensures c.in_ok-audit.ensures.sound stands.traces.count stands.traces.last_tick
-    (audited_none c.in_ok-audit.audit (audit_numbers scenario) stands)
+    c.new-2.ensures scenario (record {
+      sound = c.in_ok-audit.ensures.sound;
+      count = stands.traces.count;
+      last = stands.traces.last_tick;
+      stands = audited_none c.in_ok-audit.audit (audit_numbers scenario) stands;
+    })

@@ -1,9 +1,7 @@
 use Rattle.std.proofs.Common.{ℕ, List, [], subst}
 use Rattle.early_monitor.specs.Watching.{StandsFor as WatchStandsFor}
 use Rattle.early_monitor.proofs.ForCallers.{no_alarms}
-use Rattle.settling.specs.Inner.WatchedTicks.{watch_taker}
 use Rattle.settling.specs.ScenarioAudit.{audit_numbers}
-use Rattle.settling.proofs.TakenTicks.{before_all}
 use Rattle.settling.proofs.settled_watch.SettledWatch.new.Goals as goal
 
 pub returns : goal.returns
@@ -17,5 +15,9 @@ returns c =
       subjects = subjects;
       rules = scenario.rules;
     }) []) c.as_slice.ensures c.in_ok-watch.ensures.stands in
-    before_all (watch_taker c.in_ok-watch.watch) _ scenario c.new-2.ensures c.in_ok-watch.ensures.sound stands.traces.count stands.traces.last_tick
-    (record { stands = stands; alarms = no_alarms (audit_numbers scenario) })
+    c.new-2.ensures scenario (record {
+      sound = c.in_ok-watch.ensures.sound;
+      count = stands.traces.count;
+      last = stands.traces.last_tick;
+      stands = record { stands = stands; alarms = no_alarms (audit_numbers scenario) };
+    })
