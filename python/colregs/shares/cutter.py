@@ -10,7 +10,7 @@ import sys
 from collections.abc import Iterable, Iterator, Mapping
 from dataclasses import dataclass
 
-from colregs.io.lines import Stamps
+from colregs.io.lines import LONGEST, Stamps
 from colregs.io.sentences import block, hull_part, sentence
 from colregs.io.sieve import Sieve, part_of
 
@@ -47,20 +47,28 @@ def typed_lines(types: Mapping[str, int], at: int) -> Iterator[bytes]:
 
 
 def cut_lines(lines: Iterable[bytes], cut: Cut) -> Iterator[bytes]:
-    """Yields the lines of the window, as the whole log has them."""
+    """Yields the lines of the window, as the whole log has them. Lines with the tag block of the line before fare as that did."""
     stamps, time, clock, shown = Stamps(), cut.time, cut.clock, None
     stamp_of, first, last, begin, end, slack = stamps.of, cut.first, cut.last, cut.begin, cut.end, cut.slack
+    tag, kept = b"\n", False                        # only an empty line begins with this, and it changes nothing
     for line in lines:
+        if line.startswith(tag) and len(line) <= LONGEST:
+            if kept:
+                yield line
+            continue
         stamp = stamp_of(line)
         if stamp is not None:
-            time = stamp
+            time, tag = stamp, line[:line.find(b"\\", 1) + 1]
         late = clock is not None and time is not None and clock > last and time + slack < clock
-        if stamp is not None and begin <= stamp <= end and (clock is None or stamp > clock):
-            clock = stamp
+        if stamp is not None:
+            if begin <= stamp <= end and (clock is None or stamp > clock):
+                clock = stamp
         if time is None:
             if first == begin:
                 yield line                          # its time is the start of the whole, which is this window's
-        elif first <= time <= last and not late:
+            continue
+        kept = first <= time <= last and not late
+        if kept:
             if stamp is None and shown != time:
                 yield block(time) + b"\n"
             shown = time

@@ -40,17 +40,17 @@ class Stillness:
 def rows_to_keep(rows: Iterable[bytes], stretches: list[tuple[int, int]]) -> Iterator[bytes]:
     """Yields `check` rows for the reports in these stretches of time, and a `still` row for each vessel who lay still."""
     stillness = Stillness()
+    still, least, greatest = stillness.still, min((first for first, _ in stretches), default=0), max((last for _, last in stretches), default=-1)
     for row in rows:
         if not row.startswith(b"point,"):
             continue
-        _, mmsi, at, x, y, speed, _ = row.split(b",", 6)
+        _, mmsi, at, rest = row.split(b",", 3)
         time = int(at)
-        if stillness.still.get(mmsi, True):
+        if still.get(mmsi, True):
+            x, y, speed, _ = rest.split(b",", 3)
             stillness.take(mmsi, time, int(x), int(y), speed)
-        for first, last in stretches:
-            if first <= time <= last:
-                yield b"check" + row[5:]
-                break
+        if least <= time <= greatest and any(first <= time <= last for first, last in stretches):
+            yield b"check" + row[5:]
     for mmsi in stillness.found():
         yield b"still," + mmsi + b"\n"
 

@@ -32,16 +32,21 @@ def read_span(path: str, until: int | None) -> Span:
     span, stamp_of, begin, end, entry = Span(path, sum_of(path)[0]), Stamps().of, 0, -1, [0, 0, 0]
     with subprocess.Popen(["bash", "-c", reader([path])], stdout=subprocess.PIPE, stderr=subprocess.PIPE) as log:
         assert log.stdout and log.stderr
+        tag = b"\n"                                # only an empty line begins with this, and it changes nothing
         for line in log.stdout:
+            if line.startswith(tag):
+                entry[0] += 1                       # a line with the tag block of the one before, which counts
+                continue
             stamp = stamp_of(line)
             if stamp is None:
                 continue
-            span.last_stamp = stamp
+            span.last_stamp, tag = stamp, b"\n"
             if until is not None and stamp > until:
                 continue
             if not begin <= stamp < end:
                 begin = stamp - stamp % HOUR
                 end, entry = begin + HOUR, span.hours.setdefault(begin // HOUR, [0, stamp, stamp])
+            tag = line[:line.find(b"\\", 1) + 1]
             entry[0] += 1
             if stamp > entry[2]:
                 entry[2] = stamp
