@@ -7,7 +7,7 @@ import time
 from collections import Counter
 from dataclasses import dataclass, field
 
-from colregs.pilot.motion import KNOT, Place, Rates, moved
+from colregs.pilot.motion import KNOT, Rates, moved
 from colregs.pilot.pilot import Pilot
 from colregs.pilot.planner import Patience, Planner
 from colregs.pilot.record import Record
