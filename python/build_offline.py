@@ -4,8 +4,10 @@ A wheel of pure Python is a zip file of the package with three files about it. `
 """
 import base64
 import hashlib
+import importlib
 import os
 import re
+import sys
 import tarfile
 import tomllib
 import zipfile
@@ -15,6 +17,8 @@ from typing import Any
 HERE = os.path.dirname(os.path.abspath(__file__))
 TAG = "py3-none-any"
 COPIED = {os.path.join("..", "docs", "SCENARIO.md"): "colregs/model/SCENARIO.md"}      # what the package reads of the repository
+SHARED = {"man1": "share/man/man1", "bash": "share/bash-completion/completions", "zsh": "share/zsh/site-functions",
+          "fish": "share/fish/vendor_completions.d"}          # where a wheel installs the pages and completions of the commands
 EARLIEST = (1980, 1, 1, 0, 0, 0)        # the earliest time that a zip file can hold: the same sources give the same bytes
 
 
@@ -74,12 +78,21 @@ class Wheel:
         self.zip.close()
 
 
+def shared_files(table: dict[str, Any]) -> Iterator[tuple[str, bytes]]:
+    """Yields the manual pages and completions, by where a wheel has them."""
+    sys.path.insert(0, HERE)
+    pages = importlib.import_module("colregs.cli.pages").pages()
+    for path, text in sorted(pages.items()):
+        kind, _, name = path.partition("/")
+        yield f"{base_name(table)}.data/data/{SHARED[kind]}/{name}", text.encode()
+
+
 def write_wheel(directory: str, files: Iterable[tuple[str, bytes]]) -> str:
-    """Writes a wheel with these files of (name, bytes); returns its name."""
+    """Writes a wheel with these files of (name, bytes), and the pages of the commands; returns its name."""
     table = project()
     name, folder = f"{base_name(table)}-{TAG}.whl", f"{base_name(table)}.dist-info"
     wheel = Wheel(os.path.join(directory, name))
-    for path, content in files:
+    for path, content in [*files, *shared_files(table)]:
         wheel.add(path, content)
     for path, text in about_files(table).items():
         wheel.add(f"{folder}/{path}", text.encode())
@@ -92,7 +105,8 @@ def build_wheel(wheel_directory: str, config_settings: object = None, metadata_d
     def content(path: str) -> bytes:
         with open(os.path.join(HERE, path), "rb") as source:
             return source.read()
-    names = {path: path.replace(os.sep, "/") for path in package_files()} | COPIED
+    names = {path: path.replace(os.sep, "/") for path in package_files()}
+    names |= {path: name for path, name in COPIED.items() if os.path.exists(os.path.join(HERE, path))}      # a sdist has them in their places
     return write_wheel(wheel_directory, ((name, content(path)) for path, name in names.items()))
 
 
@@ -107,4 +121,6 @@ def build_sdist(sdist_directory: str, config_settings: object = None) -> str:
     with tarfile.open(os.path.join(sdist_directory, base + ".tar.gz"), "w:gz") as out:
         for path in ["pyproject.toml", os.path.basename(__file__), *package_files()]:
             out.add(os.path.join(HERE, path), f"{base}/{path}")
+        for path, name in COPIED.items():
+            out.add(os.path.join(HERE, path), f"{base}/{name}")
     return base + ".tar.gz"

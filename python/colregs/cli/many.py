@@ -151,7 +151,7 @@ def add_jobs(words: argparse.ArgumentParser, kind: str) -> None:
 
 def parser() -> argparse.ArgumentParser:
     """Returns the parser of the command line."""
-    whole = parser_of(__doc__)
+    whole = parser_of(__doc__, "many")
     kinds = whole.add_subparsers(dest="kind", required=True, metavar="COMMAND")
     add_plan(kinds.add_parser("plan", help="write the list of jobs"))
     for kind, does in (("run", "run the jobs that have no result; `run` may be left out"), ("one", "run one job"), ("commands", "write one command per job"),

@@ -107,7 +107,7 @@ def roff_options(options: tuple[Option, ...]) -> Iterator[str]:
 def manual(command: Command, others: list[str]) -> str:
     """Returns the manual page of a command."""
     text, _, status = command.text.partition(EXIT)
-    body = [f'.TH {command.name.upper()} 1 "" "colregs {colregs.VERSION}" "colregs"\n', f".SH NAME\n{command.name} \\- {roff(command.line)}\n",
+    body = [f'.TH {command.name.upper()} 1 "" "colregs {colregs.VERSION}" "colregs"\n.ad l\n', f".SH NAME\n{command.name} \\- {roff(command.line)}\n",
             f".SH SYNOPSIS\n{roff(command.usage)}\n", ".SH DESCRIPTION\n", *roff_paragraphs(text.strip()), ".SH OPTIONS\n", *roff_options(command.options)]
     for part in command.parts:
         body += [f".SS {command.name} {part.name}\n{roff(part.line)}\n", *roff_options(part.options)]
@@ -178,7 +178,7 @@ def fish(command: Command) -> str:
 def pages() -> dict[str, str]:
     """Returns the text of each page and completion, by its path in the folder."""
     every = commands()
-    found = {}
+    found: dict[str, str] = {}
     for command in every:
         others = ["colregs", *(other.name for other in every if other is not command)]
         found |= {f"man1/{command.name}.1": manual(command, others), f"bash/{command.name}": bash(command), f"zsh/_{command.name}": zsh(command),

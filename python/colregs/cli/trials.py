@@ -60,7 +60,7 @@ def track(word: str) -> Track:
 
 def parser() -> argparse.ArgumentParser:
     """Returns the parser of the command line."""
-    words = parser_of(__doc__)
+    words = parser_of(__doc__, "trials")
     words.add_argument("scenario", metavar="SCENARIO")
     words.add_argument("--kinds", type=kinds, default=(ANY,), metavar="KIND,..", help=f"{', '.join(KINDS)} or {ANY}; each run has one of them (default: {ANY})")
     words.add_argument("--targets", type=targets, default=(1, 1), metavar="N..M", help="how many others a run has (default: 1)")

@@ -1,0 +1,88 @@
+"""The commands' pages: each manual page and completion has what `--help` says, by the commands as a user calls them."""
+import os
+import re
+import subprocess
+import sys
+import tomllib
+import unittest
+
+from given import InFolder, TOOLS, TOP, needs, text_of
+from colregs.cli import pages
+
+COMMANDS = sorted(name for name in os.listdir(TOOLS) if name.startswith("colregs-"))
+OLD = {"draw": "colregs-draw", "geojson": "colregs-geojson", "scenario": "colregs-scenario", "tagged": "colregs-tagged"}
+
+
+def options_of(text: str) -> set[str]:
+    """Returns the long options that a help page lists."""
+    return set(re.findall(r"(?m)^ +(?:-\w[^-]*, )?(--[a-z-]+)", text))
+
+
+class Pages(InFolder):
+    def help_of(self, *words: str) -> str:
+        """Returns the help page of a command."""
+        status, out, error = self.within(*words, "--help")
+        self.assertEqual((status, error), (0, ""))
+        return out
+
+    def test_each_page_and_completion_has_every_option_of_help(self) -> None:
+        made = pages.pages()
+        self.assertEqual(sorted(path for path in made if path.startswith("man1/")), [f"man1/{name}.1" for name in COMMANDS])
+        for name in COMMANDS:
+            text = self.help_of(name)
+            kinds = re.findall(r"(?m)^    (\w+) +\w", text.partition("positional arguments:")[2]) if name == "colregs-many" else []
+            options = options_of(text).union(*(options_of(self.help_of(name, kind)) for kind in kinds))
+            self.assertGreater(len(options), 1)
+            for path in (f"man1/{name}.1", f"bash/{name}", f"zsh/_{name}", f"fish/{name}.fish"):
+                plain = made[path].replace("\\-", "-").replace("-l ", "--")
+                self.assertEqual([option for option in options if not re.search(re.escape(option) + r"\b", plain)], [], path)
+
+    def test_each_help_page_says_what_the_command_does_and_its_statuses(self) -> None:
+        for name in COMMANDS:
+            text = self.help_of(name)
+            self.assertTrue(text.startswith(f"usage: {name} "), text[:60])
+            self.assertRegex(text, r"\n\n[A-Z]\w+s [^\n]+\.\n\n")
+            self.assertRegex(text, r"(?s)\nExit status: .*\bIt needs Python 3\.11 or later\.\n")
+
+    def test_the_old_names_are_the_new_commands(self) -> None:
+        for old, new in OLD.items():
+            self.assertEqual(text_of(os.path.join(TOOLS, old)), text_of(os.path.join(TOOLS, new)))
+
+    def test_a_wrong_command_line_is_told_in_one_line_with_status_2(self) -> None:
+        for name in COMMANDS:
+            status, out, error = self.within(name, "--nothing")
+            self.assertEqual((status, out, error.count("\n")), (2, "", 1), error)
+            self.assertTrue(error.startswith(name.removeprefix("colregs-") + ": "), error)
+
+    def test_the_package_installs_each_command(self) -> None:
+        with open(os.path.join(TOP, "python", "pyproject.toml"), "rb") as source:
+            scripts = tomllib.load(source)["project"]["scripts"]
+        self.assertEqual(scripts, {name: f"colregs.cli.{name.removeprefix('colregs-')}:command" for name in COMMANDS})
+
+    def test_an_older_python_ends_with_one_sentence(self) -> None:
+        script = ("import sys; sys.version_info = (3, 9, 2); sys.path.insert(0, sys.argv[1]); from colregs.start import start; start('case')")
+        done = subprocess.run([sys.executable, "-c", script, os.path.join(TOP, "python")], capture_output=True, text=True)
+        self.assertEqual((done.returncode, done.stderr), (1, "case: Python 3.11 or later is needed, and this is Python 3.9\n"))
+
+    @needs("man")
+    def test_the_manual_pages_have_no_warning(self) -> None:
+        for path, text in pages.pages().items():
+            if path.startswith("man1/"):
+                done = subprocess.run(["man", "--warnings", "-E", "UTF-8", "-l", "-Tutf8", "-Z", self.write("page.1", text)], capture_output=True, text=True)
+                self.assertEqual((done.returncode, done.stderr), (0, ""), path)
+
+    def test_bash_completes_options_commands_and_files(self) -> None:
+        def completed(*words: str) -> list[str]:
+            script = '. "$0"; COMP_WORDS=("$@"); COMP_CWORD=$(($# - 1)); _${1//-/_}; printf "%s\\n" "${COMPREPLY[@]}"'
+            name = self.write("completion", pages.pages()["bash/" + words[0]])
+            return subprocess.run(["bash", "-c", script, name, *words], cwd=self.folder, capture_output=True, text=True).stdout.split("\n")[:-1]
+
+        self.write("a log", "")
+        self.assertEqual(completed("colregs-case", "--ch"), ["--chart"])
+        self.assertEqual(completed("colregs-case", "a"), ["a log"])
+        self.assertEqual(completed("colregs-case", "--ticks", "a"), [""])
+        self.assertEqual(completed("colregs-many", "sl"), ["slurm"])
+
+
+if __name__ == "__main__":
+    unittest.main()
