@@ -2,13 +2,13 @@
 use Rattle.std.proofs.Common.{ℕ, ◌≡◌, inl, inr, List, [], length, false, Option, None, Some, IfSome, Err, refl, IsTrue, ap, sym, subst, arith, ◌∙◌}
 use Rattle.std.specs.Io.KnownBytes.{Appends}
 use Rattle.outside.specs.Streams.{AppendsPart}
-use Rattle.command_line.specs.declared.mode.Mode.{Mode}
-use Rattle.command_line.specs.declared.mode.Mode.TheVariants as mode
+use Rattle.tasks.specs.declared.mode.Mode.{Mode}
+use Rattle.tasks.specs.declared.mode.Mode.TheVariants as mode
 use Rattle.command_line.specs.declared.request.Request.{Request}
 use Rattle.drill_log.specs.DrillLog.{drill_log_of}
 use Rattle.scenario_values.specs.declared.values.Scenario.{Scenario}
 use Rattle.sessions.specs.Endings.{IsAnswerTo}
-use Rattle.sessions.specs.Modes.{reads_log, reports}
+use Rattle.tasks.specs.Modes.{reads_log, reports}
 use Rattle.sessions.specs.Refusals.{IsStopped, IsUnrefused}
 use Rattle.sessions.specs.SettledText.{IsSettledText}
 use Rattle.sessions.specs.declared.session_fault.SessionFault.{SessionFault}

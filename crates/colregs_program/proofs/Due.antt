@@ -3,10 +3,10 @@ use Rattle.std.proofs.Common.{ℕ, ◌≡◌, ◌≤◌, ◌<◌, inl, inr, Bool
 use Rattle.outside.specs.Shelves.{Files, IsMissing}
 use Rattle.scenario_values.specs.declared.values.Scenario.{Scenario}
 use Rattle.colregs_program.specs.Answers.{AreRows, AreRowsWhere, CanMigrate, HasLongRows, HasScenario, IsDue, IsRefusedBy, LiesUnder, MeetsAnswer, MissesFile, Requested, greatest_scenario}
-use Rattle.sessions.specs.Modes.{needs_rows, reports}
+use Rattle.tasks.specs.Modes.{needs_rows, reports}
 use Rattle.colregs_program.specs.Inner.Migrating.{IsMigrationDue}
-use Rattle.command_line.specs.declared.mode.Mode.{Mode}
-use Rattle.command_line.specs.declared.mode.Mode.TheVariants as mode
+use Rattle.tasks.specs.declared.mode.Mode.{Mode}
+use Rattle.tasks.specs.declared.mode.Mode.TheVariants as mode
 use Rattle.colregs_program.specs.LogAnswers.{IsAnswered}
 use Rattle.command_line.specs.Requests.{AskFor, AskForNothing}
 use Rattle.command_line.specs.declared.request.Request.{Request}

@@ -8,7 +8,7 @@ use Rattle.scenario_values.specs.declared.values.Scenario.{Scenario}
 use Rattle.scenario.proofs.ForCallers.{meant_or_refused, one_meaning, one_refusal}
 use Rattle.scenario_keys.specs.declared.key.Key.{Key}
 use Rattle.scenario_keys.specs.declared.cause.Cause.{Cause}
-use Rattle.sessions.specs.Modes.{needs_own, needs_rows, reports}
+use Rattle.tasks.specs.Modes.{needs_own, needs_rows, reports}
 use Rattle.colregs_program.specs.Answers.{HasScenario, IsDue, IsRefusedBy, IsRefusedFor, IsScenario, LiesUnder, greatest_scenario}
 use Rattle.colregs_program.specs.AskedScenarios.{task_of, with_options}
 use Rattle.colregs_program.specs.LogAnswers.{IsAnswered}

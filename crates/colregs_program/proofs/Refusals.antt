@@ -8,7 +8,7 @@ use Rattle.outside.specs.WholeReading.{StopsAt}
 use Rattle.outside.specs.declared.whole.ReadFault.TheVariants as read
 use Rattle.scenario_values.specs.declared.values.Scenario.{Scenario}
 use Rattle.sessions.specs.Endings.{Came}
-use Rattle.sessions.specs.Modes.{needs_rows, reads_log, reports}
+use Rattle.tasks.specs.Modes.{needs_rows, reads_log, reports}
 use Rattle.sessions.specs.Refusals.{IsMet}
 use Rattle.sessions.specs.Tasks.{Task}
 use Rattle.sessions.proofs.ForCallers.{before_refused}
@@ -17,8 +17,8 @@ use Rattle.plan_situations.specs.declared.readiness.Unready.{Unready}
 use Rattle.colregs_program.specs.Answers.{AreRows, EndsWith, HoldsUnder, IsDue, IsOfDrill, IsScenario, MayPrecedeRows, MetIn, Runs, StopsWith, TellsLimit, WritesNothing, WritesPart}
 use Rattle.colregs_program.specs.LogAnswers.{GainsFront, GainsReport, GainsSettled, IsAnswered, IsFinished, IsStoppedBy, LeavesSettled, Reports, answer_of, finished}
 use Rattle.command_line.specs.Requests.{AskFor, AskForNothing}
-use Rattle.command_line.specs.declared.mode.Mode.{Mode}
-use Rattle.command_line.specs.declared.mode.Mode.TheVariants as mode
+use Rattle.tasks.specs.declared.mode.Mode.{Mode}
+use Rattle.tasks.specs.declared.mode.Mode.TheVariants as mode
 use Rattle.command_line.specs.declared.request.Request.{Request}
 use Rattle.command_line.proofs.Asked.{one_asked}
 use Rattle.colregs_program.specs.AskedScenarios.{log_of, task_of}

@@ -14,12 +14,12 @@ use Rattle.scenario_keys.specs.declared.fault.ScenarioFault.{ScenarioFault}
 use Rattle.scenario_keys.specs.declared.fault.ScenarioFault.TheVariants as refusal
 use Rattle.colregs_program.specs.Answers.{greatest_scenario, IsRefusedBy, LiesUnder}
 use Rattle.colregs_program.specs.AskedScenarios.{with_options}
-use Rattle.sessions.specs.Modes.{needs_own, reports}
+use Rattle.tasks.specs.Modes.{needs_own, reports}
 use Rattle.colregs_program.specs.Inner.SetUps.{AreOptions, AreRowsDue, IsScenarioDue, IsSetUpDue, SetFor, set_up_fault}
 use Rattle.outside.specs.Causes.{one_more}
 use Rattle.command_line.specs.Requests.{AskFor}
-use Rattle.command_line.specs.declared.mode.Mode.{Mode}
-use Rattle.command_line.specs.declared.mode.Mode.TheVariants as mode
+use Rattle.tasks.specs.declared.mode.Mode.{Mode}
+use Rattle.tasks.specs.declared.mode.Mode.TheVariants as mode
 use Rattle.command_line.specs.declared.request.Options.{Options}
 use Rattle.command_line.specs.declared.request.Request.{Request}
 use Rattle.command_line.proofs.ForCallers.{seed_in_range, start_in_range, ticks_in_range}

@@ -3,8 +3,8 @@ use Rattle.std.specs.Prelude.{ℕ, ◌≡◌, ◌≤◌, ◌<◌, ◌⊎◌, ◌
 use Rattle.std.specs.Io.KnownBytes.{IsAtEnd}
 use Rattle.outside.specs.Shelves.{Files, IsMissing, content_of}
 use Rattle.command_line.specs.Requests.{AskFor, AskForNothing}
-use Rattle.command_line.specs.declared.mode.Mode.{Mode}
-use Rattle.command_line.specs.declared.mode.Mode.TheVariants as mode
+use Rattle.tasks.specs.declared.mode.Mode.{Mode}
+use Rattle.tasks.specs.declared.mode.Mode.TheVariants as mode
 use Rattle.command_line.specs.declared.request.Request.{Request}
 use Rattle.log_lines.specs.JudgedLines.{greatest_held}
 use Rattle.scenario.specs.Migration.{IsMigrated, IsNotMigrated}
@@ -16,7 +16,7 @@ use Rattle.colregs_program.specs.LogAnswers.{GainsPart, IsAnswered, IsStoppedBy,
 use Rattle.colregs_program.specs.Stages.{is_at_end, is_before_log, is_in_log, stage_of}
 use Rattle.colregs_program.specs.AskedScenarios.{log_of, task_of, with_options}
 use Rattle.refutation_check.specs.declared.checked_text.TheConstants.{GREATEST_TEXT}
-use Rattle.sessions.specs.Modes.{needs_own, needs_rows, reads_log, reports}
+use Rattle.tasks.specs.Modes.{needs_own, needs_rows, reads_log, reports}
 use Rattle.traces.specs.declared.all_traces.TheConstants.{MOST_TRACES}
 use Rattle.plan_situations.specs.PlanSituations.{greatest_targets}
 use Rattle.colregs_program.specs.declared.status.Status.{Status}

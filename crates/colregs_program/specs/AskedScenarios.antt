@@ -5,7 +5,7 @@ use Rattle.command_line.specs.declared.request.Request.{Request}
 use Rattle.drill_log.specs.DrillLog.{drill_log_of}
 use Rattle.scenario_values.specs.declared.values.Scenario.{Scenario}
 use Rattle.scenario_values.specs.declared.values.Window.{Window}
-use Rattle.sessions.specs.Modes.{reads_log}
+use Rattle.tasks.specs.Modes.{reads_log}
 use Rattle.sessions.specs.Tasks.{Task}
 
 -- the window, with the start and the length that are given in place of its own

@@ -20,10 +20,10 @@ mod stream_status;
 mod streaming;
 mod telling;
 
-pub use command_line::Mode;
 pub use drill_log::drill_log;
 pub use plan_situations::Unready;
 pub use program::run;
 pub use scenario::{Cause, Key, LogNumbers, Scenario, Window};
 pub use sessions::{Ending, Session, SessionFault};
 pub use status::{Status, Which};
+pub use tasks::Mode;

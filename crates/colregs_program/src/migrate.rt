@@ -7,7 +7,7 @@ ghost use Rattle.outside.specs.Streams.{AppendsPart};
 ghost use Rattle.scenario.specs.Migration.{IsNotMigrated};
 ghost use Rattle.scenario_keys.specs.declared.key.Key.{Key};
 ghost use Rattle.scenario_keys.specs.declared.cause.Cause.{Cause};
-ghost use Rattle.command_line.specs.declared.mode.Mode.TheVariants.{Migrate};
+ghost use Rattle.tasks.specs.declared.mode.Mode.TheVariants.{Migrate};
 ghost use Rattle.colregs_program.specs.Answers.{greatest_scenario, HoldsUnder, IsOfMigration, TellsLimit};
 ghost use Rattle.colregs_program.specs.LogAnswers.{IsFinished};
 ghost use Rattle.colregs_program.specs.FaultLines.{fault_line};

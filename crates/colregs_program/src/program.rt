@@ -9,10 +9,10 @@ ghost use Rattle.outside.specs.declared.whole.ReadFault.TheVariants as read;
 ghost use Rattle.scenario_keys.specs.declared.key.Key.{Key};
 ghost use Rattle.scenario_keys.specs.declared.cause.Cause.{Cause};
 ghost use Rattle.command_line.specs.Requests.{AskFor, AskForNothing};
-ghost use Rattle.command_line.specs.declared.mode.Mode.TheVariants.{Drill, Migrate};
+ghost use Rattle.tasks.specs.declared.mode.Mode.TheVariants.{Drill, Migrate};
 ghost use Rattle.command_line.specs.declared.request.Request.{Request};
 ghost use Rattle.refutation_check.specs.declared.checked_text.TheConstants.{GREATEST_TEXT};
-ghost use Rattle.sessions.specs.Modes.{needs_rows, reads_log};
+ghost use Rattle.tasks.specs.Modes.{needs_rows, reads_log};
 ghost use Rattle.colregs_program.specs.Answers.{EndsWith, greatest_scenario, HoldsUnder, IsBeforeLog, IsDue, IsOfDrill, IsOfMigration, IsReadBy, IsRefusedBy, MayPrecedeRows, Migrates, Requested, Runs, StopsWith, TellsLimit, WritesNothing, WritesPart};
 ghost use Rattle.colregs_program.specs.AskedScenarios.{log_of, task_of};
 ghost use Rattle.colregs_program.specs.FaultLines.{fault_line};
@@ -31,8 +31,8 @@ use crate::telling::tell;
 use command_line::request_of;
 use outside::{Shelf, Sink, Source, Word};
 use sessions::laws::one_answer;
-use sessions::reports;
 use std::alloc::Global;
+use tasks::reports;
 
 /// Runs the program with these words, which do not hold its own name, and which `clap` reads by the command `colregs`.
 ///

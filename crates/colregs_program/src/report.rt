@@ -3,7 +3,7 @@ ghost use Rattle.std.specs.Prelude.{◌≡◌, ◌≤◌, length, false, IfErr, 
 ghost use Rattle.std.specs.Io.KnownBytes.{Keeps};
 ghost use Rattle.refutation_check.specs.declared.checked_text.TheConstants.{GREATEST_TEXT};
 ghost use Rattle.scenario_values.specs.ValueRanges.{IsInRange};
-ghost use Rattle.sessions.specs.Modes.{needs_own, reads_log, reports};
+ghost use Rattle.tasks.specs.Modes.{needs_own, reads_log, reports};
 ghost use Rattle.colregs_program.specs.Answers.{IsReadBy};
 ghost use Rattle.colregs_program.specs.AskedScenarios.{log_of, task_of};
 ghost use Rattle.colregs_program.specs.LogAnswers.{Reports};
@@ -15,8 +15,9 @@ use command_line::Request;
 use drill_laws::laws::a_drill_meets_no_limit;
 use drill_log::DrillSource;
 use outside::{Sink, Source};
-use sessions::{Asked, SessionFault, reads_log};
+use sessions::{Asked, SessionFault};
 use std::alloc::Global;
+use tasks::reads_log;
 
 /// The fault of a run whose log is made: where it cannot be read, there is no memory to make it.
 fn made_fault(fault: StreamFault) -> StreamFault

@@ -5,7 +5,7 @@ ghost use Rattle.scenario_values.specs.ValueRanges.{IsInRange};
 ghost use Rattle.scenario_values.specs.declared.values.Scenario.{Scenario};
 ghost use Rattle.colregs_program.specs.Answers.{AreRows, HoldsUnder, IsScenario};
 ghost use Rattle.colregs_program.specs.AskedScenarios.{with_options};
-ghost use Rattle.sessions.specs.Modes.{needs_own, needs_rows, reports};
+ghost use Rattle.tasks.specs.Modes.{needs_own, needs_rows, reports};
 ghost use Rattle.colregs_program.specs.Inner.SetUps.{AreOptions, AreRowsDue, HaveFetched, IsScenarioDue, IsSetUpDue, SetFor, SetUpCause, came_of, precedes_rows, rows_fault, rows_had};
 ghost use Rattle.colregs_program.specs.declared.set_up.SetUpFault.{SetUpFault};
 
@@ -15,8 +15,8 @@ use command_line::{Options, Request};
 use outside::Shelf;
 use refutation_check::GREATEST_TEXT;
 use scenario::{Cause, Key, Scenario, ScenarioFault, read};
-use sessions::{needs_own, needs_rows};
 use std::alloc::Global;
+use tasks::{needs_own, needs_rows};
 
 /// The greatest length of a scenario, in bytes.
 pub(crate) const GREATEST_SCENARIO: u64 = 1 << 20;

@@ -4,7 +4,7 @@ ghost use Rattle.std.specs.declared.option.Option.{Option};
 ghost use Rattle.std.specs.Io.KnownBytes.{Appends, IsAtEnd};
 ghost use Rattle.audit_report.specs.ReportTexts.{HasText};
 ghost use Rattle.scenario_values.specs.ValueRanges.{IsInRange};
-ghost use Rattle.sessions.specs.Modes.{needs_own, reports};
+ghost use Rattle.tasks.specs.Modes.{needs_own, reports};
 ghost use Rattle.sessions.specs.Standing.{IsInUse, StandsFor, mode_of, session_scenario, taken_of};
 ghost use Rattle.sessions.specs.Tasks.{task_by};
 ghost use Rattle.sessions.specs.declared.asked.Asked.{Asked};

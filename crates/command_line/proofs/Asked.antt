@@ -7,7 +7,7 @@ use Rattle.clap.specs.Words.{Row, Text, matches_of, possible_matches}
 use Rattle.clap.specs.declared.builder.possible_value.PossibleValue.{PossibleValue}
 use Rattle.command_line.specs.CommandLine.{AreModes, colregs, mode_text, modes}
 use Rattle.command_line.specs.Requests.{AskFor, AskForNothing, HoldsRequest, IsAccepted, IsPlain, AreWordsRefused, with_program_name}
-use Rattle.command_line.specs.declared.mode.Mode.{Mode}
+use Rattle.tasks.specs.declared.mode.Mode.{Mode}
 use Rattle.command_line.specs.declared.request.Request.{Request}
 use Rattle.command_line.proofs.Alike.{fault_alike, matches_alike}
 use Rattle.command_line.proofs.HeldRequests.{one_request, plain_accepted}

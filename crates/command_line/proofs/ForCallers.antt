@@ -4,7 +4,7 @@ use Rattle.std.specs.Prelude.{IfSome}
 use Rattle.clap.specs.Words.{Text, first_of, matches_of}
 use Rattle.command_line.specs.CommandLine.{Setting, label, mode_text, rows_file, seed, start, ticks, why}
 use Rattle.command_line.specs.Requests.{AskFor, IsPlain, is_plain_text, value_among, value_of, with_program_name}
-use Rattle.command_line.specs.declared.mode.Mode.{Mode}
+use Rattle.tasks.specs.declared.mode.Mode.{Mode}
 use Rattle.command_line.specs.declared.request.Request.{Request}
 use Rattle.command_line.proofs.ByKind.{number_lies}
 

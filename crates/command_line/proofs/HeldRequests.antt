@@ -15,8 +15,8 @@ use Rattle.clap.proofs.WalkLemmas.{find-map, first_value-rows}
 use Rattle.command_line.specs.CommandLine.{AreModes, Setting, Value, colregs, default_of, default_texts, kind_of, label, mode_text, modes, settings, written}
 use Rattle.command_line.specs.Requests.{HoldsRequest, HoldsValue, IsAccepted, IsPlain, IsTaken, MayAllBeGiven, setting_words, value_among}
 use Rattle.command_line.specs.Inner.Reading.{HoldsNoMode, HoldsNone}
-use Rattle.command_line.specs.declared.mode.Mode.{Mode}
-use Rattle.command_line.specs.declared.mode.Mode.TheVariants as mode
+use Rattle.tasks.specs.declared.mode.Mode.{Mode}
+use Rattle.tasks.specs.declared.mode.Mode.TheVariants as mode
 use Rattle.command_line.specs.declared.request.Request.{Request}
 use Rattle.command_line.specs.declared.request.WordsFault.{WordsFault}
 use Rattle.command_line.specs.declared.request.WordsFault.TheVariants.{Memory, Usage}

@@ -9,7 +9,7 @@ use Rattle.clap.specs.Walk.{Walk, has_row, nothing_held, walk_from, walked}
 use Rattle.clap.specs.Faults.{settle_fault, turn_fault, walk_fault}
 use Rattle.command_line.specs.CommandLine.{AreModes, Setting, Value, a_flag, a_number, a_text, flag, kind_of, label, mode_text, written}
 use Rattle.command_line.specs.Requests.{AreOnce, MayAllBeGiven, is_given, is_plain_text, setting_words}
-use Rattle.command_line.specs.declared.mode.Mode.{Mode}
+use Rattle.tasks.specs.declared.mode.Mode.{Mode}
 use Rattle.command_line.proofs.ByKind.{IsRight, TakesValue, flag_kind, number_kind, right_accepted, right_given, sound, text_kind}
 use Rattle.command_line.proofs.Settings.{Choices, known, top}
 use Rattle.command_line.proofs.Walking.{Pending, before_value, behind, flag_faultless, flag_walked, held, mode_accepted, mode_faultless, mode_is_name, mode_walked, name_faultless, name_faultless_by}

@@ -18,8 +18,8 @@ use Rattle.clap.proofs.OnLiterals.{clap_on_literals}
 use Rattle.clap.proofs.SimpleLemmas.{is_false}
 use Rattle.command_line.specs.CommandLine.{AreModes, Kind, Setting, colregs, flag, kind_of, label, mode_text, option_rule, takes_number, takes_text}
 use Rattle.command_line.specs.Requests.{is_plain_text}
-use Rattle.command_line.specs.declared.mode.Mode.{Mode}
-use Rattle.command_line.specs.declared.mode.Mode.TheVariants as mode
+use Rattle.tasks.specs.declared.mode.Mode.{Mode}
+use Rattle.tasks.specs.declared.mode.Mode.TheVariants as mode
 use Rattle.command_line.proofs.ByKind.{TakesValue, parser_of_kind}
 use Rattle.command_line.proofs.Settings.{Choices, built_rule, known, top}
 

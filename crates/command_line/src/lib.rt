@@ -13,5 +13,4 @@ mod number;
 mod request;
 
 pub use help::{Told, told_text, told_word};
-pub use mode::Mode;
 pub use request::{Options, Request, WordsFault, request_of};

@@ -3,28 +3,10 @@ ghost use Rattle.std.specs.Prelude.{◌≡◌, ◌≢◌, MatchOption, true};
 ghost use Rattle.std.specs.List.{list_any};
 ghost use Rattle.std.specs.Str.{bytes_eq};
 ghost use Rattle.command_line.specs.CommandLine.{AreModes, mode_text};
-ghost use Rattle.command_line.specs.declared.mode.Mode.{Mode};
+ghost use Rattle.tasks.specs.declared.mode.Mode.{Mode};
 
 use clap::builder::PossibleValue;
-
-/// What the program is to do.
-#[derive(Clone, Copy, Debug, PartialEq, Eq)]
-pub enum Mode {
-    /// Positions out of a log, as points of the plane.
-    Points,
-    /// How the vessels of a log met, and which duties were broken or stayed undecided.
-    Audit,
-    /// The first plan of own ship that newly breaks no rule and enters no domain.
-    Plan,
-    /// A log of forty vessels that is made for the scenario, and the totals of its audit.
-    Drill,
-    /// The scenario as one of version 2, with the same meaning.
-    Migrate,
-    /// Whether rows say rightly why every plan of own ship fails, told without a search.
-    Recheck,
-    /// Each breach of a rule at the first step that decides it, as soon as the log settles that step.
-    Watch,
-}
+use tasks::Mode;
 
 /// The modes as values of an argument, each with its line of help.
 pub(crate) fn mode_values() -> [PossibleValue<'static>; 7]

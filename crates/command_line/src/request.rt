@@ -9,13 +9,14 @@ ghost use Rattle.command_line.specs.Inner.Reading.{GivesNumber, GivesOptions, Ho
 ghost use Rattle.command_line.specs.declared.request.Request.{Request};
 
 use crate::colregs::colregs;
-use crate::mode::{Mode, mode_named, mode_values};
+use crate::mode::{mode_named, mode_values};
 use crate::number::number_in;
 use clap::ArgMatches;
 use clap::error::ErrorKind;
 use out_of_memory::Memory;
 use outside::Word;
 use std::alloc::{AllocError, Global};
+use tasks::Mode;
 
 /// The options, each of which counts in the modes that use it.
 #[derive(Drop)]

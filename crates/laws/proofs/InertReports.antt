@@ -8,8 +8,8 @@ use Rattle.auditor.specs.AuditRows.{AreAuditRows}
 use Rattle.auditor.specs.AuditTotals.{AreTotals}
 use Rattle.early_monitor.specs.Alarms.{AreAlarms}
 use Rattle.traces.specs.Audited.{Sighting}
-use Rattle.command_line.specs.declared.mode.Mode.{Mode}
-use Rattle.command_line.specs.declared.mode.Mode.TheVariants as mode
+use Rattle.tasks.specs.declared.mode.Mode.{Mode}
+use Rattle.tasks.specs.declared.mode.Mode.TheVariants as mode
 use Rattle.log_lines.specs.EachLine.{each_after}
 use Rattle.log_lines.specs.JudgedLines.{count_of, judged_line, judged_lines, numbers_of, outcome_of}
 use Rattle.log_lines.specs.LineOutcomes.{line_outcome, outcome_index}

@@ -10,7 +10,7 @@ use Rattle.scenario.proofs.ForCallers.{has_one_reading, one_reason}
 use Rattle.scenario_keys.specs.declared.key.Key.{Key}
 use Rattle.scenario_keys.specs.declared.cause.Cause.{Cause}
 use Rattle.sessions.specs.Endings.{Came}
-use Rattle.sessions.specs.Modes.{needs_own, needs_rows, reads_log, reports}
+use Rattle.tasks.specs.Modes.{needs_own, needs_rows, reads_log, reports}
 use Rattle.sessions.specs.Refusals.{IsMet}
 use Rattle.sessions.specs.declared.session_fault.SessionFault.TheVariants as why
 use Rattle.laws.proofs.SomeAnswer.{memory_not_met, some_met}

@@ -34,8 +34,8 @@ use Rattle.sessions.specs.RecheckReport.{IsRecheckReport}
 use Rattle.sessions.specs.WatchReport.{IsWatchReport}
 use Rattle.sessions.proofs.ForCallers.{one_manoeuvre}
 use Rattle.sessions.proofs.ForCallers.{one_own, one_ready}
-use Rattle.command_line.specs.declared.mode.Mode.{Mode}
-use Rattle.command_line.specs.declared.mode.Mode.TheVariants as mode
+use Rattle.tasks.specs.declared.mode.Mode.{Mode}
+use Rattle.tasks.specs.declared.mode.Mode.TheVariants as mode
 use Rattle.settling.specs.ScenarioAudit.{audit_numbers}
 
 one_audit_report : (scenario : Scenario) (log text other : List ℕ) → IsAuditReport scenario log text → IsAuditReport scenario log other → text ≡ other

@@ -1,7 +1,7 @@
 //! What a session gives as a log grows, and at its end.
 ghost use Rattle.std.specs.Prelude.{◌≡◌, ◌≤◌, IfOk, IsTrue, OnOk, false};
 ghost use Rattle.scenario_values.specs.ValueRanges.{IsInRange};
-ghost use Rattle.sessions.specs.Modes.{needs_own, reports};
+ghost use Rattle.tasks.specs.Modes.{needs_own, reports};
 ghost use Rattle.sessions.specs.Standing.{IsInUse};
 
 use crate::compared::{is, is_true};

@@ -1,10 +1,11 @@
 //! Words that are accepted and words that are not, as a user writes them.
 use crate::compared::{is, is_true};
-use command_line::{Mode, Options, Request, Told, WordsFault, request_of, told_text, told_word};
+use command_line::{Options, Request, Told, WordsFault, request_of, told_text, told_word};
 use out_of_memory::Memory;
 use outside::Word;
 use std::alloc::{AllocError, Global};
 use std::process::Abort;
+use tasks::Mode;
 
 fn words(alloc: Global, texts: &[&str]) -> Result<Vec<Word>, Memory> {
     let mut words = Vec::new(alloc);

@@ -8,7 +8,7 @@ use Rattle.scenario_keys.specs.declared.fault.ScenarioFault.{ScenarioFault}
 use Rattle.scenario_keys.specs.declared.fault.ScenarioFault.TheVariants as refusal
 use Rattle.colregs_program.specs.Answers.{HasScenario, HoldsUnder, IsRefusedBy, LiesUnder, greatest_scenario}
 use Rattle.refutation_check.specs.declared.checked_text.TheConstants.{GREATEST_TEXT}
-use Rattle.sessions.specs.Modes.{needs_rows}
+use Rattle.tasks.specs.Modes.{needs_rows}
 use Rattle.colregs_program.specs.declared.set_up.SetUp.{SetUp}
 use Rattle.command_line.specs.declared.request.Options.{Options}
 use Rattle.command_line.specs.declared.request.Request.{Request}

@@ -3,7 +3,7 @@ use Rattle.std.specs.Prelude.{◌≡◌, ◌≢◌, ◌⊎◌, ◌≤◌, ⊤, �
 use Rattle.clap.specs.Words.{Row, Text, first_of}
 use Rattle.command_line.specs.CommandLine.{Setting, default_of, kind_of, label, mode_text}
 use Rattle.command_line.specs.Requests.{HoldsValue, IsNumber, IsTaken, said, value_of}
-use Rattle.command_line.specs.declared.mode.Mode.{Mode}
+use Rattle.tasks.specs.declared.mode.Mode.{Mode}
 use Rattle.command_line.specs.declared.request.Options.{Options}
 use Rattle.command_line.specs.declared.request.WordsFault.{WordsFault}
 use Rattle.command_line.specs.declared.request.WordsFault.TheVariants.{Memory, Usage}

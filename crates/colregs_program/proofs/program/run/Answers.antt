@@ -1,9 +1,9 @@
 use Rattle.std.proofs.Common.{◌≤◌, length, inl, inr, true, false, IsTrue, Err, refl, subst, sym, ◌∙◌, ap}
 use Rattle.command_line.proofs.Asked.{asked_or_nothing}
-use Rattle.sessions.specs.Modes.{reads_log}
+use Rattle.tasks.specs.Modes.{reads_log}
 use Rattle.colregs_program.specs.Answers.{HoldsUnder, IsOfMigration, IsRefusedBy, greatest_scenario}
 use Rattle.colregs_program.specs.declared.status.Status.{Status}
-use Rattle.command_line.specs.declared.mode.Mode.{Mode}
+use Rattle.tasks.specs.declared.mode.Mode.{Mode}
 use Rattle.colregs_program.proofs.Due.{migration_due}
 use Rattle.colregs_program.proofs.Refusals.{asked_once, asked_twice, asked_where_it_fails, bytes_told, calm_told, drill_status, drill_told, drills_too, entry_told, keeps_same, limit_told, log_calm_told, log_decides, memory_failed, memory_front, met_is, migrates, no_migration, no_report, no_rows_migrated, not_asked, not_set_up, nothing_told, only_finished, own_told, pairs_told, put_told, read_told, reported_met, reported_so, rows_too, runs, set_up_alone, set_up_drills, set_up_limit, set_up_unfinished, shelf_calm_told, stream_alone, stream_limit, targets_told, unread_too, vessels_told, words_alone, words_limit}
 use Rattle.colregs_program.proofs.SettingUp.{options_in_range}
