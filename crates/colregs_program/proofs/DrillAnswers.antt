@@ -5,7 +5,6 @@ use Rattle.tasks.specs.declared.mode.Mode.{Mode}
 use Rattle.tasks.specs.declared.mode.Mode.TheVariants as mode
 use Rattle.sessions.specs.AuditReport.{sightings_of}
 use Rattle.drill_laws.specs.Limits.{MeetsNoLimit}
-use Rattle.tasks.specs.Modes.{reports}
 use Rattle.sessions.specs.Endings.{Came, HasManyTraces, IsAnswerOf}
 use Rattle.sessions.specs.Refusals.{IsMet, IsLogRefused, IsStopped}
 use Rattle.sessions.specs.declared.session_fault.SessionFault.{SessionFault}

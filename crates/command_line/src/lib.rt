@@ -5,6 +5,7 @@
 //! What a mode does has no place here, and no file is looked at.
 #![tactic(auto)]
 
+mod arguments;
 mod colregs;
 mod help;
 pub mod laws;
@@ -12,5 +13,6 @@ mod mode;
 mod number;
 mod request;
 
+pub use arguments::WordsFault;
 pub use help::{Told, told_text, told_word};
-pub use request::{Options, Request, WordsFault, request_of};
+pub use request::{ReportRequest, Request, WindowOptions, request_of};

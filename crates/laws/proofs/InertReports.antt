@@ -228,6 +228,5 @@ module _ (scenario : Scenario) (log less : List ℕ) (front : List (List ℕ)) (
   of_mode mode.Audit why rows text report = of_audit text report
   of_mode mode.Plan why rows text report = of_plan why text report
   of_mode mode.Drill why rows text report = of_drill text report
-  of_mode mode.Migrate why rows text report = absurd report
   of_mode mode.Recheck why rows text report = of_recheck rows text report
   of_mode mode.Watch why rows text report = of_watch text report

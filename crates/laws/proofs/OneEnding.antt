@@ -103,7 +103,6 @@ one_report mode.Points why rows scenario log text other a b = a ∙ sym b
 one_report mode.Audit why rows scenario log text other a b = one_audit_report scenario log text other a b
 one_report mode.Plan why rows scenario log text other a b = one_plan_report why scenario log text other a b
 one_report mode.Drill why rows scenario log text other a b = one_drill_report scenario log text other a b
-one_report mode.Migrate why rows scenario log text other a b = absurd a
 one_report mode.Recheck why rows scenario log text other a b = one_recheck_report rows scenario log text other a b
 one_report mode.Watch why rows scenario log text other a b = one_watch_report scenario log text other a b
 

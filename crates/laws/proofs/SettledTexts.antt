@@ -145,7 +145,6 @@ module _ (fronts : Fronts) where
       begins_is text _ report (goes_on text _ (rows_behind scenario log b.totals) (is_begins text _ _ told (stretches_begin scenario rows b.rows rest.0 rest.1))) b.is
   decided_begins mode.Plan scenario lines more log text report is a why asked b = empty_begins text report a
   decided_begins mode.Drill scenario lines more log text report is a why asked b = empty_begins text report a
-  decided_begins mode.Migrate scenario lines more log text report is a why asked b = empty_begins text report a
   decided_begins mode.Recheck scenario lines more log text report is a why asked b = empty_begins text report a
   decided_begins mode.Watch scenario lines more log text report is (early, are, told) why asked b =
       let all = subst (λ (l : List (List ℕ)). AreAlarms (audit_numbers scenario) (sighted scenario (sent scenario l)) b.alarms) is b.are_alarms in

@@ -31,7 +31,6 @@ IsReport mode.Points why rows scenario log text = text ≡ points_report scenari
 IsReport mode.Audit why rows scenario log text = IsAuditReport scenario log text
 IsReport mode.Plan why rows scenario log text = IsPlanReport why scenario log text
 IsReport mode.Drill why rows scenario log text = IsDrillReport scenario log text
-IsReport mode.Migrate why rows scenario log text = ⊥
 IsReport mode.Recheck why rows scenario log text = IsRecheckReport rows scenario log text
 IsReport mode.Watch why rows scenario log text = IsWatchReport scenario log text
 

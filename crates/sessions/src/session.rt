@@ -5,7 +5,7 @@ ghost use Rattle.scenario_values.specs.ValueRanges.{IsInRange};
 ghost use Rattle.sessions.specs.Endings.{IsAnswerTo, IsEnding};
 ghost use Rattle.sessions.specs.Feeding.{Refuses, TookPiece, UnlessMemory};
 ghost use Rattle.sessions.specs.Inner.Lines.{EndedLine, IsReadyToTake, RefusesLine, RefusesPiece, TookLines};
-ghost use Rattle.tasks.specs.Modes.{needs_own, reports};
+ghost use Rattle.tasks.specs.Modes.{needs_own};
 ghost use Rattle.sessions.specs.SessionScenarios.{scenario_for};
 ghost use Rattle.sessions.specs.Refusals.{IsStopped};
 ghost use Rattle.sessions.specs.PlanReport.{IsSituationOn};
@@ -81,11 +81,10 @@ pub struct Session {
 
 impl Session {
     /// The session of a mode on a scenario, before the first byte. Own ship is needed where she is planned for; any other mode leaves her out,
-    /// so that its window of lines ends a gap behind the last tick. A migration reports on no log.
+    /// so that its window of lines ends a gap behind the last tick.
     pub fn new(alloc: Global, scenario: Scenario, mode: Mode) -> Result<Session, Memory>
         requires in_range { IsInRange scenario }
         requires own { IsTrue (needs_own mode) → IsSome scenario.own }
-        requires reports { IsTrue (reports mode) }
         ensures mode { IfOk result (λ session. mode_of session ≡ mode) }
         ensures scenario { IfOk result (λ session. session_scenario session ≡ scenario_for mode scenario) }
         ensures stands { IfOk result (λ session. StandsFor session [] []) }

@@ -8,18 +8,17 @@ pub data Findings : Type 0 where
   stretches : Findings
   alarms : Findings
 
--- what is examined: each line of a log by itself, the vessels at each tick of the window, own ship at now, or no log
+-- what is examined: each line of a log by itself, the vessels at each tick of the window, own ship at now, or nothing
 pub data Focus : Type 0 where
   each_line : Focus
   each_tick : Findings → Focus
   own_ship : Focus
   nothing : Focus
 
--- the log: the one that is given, one that is made, or none
+-- the log: the one that is given, or one that is made
 pub data LogSource : Type 0 where
   given : LogSource
   made : LogSource
-  no_log : LogSource
 
 -- and whether rows leave before the log's end, and whether rows that say why there is no plan are checked, instead of a search
 pub record Needs : Type 0 where
@@ -28,14 +27,13 @@ pub record Needs : Type 0 where
   pub early : Bool
   pub checks : Bool
 
--- A drill audits the log that it makes, and reports at its end alone. A migration examines the scenario alone. A recheck examines what a plan is
--- sought by. A watch examines the ticks as an audit does.
+-- A drill audits the log that it makes, and reports at its end alone. A recheck examines what a plan is sought by. A watch examines the ticks as
+-- an audit does.
 abbrev pub needs_of : Mode → Needs
 needs_of mode.Points = record { focus = each_line; log = given; early = true; checks = false }
 needs_of mode.Audit = record { focus = each_tick stretches; log = given; early = true; checks = false }
 needs_of mode.Plan = record { focus = own_ship; log = given; early = false; checks = false }
 needs_of mode.Drill = record { focus = each_tick stretches; log = made; early = false; checks = false }
-needs_of mode.Migrate = record { focus = nothing; log = no_log; early = false; checks = false }
 needs_of mode.Recheck = record { focus = own_ship; log = given; early = false; checks = true }
 needs_of mode.Watch = record { focus = each_tick alarms; log = given; early = true; checks = false }
 
@@ -56,11 +54,7 @@ is_own _ = false
 
 abbrev pub is_given : LogSource → Bool
 is_given given = true
-is_given _ = false
-
-abbrev pub is_log : LogSource → Bool
-is_log no_log = false
-is_log _ = true
+is_given made = false
 
 -- Own ship is needed where she is examined.
 abbrev pub needs_own : Mode → Bool
@@ -69,10 +63,6 @@ needs_own mode = is_own (focus_of mode)
 -- Rows that say why there is no plan are needed where they are checked.
 abbrev pub needs_rows : Mode → Bool
 needs_rows mode = (needs_of mode).checks
-
--- There is a report on a log where there is a log.
-abbrev pub reports : Mode → Bool
-reports mode = is_log (needs_of mode).log
 
 -- The log is read where it is given.
 abbrev pub reads_log : Mode → Bool

@@ -1,8 +1,8 @@
-//! The modes, and what each of them needs.
+//! The kinds of tasks, and what each of them needs.
 ghost use Rattle.std.specs.Prelude.{◌≡◌};
-ghost use Rattle.tasks.specs.Modes.{needs_own, needs_rows, reads_log, reports};
+ghost use Rattle.tasks.specs.Modes.{needs_own, needs_rows, reads_log};
 
-/// What the program is to do.
+/// What kind of report there is to be on a log.
 #[derive(Clone, Copy, Debug, PartialEq, Eq)]
 pub enum Mode {
     /// Positions out of a log, as points of the plane.
@@ -13,8 +13,6 @@ pub enum Mode {
     Plan,
     /// A log of forty vessels that is made for the scenario, and the totals of its audit.
     Drill,
-    /// The scenario as one of version 2, with the same meaning.
-    Migrate,
     /// Whether rows say rightly why every plan of own ship fails, without a search.
     Recheck,
     /// Each breach of a rule at the first step that decides it, as soon as the log settles that step.
@@ -35,16 +33,9 @@ pub fn needs_rows(mode: Mode) -> bool
     mode == Mode::Recheck
 }
 
-/// Returns whether the task reports on a log. A migration looks at the scenario alone.
-pub fn reports(mode: Mode) -> bool
-    ensures { result ≡ reports mode }
-{
-    mode != Mode::Migrate
-}
-
 /// Returns whether the task reads the log that it is given. A drill makes its own.
 pub fn reads_log(mode: Mode) -> bool
     ensures { result ≡ reads_log mode }
 {
-    reports(mode) && mode != Mode::Drill
+    mode != Mode::Drill
 }
