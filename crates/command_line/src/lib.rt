@@ -15,4 +15,5 @@ mod request;
 
 pub use arguments::WordsFault;
 pub use help::{Told, told_text, told_word};
+pub use mode::ModeArgument;
 pub use request::{ReportRequest, Request, WindowOptions, request_of};

@@ -8,9 +8,9 @@ ghost use Rattle.command_line.specs.declared.mode.ModeArgument.{ModeArgument};
 use clap::builder::PossibleValue;
 use tasks::Mode;
 
-/// What the argument `mode` names.
+/// What the argument `mode` names: a migration, or the report of a mode.
 #[derive(Clone, Copy, PartialEq, Eq)]
-pub(crate) enum ModeArgument {
+pub enum ModeArgument {
     /// The scenario as one of version 2, with the same meaning.
     Migrate,
     /// The report of this mode.
