@@ -19,28 +19,28 @@ use std::alloc::{AllocError, Global};
 
 /// The options, each of which counts in the modes that use it.
 #[derive(Drop)]
-pub(crate) struct Options {
+pub struct Options {
     /// The start of the window in place of the scenario's, in seconds since the Unix epoch, 0 to 9999999999.
-    pub(crate) start: Option<u64>,
+    pub start: Option<u64>,
     /// The length of the window in place of the scenario's, in ticks, 1 to 20000.
-    pub(crate) ticks: Option<u32>,
+    pub ticks: Option<u32>,
     /// The seed of a drill's log, 0 to 999999.
-    pub(crate) seed: u32,
+    pub seed: u32,
     /// Whether the report is to say why there is no plan.
-    pub(crate) why: bool,
+    pub why: bool,
     /// The name of the file with the rows that say so, which may be empty.
-    pub(crate) rows: Word,
+    pub rows: Word,
 }
 
 /// What the arguments hold: a mode, the name of a scenario, and the options.
 #[derive(Drop)]
-pub(crate) struct Arguments {
+pub struct Arguments {
     /// What to do.
-    pub(crate) mode: ModeArgument,
+    pub mode: ModeArgument,
     /// The name of the scenario, which may be empty.
-    pub(crate) name: Word,
+    pub name: Word,
     /// The options.
-    pub(crate) options: Options,
+    pub options: Options,
 }
 
 /// Why words ask for nothing.

@@ -13,7 +13,7 @@ mod mode;
 mod number;
 mod request;
 
-pub use arguments::WordsFault;
+pub use arguments::{Arguments, Options, WordsFault};
 pub use help::{Told, told_text, told_word};
 pub use mode::ModeArgument;
 pub use request::{ReportRequest, Request, WindowOptions, request_of};
