@@ -36,6 +36,11 @@ pub same_task : (request : ReportRequest) (rows : List ℕ) (m : Mode) (asked : 
     → task_by m asked ≡ task_of request rows
 same_task request rows m asked modes whys are = λ i. record { mode = modes i; why = whys i; rows = are i }
 
+pub cause_alike : (task task' : Task) (scenario : Scenario) (left left' contents contents' : Option (List ℕ)) (because : StreamFault) → task ≡ task'
+    → StreamCause task scenario left left' contents contents' because → StreamCause task' scenario left left' contents contents' because
+cause_alike task task' scenario left left' contents contents' because same cause =
+    subst (λ (t : Task). StreamCause t scenario left left' contents contents' because) same cause
+
 if_some : (P Q : List ℕ → Type 0) (o : Option (List ℕ)) → ((bytes : List ℕ) → P bytes → Q bytes) → IfSome o P → IfSome o Q
 if_some P Q None so p = tt
 if_some P Q (Some bytes) so p = so bytes p
@@ -100,7 +105,7 @@ cause_of_read request rows scenario left left' contents contents' (fault.Unrepor
 -- ---- a log that is made
 
 nothing_in_part : (contents contents' : Option (List ℕ)) (text : List ℕ) → text ≡ [] → AppendsPart contents contents' text → ⊥
-nothing_in_part contents contents' text nothing part = let lt = part.1 in let none : length text ≡ 0 = ap length nothing in omega (arith, lt, none)
+nothing_in_part contents contents' text empty part = let lt = part.1 in let none : length text ≡ 0 = ap length empty in omega (arith, lt, none)
 
 -- what was read of a log that is told is a front of it
 front_left : (m : Mode) (scenario : Scenario) (log : List ℕ) (left' contents contents' : Option (List ℕ)) → LeavesSettled m scenario (Some log) left' contents contents' → GainsFront m scenario log contents contents'

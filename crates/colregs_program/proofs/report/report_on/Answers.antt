@@ -13,7 +13,7 @@ use Rattle.tasks.proofs.ForCallers.{makes_drill}
 use Rattle.colregs_program.specs.AskedScenarios.{log_of, task_of}
 use Rattle.colregs_program.specs.LogAnswers.{Reports}
 use Rattle.colregs_program.specs.Inner.Streaming.{StreamCause}
-use Rattle.colregs_program.proofs.AskedLogs.{cause_of_made, cause_of_read, log_is, log_read, same_task}
+use Rattle.colregs_program.proofs.AskedLogs.{cause_alike, cause_of_made, cause_of_read, log_is, log_read, reported_on, same_task}
 use Rattle.colregs_program.proofs.DrillAnswers.{drill_faults, drill_reports}
 use Rattle.colregs_program.proofs.StreamedReports.{none_begun}
 use Rattle.colregs_program.proofs.report.report_on.Goals as goal
@@ -24,11 +24,11 @@ write_report-requires-clause-own g c = subst (λ (m : Mode). IsTrue (needs_own m
 pub write_report-requires-clause-unneeded : goal.write_report-requires-clause-unneeded
 write_report-requires-clause-unneeded g c = subst (λ (m : Mode). needs_own m ≡ false → c.args.set_up.scenario.own ≡ None) (sym c.mode-mode.ensures) c.requires.unneeded
 
-pub write_report-requires-in-None-clause-own : goal.write_report-requires-in-None-clause-own
-write_report-requires-in-None-clause-own g c = subst (λ (m : Mode). IsTrue (needs_own m) → IsSome c.args.set_up.scenario.own) (sym c.mode-mode.ensures) c.requires.own
+pub write_report-requires-2-clause-own : goal.write_report-requires-2-clause-own
+write_report-requires-2-clause-own g c = subst (λ (m : Mode). IsTrue (needs_own m) → IsSome c.args.set_up.scenario.own) (sym c.mode-mode.ensures) c.requires.own
 
-pub write_report-requires-in-None-clause-unneeded : goal.write_report-requires-in-None-clause-unneeded
-write_report-requires-in-None-clause-unneeded g c = subst (λ (m : Mode). needs_own m ≡ false → c.args.set_up.scenario.own ≡ None) (sym c.mode-mode.ensures) c.requires.unneeded
+pub write_report-requires-2-clause-unneeded : goal.write_report-requires-2-clause-unneeded
+write_report-requires-2-clause-unneeded g c = subst (λ (m : Mode). needs_own m ≡ false → c.args.set_up.scenario.own ≡ None) (sym c.mode-mode.ensures) c.requires.unneeded
 
 -- ---- a log that is read
 
@@ -41,7 +41,7 @@ returns-in-None-clause-report g c =
 pub returns-in-None-clause-cause : goal.returns-in-None-clause-cause
 returns-in-None-clause-cause g c =
     IfErr-weaker c.write_report.result _ _ (λ because cause. cause_of_read c.args.request.now c.args.set_up.rows.items c.args.set_up.scenario (g.S.Source.left c.args.log.now) _ _ _ because c.in-None.ensures
-    (subst (λ (t : Task). StreamCause t c.args.set_up.scenario _ _ _ _ because) (same_task c.args.request.now c.args.set_up.rows.items c.mode-mode.result (record { why = c.says_why.result; rows = c.as_slice.result }) c.mode-mode.ensures c.says_why.ensures c.as_slice.ensures.value) cause)) c.write_report.ensures.cause
+    (cause_alike _ _ c.args.set_up.scenario _ _ _ _ because (same_task c.args.request.now c.args.set_up.rows.items c.mode-mode.result (record { why = c.says_why.result; rows = c.as_slice.result }) c.mode-mode.ensures c.says_why.ensures c.as_slice.ensures.value) cause)) c.write_report.ensures.cause
 
 -- ---- a log that is made
 
@@ -60,7 +60,7 @@ pub returns-clause-cause : goal.returns-clause-cause
 returns-clause-cause g c =
     rw c.made_fault.ensures
     (cause_of_made c.args.request.now c.args.set_up.rows.items c.args.set_up.scenario (g.S.Source.left c.args.log.now) c.in-Some.ensures.0 c.in_ok-made.made.left (c.in_ok-made.ensures.left ∙ ap (drill_log_of c.args.set_up.scenario) c.in-Some.ensures.1) _ _ _ _ c.in-Err.fault
-    (subst (λ (t : Task). StreamCause t c.args.set_up.scenario _ _ _ _ c.in-Err.fault) (same_task c.args.request.now c.args.set_up.rows.items c.mode-mode.result (record { why = c.says_why.result; rows = c.as_slice.result }) c.mode-mode.ensures c.says_why.ensures c.as_slice.ensures.value) c.in-Err.ensures.cause))
+    (cause_alike _ _ c.args.set_up.scenario _ _ _ _ c.in-Err.fault (same_task c.args.request.now c.args.set_up.rows.items c.mode-mode.result (record { why = c.says_why.result; rows = c.as_slice.result }) c.mode-mode.ensures c.says_why.ensures c.as_slice.ensures.value) c.in-Err.ensures.cause))
 
 pub returns-clause-drill : goal.returns-clause-drill
 returns-clause-drill g c = λ makes.
