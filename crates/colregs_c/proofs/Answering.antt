@@ -2,14 +2,15 @@
 use Rattle.std.proofs.Common.{ℕ, ◌≡◌, ◌≢◌, ◌≤◌, ◌+◌, ◌⊎◌, inl, inr, IsTrue, Bool, true, false, List, [], ◌++◌, length, Option, Some, None, refl, sym, subst, ap, arith}
 use Rattle.std.specs.Prelude.{IfSome}
 use Rattle.std.specs.Io.KnownBytes.{Appends, Keeps}
-use Rattle.command_line.specs.declared.request.Request.{Request}
+use Rattle.command_line.specs.declared.request.ReportRequest.{ReportRequest}
 use Rattle.outside.specs.Causes.{Rose, one_more}
 use Rattle.outside.specs.Shelves.{Files}
 use Rattle.outside.specs.WholeReading.{StopsAt}
 use Rattle.outside.specs.declared.whole.ReadFault.TheVariants as read
 use Rattle.scenario_values.specs.declared.values.Scenario.{Scenario}
 use Rattle.sessions.specs.Endings.{IsEnding}
-use Rattle.sessions.specs.Modes.{reads_log}
+use Rattle.tasks.specs.Modes.{reads_log}
+use Rattle.tasks.specs.Tasks.{task_mode}
 use Rattle.sessions.specs.Tasks.{Task}
 use Rattle.colregs_program.specs.Answers.{EndsWith, IsDue, IsReadBy, Migrates, Runs, StopsWith, WritesNothing}
 use Rattle.colregs_program.specs.AskedScenarios.{log_of, task_of}
@@ -37,13 +38,13 @@ if_some None P Q more holds = holds
 if_some (Some bytes) P Q more holds = more bytes holds
 
 -- the same run, of which less is said
-runs_also : (words : List (List ℕ)) (files : Files) (Q : Request → Type 0) (P P' : Request → List ℕ → Scenario → Type 0)
-    → ((request : Request) (rows : List ℕ) (scenario : Scenario) → P request rows scenario → P' request rows scenario)
+runs_also : (words : List (List ℕ)) (files : Files) (Q : ReportRequest → Type 0) (P P' : ReportRequest → List ℕ → Scenario → Type 0)
+    → ((request : ReportRequest) (rows : List ℕ) (scenario : Scenario) → P request rows scenario → P' request rows scenario)
     → Runs words (Some files) Q P → Runs words (Some files) (λ _. Unit {0}) P'
 runs_also words files Q P P' more runs =
-    let under = runs.2.2 in
+    let under = runs.2.1 in
     let held = under.2 in
-    (runs.0, runs.1, (runs.2.0, tt, (under.0, under.1, (held.0, held.1, held.2, held.3, more runs.0 held.2 held.0 held.4))))
+    (runs.0, runs.1, (tt, (under.0, under.1, (held.0, held.1, held.2, held.3, more runs.0 held.2 held.0 held.4))))
 
 -- what a sink that was empty has gained
 gained_all : (text gained : List ℕ) → Appends (Some []) (Some text) gained → text ≡ gained
@@ -51,13 +52,13 @@ gained_all text gained appends = appends
 
 -- what `run` says of an answer if a call's shelf and log are known, and what a sink holds before and after it
 pub record Says (call : Call) (files : Option Files) (before after : Option (List ℕ)) (left : Option (List ℕ)) (answer : Status) : Type 0 where
-  pub headline : IsTrue (IsFinished answer) → Runs call.arguments files (λ request. IsReadBy request.mode left)
+  pub headline : IsTrue (IsFinished answer) → Runs call.arguments files (λ request. IsReadBy (task_mode request.task) left)
       (λ request rows scenario. IfSome (log_of request scenario (Some call.log)) (λ bytes. IsAnswered (task_of request rows) scenario bytes answer
       × GainsReport (task_of request rows) scenario bytes before after))
       ⊎ ((answer ≡ status.Done) × Migrates call.arguments files (λ text. Appends before after text))
   pub due : (due : Status) → IsDue call.arguments files (Some call.log) due → answer ≡ due
   pub log_limit : (most : ℕ) → answer ≡ status.Limit which.Log most → Runs call.arguments files
-      (λ request. IsTrue (reads_log request.mode) → StopsAt most 0 (Some call.log) left read.TooLong)
+      (λ request. IsTrue (reads_log (task_mode request.task)) → StopsAt most 0 (Some call.log) left read.TooLong)
       (λ request rows scenario. (most ≡ scenario.log.max_bytes) × StopsWith request scenario (Some call.log) before after (status.Limit which.Log most))
   pub vessel_limit : (most : ℕ) → answer ≡ status.Limit which.Vessels most → Runs call.arguments files (λ _. Unit {0})
       (λ request rows scenario. StopsWith request scenario (Some call.log) before after (status.Limit which.Vessels most)
@@ -73,7 +74,7 @@ module _ (call : Call) (text : List ℕ) (left : Option (List ℕ)) where
   abbrev Said : Status → Type 0
   Said = Says call (files_of call) (Some []) (Some text) left
 
-  report_of : (answer : Status) → Runs call.arguments (files_of call) (λ request. IsReadBy request.mode left)
+  report_of : (answer : Status) → Runs call.arguments (files_of call) (λ request. IsReadBy (task_mode request.task) left)
       (λ request rows scenario. IfSome (log_of request scenario (Some call.log)) (λ bytes. IsAnswered (task_of request rows) scenario bytes answer
       × GainsReport (task_of request rows) scenario bytes (Some []) (Some text)))
       ⊎ ((answer ≡ status.Done) × Migrates call.arguments (files_of call) (λ migrated. Appends (Some []) (Some text) migrated)) → IsReportOf call answer text
@@ -81,10 +82,10 @@ module _ (call : Call) (text : List ℕ) (left : Option (List ℕ)) where
       inl (runs_also call.arguments _ _ _ _ (λ request rows scenario. if_some (log_of request scenario (Some call.log)) _ _ (λ bytes holds.
       (holds.0, subst (λ (t : List ℕ). IsEnding (task_of request rows) scenario bytes t) (sym (gained_all text holds.1.text holds.1.gained)) holds.1.is))) runs)
   report_of answer (inr (done, migrates)) =
-      let under = migrates.2.1 in
-      inr (done, (migrates.0, migrates.1, (migrates.2.0, (under.0, under.1, (under.2.0, under.2.1, under.2.2, gained_all text under.2.1 under.2.3)))))
+      let under = migrates.2 in
+      inr (done, (migrates.0, migrates.1, (under.0, under.1, (under.2.0, under.2.1, under.2.2, gained_all text under.2.1 under.2.3))))
 
-  also_ended : (request : Request) (rows : List ℕ) (scenario : Scenario) (answer : Status)
+  also_ended : (request : ReportRequest) (rows : List ℕ) (scenario : Scenario) (answer : Status)
       → StopsWith request scenario (Some call.log) (Some []) (Some text) answer ⊎ EndsWith request rows scenario (Some call.log) left (Some []) (Some text) answer
       → StopsWith request scenario (Some call.log) (Some []) (Some text) answer
       ⊎ ((left' : Option (List ℕ)) × EndsWith request rows scenario (Some call.log) left' (Some []) (Some text) answer)

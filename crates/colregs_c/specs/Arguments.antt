@@ -2,10 +2,15 @@
 use Rattle.std.specs.Prelude.{ℕ, ◌≡◌, ◌==◌, ◌-◌, ◌^◌, ◌&&◌, ◌||◌, ◌++◌, Bool, true, false, not, nat_le, nat_lt, codes, List, [], ◌∷◌, map, unwrap_or, slice_get, Option, Some, None, if◌then◌else◌}
 use Rattle.std.specs.List.{flat_map}
 use Rattle.command_line.specs.CommandLine.{Setting, Value, a_flag, a_number, mode_text, modes, seed, start, ticks, why}
-use Rattle.command_line.specs.Requests.{setting_words}
-use Rattle.command_line.specs.declared.mode.Mode.{Mode}
-use Rattle.command_line.specs.declared.request.Options.{Options}
+use Rattle.command_line.specs.GivenArguments.{setting_words}
+use Rattle.command_line.specs.Requests.{task_by}
+use Rattle.command_line.specs.declared.mode.ModeArgument.{ModeArgument}
+use Rattle.command_line.specs.declared.mode.ModeArgument.TheVariants as argument
 use Rattle.command_line.specs.declared.request.Request.{Request}
+use Rattle.command_line.specs.declared.request.Request.TheVariants as asks
+use Rattle.command_line.specs.declared.request.WindowOptions.{WindowOptions}
+use Rattle.tasks.specs.declared.mode.Mode.{Mode}
+use Rattle.tasks.specs.declared.task.Task.{Task}
 use Rattle.colregs_c.specs.declared.numbers.OptionNumbers.{OptionNumbers}
 
 -- the number that stands for the scenario's own start
@@ -18,7 +23,7 @@ are_in_range options =
     (nat_le options.start 9999999999 || (options.start == own_start)) && (nat_le options.ticks 20000 && (nat_le options.seed 999999 && nat_le options.flags 1))
 
 -- the mode that a call asks for, by its number; none where a number is out of its range
-abbrev pub asked_mode : ℕ → OptionNumbers → Option Mode
+abbrev pub asked_mode : ℕ → OptionNumbers → Option ModeArgument
 asked_mode number options = if are_in_range options then slice_get modes number else None
 
 -- ---- the options that are given, each with its value
@@ -44,14 +49,16 @@ arguments_of mode options = mode ∷ codes "scenario.toml" ∷ flat_map setting_
 
 -- ---- what they ask for
 
-abbrev pub options_of : OptionNumbers → Options
-options_of options = record {
+abbrev pub window_of : OptionNumbers → WindowOptions
+window_of options = record {
   start = if options.start == own_start then None else Some options.start;
   ticks = if options.ticks == 0 then None else Some options.ticks;
-  seed = options.seed;
-  why = not (options.flags == 0);
-  rows = codes "why.csv";
 }
 
-abbrev pub request_of : Mode → OptionNumbers → Request
-request_of mode options = record { mode = mode; name = codes "scenario.toml"; options = options_of options }
+abbrev pub task_with : Mode → OptionNumbers → Task
+task_with mode options = task_by mode options.seed (not (options.flags == 0)) (codes "why.csv")
+
+abbrev pub request_of : ModeArgument → OptionNumbers → Request
+request_of argument.Migrate options = asks.Migration (codes "scenario.toml")
+request_of (argument.Report mode) options =
+    asks.Report (record { task = task_with mode options; name = codes "scenario.toml"; window = window_of options })

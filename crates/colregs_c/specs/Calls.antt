@@ -10,7 +10,7 @@ use Rattle.colregs_program.specs.declared.status.Status.{Status}
 use Rattle.colregs_program.specs.declared.status.Status.TheVariants as status
 use Rattle.sessions.specs.Endings.{IsEnding}
 use Rattle.command_line.specs.CommandLine.{mode_text}
-use Rattle.command_line.specs.declared.mode.Mode.{Mode}
+use Rattle.command_line.specs.declared.mode.ModeArgument.{ModeArgument}
 use Rattle.colregs_c.specs.Arguments.{arguments_of}
 use Rattle.colregs_c.specs.Rooms.{Fills}
 use Rattle.colregs_c.specs.declared.numbers.OptionNumbers.{OptionNumbers}
@@ -23,7 +23,7 @@ pub record Call : Type 0 where
   pub log : List ℕ
 
 -- the call of a mode with these options
-abbrev pub call_of : Mode → OptionNumbers → List ℕ → List ℕ → List ℕ → Call
+abbrev pub call_of : ModeArgument → OptionNumbers → List ℕ → List ℕ → List ℕ → Call
 call_of mode options scenario log rows = record { arguments = arguments_of (mode_text mode) options; scenario = scenario; rows = rows; log = log }
 
 -- the shelf of a call: the scenario and the rows, under the names that the arguments give them

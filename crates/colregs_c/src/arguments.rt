@@ -2,7 +2,7 @@
 ghost use Rattle.std.specs.Prelude.{◌≡◌, ◌++◌, ◌∷◌, [], IfOk, OnOk};
 ghost use Rattle.std.specs.Fmt.{decimal};
 ghost use Rattle.std.specs.List.{flat_map};
-ghost use Rattle.command_line.specs.Requests.{setting_words};
+ghost use Rattle.command_line.specs.GivenArguments.{setting_words};
 ghost use Rattle.colregs_c.specs.Arguments.{arguments_of, start_given, ticks_given, why_given};
 
 use crate::numbers::{OWN_START, OWN_TICKS, OptionNumbers};

@@ -15,10 +15,9 @@ pub mod laws;
 mod numbers;
 mod running;
 
-pub use numbers::{OWN_START, OWN_TICKS, OptionNumbers};
-
 use crate::running::end_of_call;
 use colregs_program::Status;
+pub use numbers::{OWN_START, OWN_TICKS, OptionNumbers};
 use out_of_memory::Memory;
 use std::alloc::Global;
 
@@ -61,11 +60,15 @@ pub extern "C" fn colregs_report(
     fault_length: &mut usize,
 ) -> u8
     ensures { let left = record {
-            result = result;
-            room = out.old; room' = out.new; length = length.new;
-            line_room = fault.old; line_room' = fault.new; line_length = fault_length.new;
-        } in MatchOption (asked_mode mode options.now) (Refuses left)
-            (λ asked. Leaves (call_of asked options.now scenario.now log.now rows.now) left) }
+      result = result;
+      room = out.old;
+      room' = out.new;
+      length = length.new;
+      line_room = fault.old;
+      line_room' = fault.new;
+      line_length = fault_length.new;
+    } in MatchOption (asked_mode mode options.now) (Refuses left)
+        (λ asked. Leaves (call_of asked options.now scenario.now log.now rows.now) left) }
 {
     match end_of_call(alloc, mode, options, scenario, log, rows) {
         Ok(end) => {

@@ -3,7 +3,8 @@ ghost use Rattle.std.specs.Prelude.{◌≡◌, ◌==◌, ◌||◌, nat_le, slice
 ghost use Rattle.command_line.specs.CommandLine.{mode_text, modes};
 ghost use Rattle.colregs_c.specs.Arguments.{are_in_range, asked_mode, own_start};
 
-use colregs_program::Mode;
+use command_line::ModeArgument;
+use tasks::Mode;
 
 /// The number that stands for the scenario's own start.
 pub const OWN_START: u64 = 18446744073709551615;
@@ -11,8 +12,11 @@ pub const OWN_START: u64 = 18446744073709551615;
 pub const OWN_TICKS: u32 = 0;
 
 const GREATEST_START: u64 = 9_999_999_999;
+
 const MOST_TICKS: u32 = 20_000;
+
 const GREATEST_SEED: u32 = 999_999;
+
 const GREATEST_FLAGS: u32 = 1;
 
 /// The options of a call.
@@ -47,23 +51,23 @@ fn are_options(options: &OptionNumbers) -> bool
 }
 
 /// Returns the mode with this number.
-fn mode_at(number: u32) -> Option<Mode>
+fn mode_at(number: u32) -> Option<ModeArgument>
     ensures { result ≡ slice_get modes number }
 {
     match number {
-        0 => Some(Mode::Points),
-        1 => Some(Mode::Audit),
-        2 => Some(Mode::Plan),
-        3 => Some(Mode::Drill),
-        4 => Some(Mode::Migrate),
-        5 => Some(Mode::Recheck),
-        6 => Some(Mode::Watch),
+        0 => Some(ModeArgument::Report(Mode::Points)),
+        1 => Some(ModeArgument::Report(Mode::Audit)),
+        2 => Some(ModeArgument::Report(Mode::Plan)),
+        3 => Some(ModeArgument::Report(Mode::Drill)),
+        4 => Some(ModeArgument::Migrate),
+        5 => Some(ModeArgument::Report(Mode::Recheck)),
+        6 => Some(ModeArgument::Report(Mode::Watch)),
         _ => None,
     }
 }
 
 /// Returns the mode that a call asks for, or nothing if a number is out of its range.
-pub(crate) fn mode_asked(number: u32, options: &OptionNumbers) -> Option<Mode>
+pub(crate) fn mode_asked(number: u32, options: &OptionNumbers) -> Option<ModeArgument>
     ensures { result ≡ asked_mode number options.now }
 {
     if are_options(options) {
@@ -74,16 +78,16 @@ pub(crate) fn mode_asked(number: u32, options: &OptionNumbers) -> Option<Mode>
 }
 
 /// Returns the name of a mode.
-pub(crate) fn mode_name(mode: Mode) -> &'static str
+pub(crate) fn mode_name(mode: ModeArgument) -> &'static str
     ensures { result.now ≡ mode_text mode }
 {
     match mode {
-        Mode::Points => "points",
-        Mode::Audit => "audit",
-        Mode::Plan => "plan",
-        Mode::Drill => "drill",
-        Mode::Migrate => "migrate",
-        Mode::Recheck => "recheck",
-        Mode::Watch => "watch",
+        ModeArgument::Report(Mode::Points) => "points",
+        ModeArgument::Report(Mode::Audit) => "audit",
+        ModeArgument::Report(Mode::Plan) => "plan",
+        ModeArgument::Report(Mode::Drill) => "drill",
+        ModeArgument::Migrate => "migrate",
+        ModeArgument::Report(Mode::Recheck) => "recheck",
+        ModeArgument::Report(Mode::Watch) => "watch",
     }
 }

@@ -7,7 +7,8 @@ ghost use Rattle.colregs_c.specs.Inner.Ends.{AreWhole, IsEndOf, IsRefusal};
 use crate::arguments::arguments_for;
 use crate::devices::{GatheredText, LentLog};
 use crate::numbers::{OptionNumbers, mode_asked, mode_name};
-use colregs_program::{Mode, Status, run};
+use colregs_program::{Status, run};
+use command_line::ModeArgument;
 use out_of_memory::Memory;
 use outside::{PlainShelf, Word};
 use std::alloc::Global;
@@ -63,27 +64,24 @@ fn run_with(
     rows: &[u8],
 ) -> Result<Ended, Memory>
     ensures { IfOk result (IsEndOf (record {
-        arguments = words.now; scenario = scenario.now; rows = rows.now; log = log.now })) }
+      arguments = words.now;
+      scenario = scenario.now;
+      rows = rows.now;
+      log = log.now;
+    })) }
 {
     let mut shelf = shelf_of(alloc, scenario, rows)?;
     let mut source = LentLog { rest: log };
     let mut out = GatheredText::new(alloc);
     let mut err = GatheredText::new(alloc);
-    let status = run(
-        alloc,
-        words,
-        &mut shelf,
-        &mut source,
-        &mut out,
-        &mut err,
-    );
+    let status = run(alloc, words, &mut shelf, &mut source, &mut out, &mut err);
     end_of(status, out, err)
 }
 
 /// Runs the program with the arguments for this mode and these options.
 fn run_over(
     alloc: Global,
-    mode: Mode,
+    mode: ModeArgument,
     options: &OptionNumbers,
     scenario: &[u8],
     log: &[u8],

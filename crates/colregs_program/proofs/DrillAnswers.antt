@@ -1,11 +1,10 @@
 -- A drill meets no limit but that of its log.
 use Rattle.std.proofs.Common.{ℕ, ◌≡◌, ◌⊎◌, inl, inr, Bool, false, IsTrue, List, [], take, Option, Some, Ok, Err, refl, subst}
 use Rattle.scenario_values.specs.declared.values.Scenario.{Scenario}
-use Rattle.command_line.specs.declared.mode.Mode.{Mode}
-use Rattle.command_line.specs.declared.mode.Mode.TheVariants as mode
+use Rattle.tasks.specs.declared.mode.Mode.{Mode}
+use Rattle.tasks.specs.declared.mode.Mode.TheVariants as mode
 use Rattle.sessions.specs.AuditReport.{sightings_of}
 use Rattle.drill_laws.specs.Limits.{MeetsNoLimit}
-use Rattle.sessions.specs.Modes.{reports}
 use Rattle.sessions.specs.Endings.{Came, HasManyTraces, IsAnswerOf}
 use Rattle.sessions.specs.Refusals.{IsMet, IsLogRefused, IsStopped}
 use Rattle.sessions.specs.declared.session_fault.SessionFault.{SessionFault}

@@ -1,5 +1,5 @@
 -- Why a migration is refused is what the bytes under the name call for.
-use Rattle.std.proofs.Common.{ℕ, ◌≡◌, ◌<◌, ◌⊎◌, inl, inr, length, Option, None, Some, Result, Ok, Err, Vec, refl, ap, sym, subst, arith}
+use Rattle.std.proofs.Common.{ℕ, List, ◌≡◌, ◌<◌, ◌⊎◌, inl, inr, length, Option, None, Some, Result, Ok, Err, Vec, refl, ap, sym, subst, arith}
 use Rattle.std.specs.declared.alloc.Global.{Global}
 use Rattle.outside.specs.Shelves.{Fetches, Files}
 use Rattle.outside.specs.declared.shelf.Fetched.TheVariants as fetched
@@ -8,12 +8,9 @@ use Rattle.scenario_keys.specs.declared.key.Key.{Key}
 use Rattle.scenario_keys.specs.declared.cause.Cause.{Cause}
 use Rattle.scenario_keys.specs.declared.fault.ScenarioFault.{ScenarioFault}
 use Rattle.scenario_keys.specs.declared.fault.ScenarioFault.TheVariants as refusal
-use Rattle.command_line.specs.declared.mode.Mode.{Mode}
-use Rattle.command_line.specs.declared.mode.Mode.TheVariants as mode
-use Rattle.command_line.specs.declared.request.Request.{Request}
-use Rattle.colregs_program.specs.Answers.{CanMigrate, IsRefusedBy, greatest_scenario}
-use Rattle.colregs_program.specs.Inner.Migrating.{IsLong, IsMigrationDue, IsRefusal, MayBe}
-use Rattle.colregs_program.specs.Inner.SetUps.{SetUpCause, answer_of, set_up_fault}
+use Rattle.colregs_program.specs.Answers.{CanMigrate, greatest_scenario}
+use Rattle.colregs_program.specs.Inner.Migrating.{IsLong, IsMigrationDue, IsRefusal, MayBe, MigrationCause}
+use Rattle.colregs_program.specs.Inner.SetUps.{answer_of, set_up_fault}
 use Rattle.colregs_program.specs.declared.set_up.SetUpFault.TheVariants as fault
 use Rattle.colregs_program.specs.declared.status.Status.{Status}
 use Rattle.colregs_program.specs.declared.status.Status.TheVariants as status
@@ -29,7 +26,7 @@ gave text = Ok text
 abbrev pub failed : ScenarioFault → Result (Vec ℕ Global) ScenarioFault
 failed why = Err why
 
-module _ (request : Request) (v : Vec ℕ Global) (why : ScenarioFault)
+module _ (name : List ℕ) (v : Vec ℕ Global) (why : ScenarioFault)
     (refused : (key : Key) (cause : Cause) → failed why ≡ Err (refusal.Fault key cause) → IsNotMigrated v.items key cause)
     (told : (key : Key) (cause : Cause) → IsNotMigrated v.items key cause → (failed why ≡ Err (refusal.Fault key cause)) ⊎ (failed why ≡ Err refusal.Memory)) where
   can_not : (w : ScenarioFault) → why ≡ w → CanMigrate v.items → IsAnswered w status.Done
@@ -40,62 +37,58 @@ module _ (request : Request) (v : Vec ℕ Global) (why : ScenarioFault)
   told_so key cause (inl same) = let is : why ≡ refusal.Fault key cause = cc same in rw is (inl refl)
   told_so key cause (inr same) = let is : why ≡ refusal.Memory = cc same in rw is (inr refl)
 
-  held_due : (held : Files) → Fetches (Some held) request.name greatest_scenario (fetched.Bytes v) → (due : Status) → IsMigrationDue request (Some held) due → IsAnswered why due
+  held_due : (held : Files) → Fetches (Some held) name greatest_scenario (fetched.Bytes v) → (due : Status) → IsMigrationDue name (Some held) due → IsAnswered why due
   held_due held fetch due (inl (is, missing)) = cc (missing, fetch.0)
   held_due held fetch due (inr (inl (is, lies))) =
-      let long : greatest_scenario < length v.items = of_found held request.name v.items IsLong fetch.0 lies in
+      let long : greatest_scenario < length v.items = of_found held name v.items IsLong fetch.0 lies in
       absurd (omega (arith, long, fetch.1))
   held_due held fetch due (inr (inr (inl (key, cause, is, lies)))) =
-      subst (IsAnswered why) (sym is) (told_so key cause (told key cause (of_found held request.name v.items (IsRefusal key cause) fetch.0 lies).1))
+      subst (IsAnswered why) (sym is) (told_so key cause (told key cause (of_found held name v.items (IsRefusal key cause) fetch.0 lies).1))
   held_due held fetch due (inr (inr (inr (is, lies)))) =
-      subst (IsAnswered why) (sym is) (can_not why refl (of_found held request.name v.items MayBe fetch.0 lies).1)
+      subst (IsAnswered why) (sym is) (can_not why refl (of_found held name v.items MayBe fetch.0 lies).1)
 
   -- where the shelf tells nothing, nothing is due
-  untold : (due : Status) → IsMigrationDue request None due → IsAnswered why due
+  untold : (due : Status) → IsMigrationDue name None due → IsAnswered why due
   untold due (inl (is, missing)) = absurd missing
   untold due (inr (inl (is, lies))) = cc lies.2
   untold due (inr (inr (inl (key, cause, is, lies)))) = cc lies.2
   untold due (inr (inr (inr (is, lies)))) = cc lies.2
 
-  pub refused_due : (files : Option Files) → Fetches files request.name greatest_scenario (fetched.Bytes v) → (due : Status) → IsMigrationDue request files due → IsAnswered why due
+  pub refused_due : (files : Option Files) → Fetches files name greatest_scenario (fetched.Bytes v) → (due : Status) → IsMigrationDue name files due → IsAnswered why due
   refused_due None fetch due is = untold due is
   refused_due (Some held) fetch due is = held_due held fetch due is
 
 -- ---- what a migration came to
 
-module _ (request : Request) (v text : Vec ℕ Global)
+module _ (name : List ℕ) (v text : Vec ℕ Global)
     (told : (key : Key) (cause : Cause) → IsNotMigrated v.items key cause → (gave text ≡ Err (refusal.Fault key cause)) ⊎ (gave text ≡ Err refusal.Memory)) where
-  held_done : (held : Files) → Fetches (Some held) request.name greatest_scenario (fetched.Bytes v) → (due : Status) → IsMigrationDue request (Some held) due → due ≡ status.Done
+  held_done : (held : Files) → Fetches (Some held) name greatest_scenario (fetched.Bytes v) → (due : Status) → IsMigrationDue name (Some held) due → due ≡ status.Done
   held_done held fetch due (inl (is, missing)) = cc (missing, fetch.0)
   held_done held fetch due (inr (inl (is, lies))) =
-      let long : greatest_scenario < length v.items = of_found held request.name v.items IsLong fetch.0 lies in
+      let long : greatest_scenario < length v.items = of_found held name v.items IsLong fetch.0 lies in
       absurd (omega (arith, long, fetch.1))
-  held_done held fetch due (inr (inr (inl (key, cause, is, lies)))) = none (told key cause (of_found held request.name v.items (IsRefusal key cause) fetch.0 lies).1)
+  held_done held fetch due (inr (inr (inl (key, cause, is, lies)))) = none (told key cause (of_found held name v.items (IsRefusal key cause) fetch.0 lies).1)
     where
       none : {A : Type 0} → (gave text ≡ Err (refusal.Fault key cause)) ⊎ (gave text ≡ Err refusal.Memory) → A
       none (inl is) = cc is
       none (inr is) = cc is
   held_done held fetch due (inr (inr (inr (is, lies)))) = is
 
-  untold_done : (due : Status) → IsMigrationDue request None due → due ≡ status.Done
+  untold_done : (due : Status) → IsMigrationDue name None due → due ≡ status.Done
   untold_done due (inl (is, missing)) = absurd missing
   untold_done due (inr (inl (is, lies))) = cc lies.2
   untold_done due (inr (inr (inl (key, cause, is, lies)))) = cc lies.2
   untold_done due (inr (inr (inr (is, lies)))) = is
 
-  pub migrated_due : (files : Option Files) → Fetches files request.name greatest_scenario (fetched.Bytes v) → (due : Status) → IsMigrationDue request files due → due ≡ status.Done
+  pub migrated_due : (files : Option Files) → Fetches files name greatest_scenario (fetched.Bytes v) → (due : Status) → IsMigrationDue name files due → due ≡ status.Done
   migrated_due None fetch due is = untold_done due is
   migrated_due (Some held) fetch due is = held_done held fetch due is
 
 -- ---- why a migration failed
 
-pub cause_of : (request : Request) (files : Option Files) (v : Vec ℕ Global) (before now : ℕ) (why : ScenarioFault) → request.mode ≡ mode.Migrate
-    → Fetches files request.name greatest_scenario (fetched.Bytes v) → ((key : Key) (cause : Cause) → failed why ≡ Err (refusal.Fault key cause) → IsNotMigrated v.items key cause)
-    → SetUpCause request files before now (set_up_fault why)
-cause_of request files v before now refusal.Memory migrates fetch refused = tt
-cause_of request None v before now (refusal.Fault key cause) migrates fetch refused = tt
-cause_of request (Some held) v before now (refusal.Fault key cause) migrates fetch refused = (
-  v.items,
-  fetch.0,
-  (fetch.1, subst (λ (m : Mode). IsRefusedBy m v.items key cause) (sym migrates) (refused key cause refl)),
-)
+pub cause_of : (name : List ℕ) (files : Option Files) (v : Vec ℕ Global) (before now : ℕ) (why : ScenarioFault)
+    → Fetches files name greatest_scenario (fetched.Bytes v) → ((key : Key) (cause : Cause) → failed why ≡ Err (refusal.Fault key cause) → IsNotMigrated v.items key cause)
+    → MigrationCause name files before now (set_up_fault why)
+cause_of name files v before now refusal.Memory fetch refused = tt
+cause_of name None v before now (refusal.Fault key cause) fetch refused = tt
+cause_of name (Some held) v before now (refusal.Fault key cause) fetch refused = (v.items, fetch.0, (fetch.1, refused key cause refl))

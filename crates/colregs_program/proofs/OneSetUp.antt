@@ -2,14 +2,16 @@
 use Rattle.std.proofs.Common.{ℕ, ◌≡◌, ◌≤◌, ◌<◌, ◌∙◌, inl, inr, Bool, true, false, IsTrue, List, length, Option, Some, Result, Ok, Err, refl, ap, sym, subst, arith}
 use Rattle.outside.specs.Shelves.{Files, content_of}
 use Rattle.command_line.specs.Requests.{AskFor}
-use Rattle.command_line.specs.declared.request.Request.{Request}
+use Rattle.command_line.specs.declared.request.ReportRequest.{ReportRequest}
+use Rattle.command_line.specs.declared.request.Request.TheVariants as asks
 use Rattle.scenario.specs.ScenarioReading.{IsRefused}
 use Rattle.scenario_values.specs.declared.values.Scenario.{Scenario}
 use Rattle.scenario.proofs.ForCallers.{meant_or_refused, one_meaning, one_refusal}
 use Rattle.scenario_keys.specs.declared.key.Key.{Key}
 use Rattle.scenario_keys.specs.declared.cause.Cause.{Cause}
-use Rattle.sessions.specs.Modes.{needs_own, needs_rows, reports}
-use Rattle.colregs_program.specs.Answers.{HasScenario, IsDue, IsRefusedBy, IsRefusedFor, IsScenario, LiesUnder, greatest_scenario}
+use Rattle.tasks.specs.Modes.{needs_own, needs_rows}
+use Rattle.tasks.specs.Tasks.{task_mode, task_rows}
+use Rattle.colregs_program.specs.Answers.{HasScenario, IsDue, IsScenario, LiesUnder, greatest_scenario}
 use Rattle.colregs_program.specs.AskedScenarios.{task_of, with_options}
 use Rattle.colregs_program.specs.LogAnswers.{IsAnswered}
 use Rattle.colregs_program.specs.Inner.Migrating.{IsLong}
@@ -33,15 +35,12 @@ both_lie files name P Q (held, text, is, content, p) (other, there, is', content
 
 -- ---- setting up comes to one thing
 
-module _ (request : Request) (files : Option Files) (reporting : IsTrue (reports request.mode)) where
-  refused : (text : List ℕ) (key : Key) (cause : Cause) → IsRefusedBy request.mode text key cause → IsRefused (needs_own request.mode) text key cause
-  refused text key cause is = subst (λ (b : Bool). IsRefusedFor b request.mode text key cause) reporting is
-
+module _ (request : ReportRequest) (files : Option Files) where
   abbrev Gives : Scenario → List ℕ → Type 0
   Gives scenario text = IsScenario request text scenario
 
   abbrev IsFaulty : Key → Cause → List ℕ → Type 0
-  IsFaulty key cause text = (length text ≤ greatest_scenario) × IsRefusedBy request.mode text key cause
+  IsFaulty key cause text = (length text ≤ greatest_scenario) × IsRefused (needs_own (task_mode request.task)) text key cause
 
   given_or_over : (scenario : Scenario) → LiesUnder files request.name (Gives scenario) → LiesUnder files request.name IsLong → ⊥
   given_or_over scenario x y =
@@ -52,7 +51,7 @@ module _ (request : Request) (files : Option Files) (reporting : IsTrue (reports
   given_or_faulty : (scenario : Scenario) (key : Key) (cause : Cause) → LiesUnder files request.name (Gives scenario) → LiesUnder files request.name (IsFaulty key cause) → ⊥
   given_or_faulty scenario key cause x y =
       let (text, is, fails) = both_lie files request.name (Gives scenario) (IsFaulty key cause) x y in
-      meant_or_refused (needs_own request.mode) text is.told key cause is.means (refused text key cause fails.1)
+      meant_or_refused (needs_own (task_mode request.task)) text is.told key cause is.means fails.1
 
   over_or_faulty : (key : Key) (cause : Cause) → LiesUnder files request.name IsLong → LiesUnder files request.name (IsFaulty key cause) → ⊥
   over_or_faulty key cause x y =
@@ -63,8 +62,8 @@ module _ (request : Request) (files : Option Files) (reporting : IsTrue (reports
   one_scenario : (a b : Result Scenario SetUpFault) → set_up.IsScenarioDue request files a → set_up.IsScenarioDue request files b → a ≡ b
   one_scenario (Ok scenario) (Ok other) x y =
       let (text, is, is') = both_lie files request.name (Gives scenario) (Gives other) x y in
-      let told = one_meaning (needs_own request.mode) text is.told is'.told is.means is'.means in
-      ap (λ (s : Scenario). Ok s) (is.values ∙ ap (with_options request.options) told ∙ sym is'.values)
+      let told = one_meaning (needs_own (task_mode request.task)) text is.told is'.told is.means is'.means in
+      ap (λ (s : Scenario). Ok s) (is.values ∙ ap (with_options request.window) told ∙ sym is'.values)
   one_scenario (Ok scenario) (Err fault.NotHad) x y = absurd (lies_or_missing files request.name (Gives scenario) x y)
   one_scenario (Ok scenario) (Err fault.LongScenario) x y = absurd (given_or_over scenario x y)
   one_scenario (Ok scenario) (Err (fault.Refused key cause)) x y = absurd (given_or_faulty scenario key cause x y)
@@ -87,7 +86,7 @@ module _ (request : Request) (files : Option Files) (reporting : IsTrue (reports
   one_scenario (Err (fault.Refused key cause)) (Err fault.LongScenario) x y = absurd (over_or_faulty key cause y x)
   one_scenario (Err (fault.Refused key cause)) (Err (fault.Refused other because)) x y =
       let (text, here, there) = both_lie files request.name (IsFaulty key cause) (IsFaulty other because) x y in
-      let same = one_refusal (needs_own request.mode) text key other cause because (refused text key cause here.1) (refused text other because there.1) in
+      let same = one_refusal (needs_own (task_mode request.task)) text key other cause because here.1 there.1 in
       let keys = same.0 in
       let causes = same.1 in
       cc (keys, causes)
@@ -132,7 +131,7 @@ module _ (request : Request) (files : Option Files) (reporting : IsTrue (reports
   one_rows_where true name (Err fault.Memory) b x y = absurd x
 
   one_rows : (a b : Result (List ℕ) SetUpFault) → set_up.AreRowsDue request files a → set_up.AreRowsDue request files b → a ≡ b
-  one_rows = one_rows_where (needs_rows request.mode) request.options.rows
+  one_rows = one_rows_where (needs_rows (task_mode request.task)) (task_rows request.task)
 
   -- ---- both together
 
@@ -157,17 +156,17 @@ module _ (request : Request) (files : Option Files) (reporting : IsTrue (reports
   one_set_up (Err why) (Err other) (inr (has, fails)) (inr (has', fails')) = let same = one_rows (Err why) (Err other) fails fails' in cc same
 
 -- and so does what follows
-one_following : OneComes → (log : Option (List ℕ)) (request : Request) (came : Result SetFor SetUpFault) (a b : Status) → Follows log request a came → Follows log request b came → a ≡ b
+one_following : OneComes → (log : Option (List ℕ)) (request : ReportRequest) (came : Result SetFor SetUpFault) (a b : Status) → Follows log request a came → Follows log request b came → a ≡ b
 one_following once log request (Ok (scenario, rows)) a b (bytes, gives, is) (other, gives', is') =
     let same : other ≡ bytes = cc (gives, gives') in
     one_answered once (task_of request rows) scenario bytes a b is (subst (λ (l : List ℕ). IsAnswered (task_of request rows) scenario l b) same is')
 one_following once log request (Err because) a b is is' = sym is ∙ is'
 
 -- so at most one answer is due to a request that asks for a report
-pub one_reported : OneComes → (words : List (List ℕ)) (files : Option Files) (log : Option (List ℕ)) (request : Request) → AskFor words request → IsTrue (reports request.mode)
+pub one_reported : OneComes → (words : List (List ℕ)) (files : Option Files) (log : Option (List ℕ)) (request : ReportRequest) → AskFor words (asks.Report request)
     → (a b : Status) → IsDue words files log a → IsDue words files log b → a ≡ b
-one_reported once words files log request asked is a b x y =
-    let here = set_up_due words files log request a asked is x in
-    let there = set_up_due words files log request b asked is y in
-    let same = one_set_up request files is there.came here.came there.is here.is in
+one_reported once words files log request asked a b x y =
+    let here = set_up_due words files log request a asked x in
+    let there = set_up_due words files log request b asked y in
+    let same = one_set_up request files there.came here.came there.is here.is in
     one_following once log request here.came a b here.follows (subst (Follows log request b) same there.follows)

@@ -8,7 +8,9 @@ use Rattle.outside.specs.WholeReading.{StopsAt}
 use Rattle.outside.specs.declared.whole.ReadFault.TheVariants as read
 use Rattle.scenario_values.specs.declared.values.Scenario.{Scenario}
 use Rattle.sessions.specs.Endings.{Came}
-use Rattle.sessions.specs.Modes.{needs_rows, reads_log, reports}
+use Rattle.tasks.specs.Modes.{needs_rows, reads_log}
+use Rattle.tasks.specs.Tasks.{task_mode}
+use Rattle.tasks.proofs.ForCallers.{makes_drill}
 use Rattle.sessions.specs.Refusals.{IsMet}
 use Rattle.sessions.specs.Tasks.{Task}
 use Rattle.sessions.proofs.ForCallers.{before_refused}
@@ -16,20 +18,22 @@ use Rattle.sessions.specs.declared.session_fault.SessionFault.TheVariants as why
 use Rattle.plan_situations.specs.declared.readiness.Unready.{Unready}
 use Rattle.colregs_program.specs.Answers.{AreRows, EndsWith, HoldsUnder, IsDue, IsOfDrill, IsScenario, MayPrecedeRows, MetIn, Runs, StopsWith, TellsLimit, WritesNothing, WritesPart}
 use Rattle.colregs_program.specs.LogAnswers.{GainsFront, GainsReport, GainsSettled, IsAnswered, IsFinished, IsStoppedBy, LeavesSettled, Reports, answer_of, finished}
-use Rattle.command_line.specs.Requests.{AskFor, AskForNothing}
-use Rattle.command_line.specs.declared.mode.Mode.{Mode}
-use Rattle.command_line.specs.declared.mode.Mode.TheVariants as mode
+use Rattle.command_line.specs.GivenArguments.{AskForNothing}
+use Rattle.command_line.specs.Requests.{AskFor}
+use Rattle.tasks.specs.declared.mode.Mode.{Mode}
+use Rattle.command_line.specs.declared.request.ReportRequest.{ReportRequest}
 use Rattle.command_line.specs.declared.request.Request.{Request}
+use Rattle.command_line.specs.declared.request.Request.TheVariants as asks
 use Rattle.command_line.proofs.Asked.{one_asked}
-use Rattle.colregs_program.specs.AskedScenarios.{log_of, task_of}
+use Rattle.colregs_program.specs.AskedScenarios.{asks_log, asks_rows, log_of, task_of}
 use Rattle.colregs_program.specs.FaultLines.{is_made}
 use Rattle.colregs_program.specs.Inner.SetUps as set_up
 use Rattle.colregs_program.specs.Inner.SetUps.{SetFor}
 use Rattle.colregs_program.specs.declared.set_up.SetUp.{SetUp}
 use Rattle.colregs_program.specs.Inner.Streaming.{LogCount, OutCount, ReportCause, is_of_drill, stream_status}
 use Rattle.colregs_program.specs.Inner.WordsFaults as words_fault
-use Rattle.command_line.specs.declared.request.WordsFault.{WordsFault}
-use Rattle.command_line.specs.declared.request.WordsFault.TheVariants as unasked
+use Rattle.command_line.specs.declared.arguments.WordsFault.{WordsFault}
+use Rattle.command_line.specs.declared.arguments.WordsFault.TheVariants as unasked
 use Rattle.colregs_program.specs.declared.streaming.StreamFault.{StreamFault}
 use Rattle.colregs_program.specs.declared.streaming.StreamFault.TheVariants as stream
 use Rattle.colregs_program.specs.declared.set_up.SetUpFault.{SetUpFault}
@@ -56,11 +60,11 @@ rose : (before now : ℕ) → now ≡ one_more before → Rose before now
 rose before now is = omega (arith, is)
 
 -- setting up came to what is due, or to want of memory
-came_due : (words : List (List ℕ)) (files : Option Files) (log : Option (List ℕ)) (request : Request) (due : Status) (before now : ℕ) (came : Result SetFor SetUpFault)
-    → AskFor words request → IsTrue (reports request.mode) → IsDue words files log due → GivesDue request files before now came → ¬ Rose before now
+came_due : (words : List (List ℕ)) (files : Option Files) (log : Option (List ℕ)) (request : ReportRequest) (due : Status) (before now : ℕ) (came : Result SetFor SetUpFault)
+    → AskFor words (asks.Report request) → IsDue words files log due → GivesDue request files before now came → ¬ Rose before now
     → Follows log request due came ⊎ (came ≡ Err fault.Memory)
-came_due words files log request due before now came accepted reports is gives calm =
-    let d = set_up_due words files log request due accepted reports is in
+came_due words files log request due before now came accepted is gives calm =
+    let d = set_up_due words files log request due accepted is in
     elim (gives d.came d.is) [
       | inl risen ↦ absurd (calm (rose before now risen))
       | inr either ↦ elim either [
@@ -69,11 +73,11 @@ came_due words files log request due before now came accepted reports is gives c
       ]
     ]
 
-pub not_set_up : (words : List (List ℕ)) (files : Option Files) (log : Option (List ℕ)) (request : Request) (due told : Status) (before now : ℕ) (why : SetUpFault) (Made : Type 0)
-    → AskFor words request → IsTrue (reports request.mode) → IsDue words files log due → GivesDue request files before now (Err why) → ¬ Rose before now
+pub not_set_up : (words : List (List ℕ)) (files : Option Files) (log : Option (List ℕ)) (request : ReportRequest) (due told : Status) (before now : ℕ) (why : SetUpFault) (Made : Type 0)
+    → AskFor words (asks.Report request) → IsDue words files log due → GivesDue request files before now (Err why) → ¬ Rose before now
     → IsTold told (set_up.answer_of why) Made → (told ≡ due) ⊎ (told ≡ status.Memory)
-not_set_up words files log request due told before now why Made accepted reports is gives calm is_told =
-    elim (came_due words files log request due before now (Err why) accepted reports is gives calm) [
+not_set_up words files log request due told before now why Made accepted is gives calm is_told =
+    elim (came_due words files log request due before now (Err why) accepted is gives calm) [
       | inl follows ↦ told_is told (set_up.answer_of why) due Made is_told follows
       | inr memory ↦
           let memory_alone : why ≡ fault.Memory = cc memory in
@@ -94,11 +98,11 @@ migration_done before now due (inl risen) calm = absurd (calm (rose before now r
 migration_done before now due (inr is) calm = inl (sym is)
 
 -- where setting up gave a scenario, the log decides
-pub log_decides : (words : List (List ℕ)) (files : Option Files) (log : Option (List ℕ)) (request : Request) (due : Status) (before now : ℕ) (made : SetFor)
-    → AskFor words request → IsTrue (reports request.mode) → IsDue words files log due → GivesDue request files before now (Ok made) → ¬ Rose before now
+pub log_decides : (words : List (List ℕ)) (files : Option Files) (log : Option (List ℕ)) (request : ReportRequest) (due : Status) (before now : ℕ) (made : SetFor)
+    → AskFor words (asks.Report request) → IsDue words files log due → GivesDue request files before now (Ok made) → ¬ Rose before now
     → Follows log request due (Ok made)
-log_decides words files log request due before now made accepted reports is gives calm =
-    elim (came_due words files log request due before now (Ok made) accepted reports is gives calm) [
+log_decides words files log request due before now made accepted is gives calm =
+    elim (came_due words files log request due before now (Ok made) accepted is gives calm) [
       | inl follows ↦ follows
       | inr memory ↦ cc memory
     ]
@@ -113,7 +117,7 @@ pub one_answered : OneComes → (task : Task) (scenario : Scenario) (log : List 
 one_answered once task scenario log a b x y = x.is ∙ ap (answer_of scenario) (once task scenario log x.came y.came x.met y.met) ∙ sym y.is
 
 -- What the log calls for is what was met in it.
-pub met_is : OneComes → (log : Option (List ℕ)) (request : Request) (rows : List ℕ) (scenario : Scenario) (due answer : Status) → MetIn request rows scenario log answer
+pub met_is : OneComes → (log : Option (List ℕ)) (request : ReportRequest) (rows : List ℕ) (scenario : Scenario) (due answer : Status) → MetIn request rows scenario log answer
     → Follows log request due (Ok (scenario, rows)) → answer ≡ due
 met_is once log request rows scenario due answer is (bytes, gives, follows) =
     let here = subst (λ (l : Option (List ℕ)). IfSome l (λ told. IsAnswered (task_of request rows) scenario told answer)) gives is in
@@ -177,15 +181,15 @@ stream_limit (stream.Unreported why.Targets) most = refl
 stream_limit (stream.Unreported (why.Entry index)) most = tt
 stream_limit (stream.Unreported why.Memory) most = tt
 
-module _ (request : Request) (rows : List ℕ) (scenario : Scenario) (left left' contents contents' : Option (List ℕ)) where
+module _ (request : ReportRequest) (rows : List ℕ) (scenario : Scenario) (left left' contents contents' : Option (List ℕ)) where
   pub stops_met : (answer : Status) → StopsWith request scenario left contents contents' answer → MetIn request rows scenario left answer
   stops_met answer stops =
-      if_some (λ bytes. IsStoppedBy request.mode scenario bytes contents contents' answer) (λ bytes. IsAnswered (task_of request rows) scenario bytes answer) (log_of request scenario left)
+      if_some (λ bytes. IsStoppedBy (task_mode request.task) scenario bytes contents contents' answer) (λ bytes. IsAnswered (task_of request rows) scenario bytes answer) (log_of request scenario left)
       (λ bytes stop. record { came = Err stop.why; met = inl (stop.stopped.place, stop.stopped.refused); is = stop.is }) stops
 
   pub ends_met : (answer : Status) → EndsWith request rows scenario left left' contents contents' answer → MetIn request rows scenario left answer
   ends_met answer ends =
-      if_some (λ bytes. IsAnswered (task_of request rows) scenario bytes answer × GainsSettled request.mode scenario bytes contents contents') (λ bytes. IsAnswered (task_of request rows) scenario bytes answer)
+      if_some (λ bytes. IsAnswered (task_of request rows) scenario bytes answer × GainsSettled (task_mode request.task) scenario bytes contents contents') (λ bytes. IsAnswered (task_of request rows) scenario bytes answer)
       (log_of request scenario left) (λ bytes both. both.0) ends.ends
 
   either_met : (answer : Status) → StopsWith request scenario left contents contents' answer ⊎ EndsWith request rows scenario left left' contents contents' answer → MetIn request rows scenario left answer
@@ -259,7 +263,7 @@ module _ (request : Request) (rows : List ℕ) (scenario : Scenario) (left left'
   -- the limit of the log's bytes
   pub record BytesTold (most : ℕ) : Type 0 where
     pub limit : most ≡ scenario.log.max_bytes
-    pub stops : IsTrue (reads_log request.mode) → StopsAt most 0 left left' read.TooLong
+    pub stops : IsTrue (reads_log (task_mode request.task)) → StopsAt most 0 left left' read.TooLong
     pub met : StopsWith request scenario left contents contents' (status.Limit which.Log most)
 
   pub bytes_told : (because : StreamFault) (most limit : ℕ) (told : Status) (Made : Type 0) → limit ≡ scenario.log.max_bytes → IsTold told (stream_status because limit) Made
@@ -318,7 +322,7 @@ module _ (request : Request) (rows : List ℕ) (scenario : Scenario) (left left'
 
   pub read_told : (because : StreamFault) (limit before now : ℕ) (told : Status) (Made : Type 0) → IsTold told (stream_status because limit) Made → told ≡ status.ReadFault
       → ReportCause request rows scenario left left' contents contents' because → LogCount before now because
-      → (now ≡ one_more before) × IsTrue (reads_log request.mode) × LeavesSettled request.mode scenario left left' contents contents'
+      → (now ≡ one_more before) × IsTrue (reads_log (task_mode request.task)) × LeavesSettled (task_mode request.task) scenario left left' contents contents'
   read_told because limit before now told Made (inr none) is cause count = cc (none.0, is)
   read_told stream.NotRead limit before now told Made (inl same) is cause count = (count, cause.0, cause.1)
   read_told stream.NotWritten limit before now told Made (inl same) is cause count = cc (same, is)
@@ -361,17 +365,17 @@ module _ (request : Request) (rows : List ℕ) (scenario : Scenario) (left left'
   -- ---- want of memory
 
   abbrev Front : Type 0
-  Front = IfSome (log_of request scenario left) (λ log. GainsFront request.mode scenario log contents contents')
+  Front = IfSome (log_of request scenario left) (λ log. GainsFront (task_mode request.task) scenario log contents contents')
 
   stops_front : (answer : Status) → StopsWith request scenario left contents contents' answer → Front
   stops_front answer stops =
-      if_some (λ bytes. IsStoppedBy request.mode scenario bytes contents contents' answer) (λ log. GainsFront request.mode scenario log contents contents') (log_of request scenario left)
+      if_some (λ bytes. IsStoppedBy (task_mode request.task) scenario bytes contents contents' answer) (λ log. GainsFront (task_mode request.task) scenario log contents contents') (log_of request scenario left)
       (λ bytes stop. record {
         front = take (stop.stopped.place - 1) bytes;
         rest = drop (stop.stopped.place - 1) bytes;
         whole = sym (take-append-drop (stop.stopped.place - 1) bytes);
         gains = record {
-          unrefused = before_refused request.mode scenario bytes stop.why stop.text stop.stopped;
+          unrefused = before_refused (task_mode request.task) scenario bytes stop.why stop.text stop.stopped;
           text = stop.text;
           settled = stop.stopped.settled;
           gained = stop.gained;
@@ -380,7 +384,7 @@ module _ (request : Request) (rows : List ℕ) (scenario : Scenario) (left left'
 
   ends_front : (answer : Status) → EndsWith request rows scenario left left' contents contents' answer → Front
   ends_front answer ends =
-      if_some (λ bytes. IsAnswered (task_of request rows) scenario bytes answer × GainsSettled request.mode scenario bytes contents contents') (λ log. GainsFront request.mode scenario log contents contents')
+      if_some (λ bytes. IsAnswered (task_of request rows) scenario bytes answer × GainsSettled (task_mode request.task) scenario bytes contents contents') (λ log. GainsFront (task_mode request.task) scenario log contents contents')
       (log_of request scenario left) (λ bytes both. record { front = bytes; rest = []; whole = sym (append-nil bytes); gains = both.1 }) ends.ends
 
   either_front : (answer : Status) → Either answer → Front
@@ -408,14 +412,13 @@ held_so : (files : Option Files) (name : List ℕ) (P Q : List ℕ → Type 0) �
 held_so None name P Q so holds = tt
 held_so (Some held) name P Q so (text, found, p) = (text, found, so text p)
 
-pub runs : (words : List (List ℕ)) (files : Option Files) (request : Request) (rows : List ℕ) (scenario : Scenario) (Q : Request → Type 0) (P : Request → List ℕ → Scenario → Type 0)
-    → AskFor words request → IsTrue (reports request.mode) → Q request → HoldsUnder files request.name (λ text. IsScenario request text scenario) → AreRows files request rows
+pub runs : (words : List (List ℕ)) (files : Option Files) (request : ReportRequest) (rows : List ℕ) (scenario : Scenario) (Q : ReportRequest → Type 0) (P : ReportRequest → List ℕ → Scenario → Type 0)
+    → AskFor words (asks.Report request) → Q request → HoldsUnder files request.name (λ text. IsScenario request text scenario) → AreRows files request rows
     → P request rows scenario → Runs words files Q P
-runs words files request rows scenario Q P accepted reports q holds are p = (
+runs words files request rows scenario Q P accepted q holds are p = (
   request,
   accepted,
   (
-    reports,
     q,
     held_so files request.name (λ text. IsScenario request text scenario)
         (λ text. (s : Scenario) × IsScenario request text s × (told : List ℕ) × AreRows files request told × P request told s)
@@ -423,33 +426,25 @@ runs words files request rows scenario Q P accepted reports q holds are p = (
   ),
 )
 
+-- ---- the words ask for one request
+
+module _ (words : List (List ℕ)) (request : Request) (report : ReportRequest) (asked : AskFor words request) (is : AskFor words (asks.Report report)) where
+  -- so that it reads no log either
+  pub unread_too : asks_log request ≡ false → reads_log (task_mode report.task) ≡ false
+  unread_too not = subst (λ (r : Request). asks_log r ≡ false) (one_asked words request (asks.Report report) asked is) not
+
+  -- and needs no rows either, or needs them too
+  pub rows_too : (needs : Bool) → asks_rows request ≡ needs → needs_rows (task_mode report.task) ≡ needs
+  rows_too needs same = subst (λ (r : Request). asks_rows r ≡ needs) (one_asked words request (asks.Report report) asked is) same
+
+-- A migration needs no rows.
+pub no_rows_migrated : (words : List (List ℕ)) (request : Request) (name : List ℕ) (Any : Type 0) → AskFor words request → AskFor words (asks.Migration name)
+    → asks_rows request ≡ true → Any
+no_rows_migrated words request name Any asked is needs =
+    let none : asks_rows (asks.Migration name) ≡ true = subst (λ (r : Request). asks_rows r ≡ true) (one_asked words request (asks.Migration name) asked is) needs in
+    cc none
+
 -- ---- a drill
-
--- the words ask for one request, so that it is a drill too
-pub drills_too : (words : List (List ℕ)) (request other : Request) → AskFor words request → AskFor words other → request.mode ≡ mode.Drill → other.mode ≡ mode.Drill
-drills_too words request other asks asks' drills = subst (λ (r : Request). r.mode ≡ mode.Drill) (one_asked words request other asks asks') drills
-
--- and so that it reads no log either
-pub unread_too : (words : List (List ℕ)) (request other : Request) → AskFor words request → AskFor words other → reads_log request.mode ≡ false → reads_log other.mode ≡ false
-unread_too words request other asks asks' not = subst (λ (r : Request). reads_log r.mode ≡ false) (one_asked words request other asks asks') not
-
--- the mode that reports on no log
-pub migrates : (m : Mode) → reports m ≡ false → m ≡ mode.Migrate
-migrates mode.Points not = cc not
-migrates mode.Audit not = cc not
-migrates mode.Plan not = cc not
-migrates mode.Drill not = cc not
-migrates mode.Migrate not = refl
-migrates mode.Recheck not = cc not
-migrates mode.Watch not = cc not
-
--- where one request reports on a log, no other migrates
-pub no_migration : (words : List (List ℕ)) (request other : Request) (Any : Type 0) → AskFor words request → AskFor words other → IsTrue (reports other.mode)
-    → request.mode ≡ mode.Migrate → Any
-no_migration words request other Any asks asks' is migrates =
-    let same : other.mode ≡ mode.Migrate = subst (λ (r : Request). r.mode ≡ mode.Migrate) (one_asked words request other asks asks') migrates in
-    let reports : reports mode.Migrate ≡ true = subst (λ (m : Mode). IsTrue (reports m)) same is in
-    cc reports
 
 pub drill_told : (told answer : Status) (Made : Type 0) → IsTold told answer Made → IsTrue (IsOfDrill answer) → IsTrue (IsOfDrill told)
 drill_told told answer Made (inl same) is = subst (λ (s : Status). IsTrue (IsOfDrill s)) (sym same) is
@@ -508,28 +503,24 @@ set_up_unfinished told (fault.Refused key cause) Made (inl same) done = let no =
 set_up_unfinished told fault.Memory Made (inl same) done = let no = subst (λ (s : Status). IsTrue (IsFinished s)) same done in cc no
 
 -- A drill needs no rows.
-pub set_up_drills : (request : Request) (files : Option Files) (before now : ℕ) (told : Status) (because : SetUpFault) (Made : Type 0) → IsTold told (set_up.answer_of because) Made
-    → request.mode ≡ mode.Drill → set_up.SetUpCause request files before now because → IsTrue (IsOfDrill told)
-set_up_drills request files before now told because Made (inr memory) drills cause = subst (λ (s : Status). IsTrue (IsOfDrill s)) (sym memory.0) refl
-set_up_drills request files before now told fault.NotHad Made (inl same) drills cause = subst (λ (s : Status). IsTrue (IsOfDrill s)) (sym same) refl
-set_up_drills request files before now told fault.LongScenario Made (inl same) drills cause = subst (λ (s : Status). IsTrue (IsOfDrill s)) (sym same) refl
-set_up_drills request files before now told fault.LongRows Made (inl same) drills cause =
-    let needs : needs_rows mode.Drill ≡ true = subst (λ (m : Mode). IsTrue (needs_rows m)) drills cause.0 in
+pub set_up_drills : (request : ReportRequest) (files : Option Files) (before now : ℕ) (told : Status) (because : SetUpFault) (Made : Type 0) → IsTold told (set_up.answer_of because) Made
+    → reads_log (task_mode request.task) ≡ false → set_up.SetUpCause request files before now because → IsTrue (IsOfDrill told)
+set_up_drills request files before now told because Made (inr memory) makes cause = subst (λ (s : Status). IsTrue (IsOfDrill s)) (sym memory.0) refl
+set_up_drills request files before now told fault.NotHad Made (inl same) makes cause = subst (λ (s : Status). IsTrue (IsOfDrill s)) (sym same) refl
+set_up_drills request files before now told fault.LongScenario Made (inl same) makes cause = subst (λ (s : Status). IsTrue (IsOfDrill s)) (sym same) refl
+set_up_drills request files before now told fault.LongRows Made (inl same) makes cause =
+    let needs : false ≡ true = subst (λ (m : Mode). IsTrue (needs_rows m)) (makes_drill (task_mode request.task) makes) cause.0 in
     cc needs
-set_up_drills request files before now told (fault.Refused key why) Made (inl same) drills cause = subst (λ (s : Status). IsTrue (IsOfDrill s)) (sym same) refl
-set_up_drills request files before now told fault.Memory Made (inl same) drills cause = subst (λ (s : Status). IsTrue (IsOfDrill s)) (sym same) refl
+set_up_drills request files before now told (fault.Refused key why) Made (inl same) makes cause = subst (λ (s : Status). IsTrue (IsOfDrill s)) (sym same) refl
+set_up_drills request files before now told fault.Memory Made (inl same) makes cause = subst (λ (s : Status). IsTrue (IsOfDrill s)) (sym same) refl
 
 -- ---- how often the shelf was asked
 
--- the words ask for one request, so that it needs no rows either, or needs them too
-pub rows_too : (words : List (List ℕ)) (request other : Request) (needs : Bool) → AskFor words request → AskFor words other → needs_rows request.mode ≡ needs → needs_rows other.mode ≡ needs
-rows_too words request other needs asks asks' is = subst (λ (r : Request). needs_rows r.mode ≡ needs) (one_asked words request other asks asks') is
-
 -- where the run is set up, or not
-pub asked_once : (request : Request) (before now : ℕ) (came : Result SetUp SetUpFault) → needs_rows request.mode ≡ false → set_up.HaveFetched request before now came → now ≡ one_more before
+pub asked_once : (request : ReportRequest) (before now : ℕ) (came : Result SetUp SetUpFault) → needs_rows (task_mode request.task) ≡ false → set_up.HaveFetched request before now came → now ≡ one_more before
 asked_once request before now came none fetched = subst (λ (b : Bool). set_up.HaveFetchedBy b before now came) none fetched
 
-pub asked_twice : (request : Request) (before now : ℕ) (made : SetUp) → needs_rows request.mode ≡ true → set_up.HaveFetched request before now (Ok made) → now ≡ one_more (one_more before)
+pub asked_twice : (request : ReportRequest) (before now : ℕ) (made : SetUp) → needs_rows (task_mode request.task) ≡ true → set_up.HaveFetched request before now (Ok made) → now ≡ one_more (one_more before)
 asked_twice request before now made needs fetched = subst (λ (b : Bool). set_up.HaveFetchedBy b before now (Ok made)) needs fetched
 
 precedes_told : (told : Status) (because : SetUpFault) (Made : Type 0) → IsTold told (set_up.answer_of because) Made → IsTrue (set_up.precedes_rows because) → IsTrue (MayPrecedeRows told)
@@ -540,8 +531,8 @@ precedes_told told fault.LongRows Made (inl same) is = cc is
 precedes_told told (fault.Refused key cause) Made (inl same) is = subst (λ (s : Status). IsTrue (MayPrecedeRows s)) (sym same) refl
 precedes_told told fault.Memory Made (inl same) is = subst (λ (s : Status). IsTrue (MayPrecedeRows s)) (sym same) refl
 
-pub asked_where_it_fails : (request : Request) (before now : ℕ) (told : Status) (because : SetUpFault) (Made : Type 0) → IsTold told (set_up.answer_of because) Made
-    → needs_rows request.mode ≡ true → set_up.HaveFetched request before now (Err because)
+pub asked_where_it_fails : (request : ReportRequest) (before now : ℕ) (told : Status) (because : SetUpFault) (Made : Type 0) → IsTold told (set_up.answer_of because) Made
+    → needs_rows (task_mode request.task) ≡ true → set_up.HaveFetched request before now (Err because)
     → (now ≡ one_more (one_more before)) ⊎ ((IsTrue (MayPrecedeRows told) × (now ≡ one_more before)) ⊎ ((told ≡ status.Memory) × (now ≡ before)))
 asked_where_it_fails request before now told because Made is_told needs fetched = by (subst (λ (b : Bool). set_up.HaveFetchedBy b before now (Err because)) needs fetched)
   where
@@ -549,14 +540,6 @@ asked_where_it_fails request before now told because Made is_told needs fetched 
         → (now ≡ one_more (one_more before)) ⊎ ((IsTrue (MayPrecedeRows told) × (now ≡ one_more before)) ⊎ ((told ≡ status.Memory) × (now ≡ before)))
     by (inl twice) = inl twice
     by (inr (precedes, once)) = inr (inl (precedes_told told because Made is_told precedes, once))
-
--- A migration needs no rows.
-pub no_rows_migrated : (words : List (List ℕ)) (request other : Request) (Any : Type 0) → AskFor words request → AskFor words other → other.mode ≡ mode.Migrate
-    → needs_rows request.mode ≡ true → Any
-no_rows_migrated words request other Any asks asks' migrates needs =
-    let there : needs_rows other.mode ≡ true = rows_too words request other true asks asks' needs in
-    let none : needs_rows mode.Migrate ≡ true = subst (λ (m : Mode). needs_rows m ≡ true) migrates there in
-    cc none
 
 -- what is not touched is kept
 pub keeps_same : (contents : Option (List ℕ)) → Keeps contents contents

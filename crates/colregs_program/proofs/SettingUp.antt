@@ -12,17 +12,17 @@ use Rattle.scenario_keys.specs.declared.cause.Cause.{Cause}
 use Rattle.scenario_values.specs.declared.values.Scenario.{Scenario}
 use Rattle.scenario_keys.specs.declared.fault.ScenarioFault.{ScenarioFault}
 use Rattle.scenario_keys.specs.declared.fault.ScenarioFault.TheVariants as refusal
-use Rattle.colregs_program.specs.Answers.{greatest_scenario, IsRefusedBy, LiesUnder}
+use Rattle.colregs_program.specs.Answers.{greatest_scenario, LiesUnder}
 use Rattle.colregs_program.specs.AskedScenarios.{with_options}
-use Rattle.sessions.specs.Modes.{needs_own, reports}
+use Rattle.tasks.specs.Modes.{needs_own}
+use Rattle.tasks.specs.Tasks.{task_mode}
 use Rattle.colregs_program.specs.Inner.SetUps.{AreOptions, AreRowsDue, IsScenarioDue, IsSetUpDue, SetFor, set_up_fault}
 use Rattle.outside.specs.Causes.{one_more}
 use Rattle.command_line.specs.Requests.{AskFor}
-use Rattle.command_line.specs.declared.mode.Mode.{Mode}
-use Rattle.command_line.specs.declared.mode.Mode.TheVariants as mode
-use Rattle.command_line.specs.declared.request.Options.{Options}
-use Rattle.command_line.specs.declared.request.Request.{Request}
-use Rattle.command_line.proofs.ForCallers.{seed_in_range, start_in_range, ticks_in_range}
+use Rattle.command_line.specs.declared.request.WindowOptions.{WindowOptions}
+use Rattle.command_line.specs.declared.request.ReportRequest.{ReportRequest}
+use Rattle.command_line.specs.declared.request.Request.TheVariants as asks
+use Rattle.command_line.proofs.ForCallers.{start_in_range, ticks_in_range}
 use Rattle.colregs_program.specs.declared.set_up.SetUpFault.{SetUpFault}
 use Rattle.colregs_program.specs.declared.set_up.SetUpFault.TheVariants as fault
 
@@ -48,7 +48,7 @@ or_within P None n given own = own
 or_within P (Some m) n given own = given
 
 -- in place of values in their ranges they are in the same
-pub in_range : (options : Options) (scenario : Scenario) → AreOptions options → IsInRange scenario → IsInRange (with_options options scenario)
+pub in_range : (options : WindowOptions) (scenario : Scenario) → AreOptions options → IsInRange scenario → IsInRange (with_options options scenario)
 in_range options scenario are range =
     let ticks : (1 ≤ unwrap_or options.ticks scenario.window.ticks) × (unwrap_or options.ticks scenario.window.ticks ≤ 20000) =
     or_within (λ (n : ℕ). (1 ≤ n) × (n ≤ 20000)) options.ticks scenario.window.ticks are.ticks (range.window.ticks_from, range.window.ticks_to) in
@@ -74,68 +74,48 @@ less None least most lies = tt
 less (Some n) least most lies = lies.1
 
 -- what words ask for is in range
-pub options_in_range : (words : List (List ℕ)) (request : Request) → AskFor words request → AreOptions request.options
+pub options_in_range : (words : List (List ℕ)) (request : ReportRequest) → AskFor words (asks.Report request) → AreOptions request.window
 options_in_range words request asked = record {
-  start = less request.options.start 0 9999999999 (start_in_range words request asked);
+  start = less request.window.start 0 9999999999 (start_in_range words request asked);
   ticks = ticks_in_range words request asked;
-  seed = seed_in_range words request asked;
 }
 
 -- ---- what is due
 
 -- what a scenario that was read comes to
-abbrev pub made : Options → Result Scenario ScenarioFault → Result Scenario SetUpFault
+abbrev pub made : WindowOptions → Result Scenario ScenarioFault → Result Scenario SetUpFault
 made options (Ok scenario) = Ok (with_options options scenario)
 made options (Err refused) = Err (set_up_fault refused)
 
-made_or : (options : Options) (got due : Result Scenario ScenarioFault) → (got ≡ due) ⊎ (got ≡ Err refusal.Memory)
+made_or : (options : WindowOptions) (got due : Result Scenario ScenarioFault) → (got ≡ due) ⊎ (got ≡ Err refusal.Memory)
     → (made options got ≡ made options due) ⊎ (made options got ≡ Err fault.Memory)
 made_or options got due (inl same) = inl (ap (made options) same)
 made_or options got due (inr memory) = inr (ap (made options) memory)
 
--- A mode that reports on a log refuses what is no scenario, with own ship where it needs her.
-pub refused_by : (m : Mode) (text : List ℕ) (key : Key) (why : Cause) → IsTrue (reports m) → IsRefused (needs_own m) text key why → IsRefusedBy m text key why
-refused_by mode.Points text key why reports is = is
-refused_by mode.Audit text key why reports is = is
-refused_by mode.Plan text key why reports is = is
-refused_by mode.Drill text key why reports is = is
-refused_by mode.Migrate text key why reports is = cc reports
-refused_by mode.Recheck text key why reports is = is
-refused_by mode.Watch text key why reports is = is
-
-pub refused_so : (m : Mode) (text : List ℕ) (key : Key) (why : Cause) → IsTrue (reports m) → IsRefusedBy m text key why → IsRefused (needs_own m) text key why
-refused_so mode.Points text key why reports is = is
-refused_so mode.Audit text key why reports is = is
-refused_so mode.Plan text key why reports is = is
-refused_so mode.Drill text key why reports is = is
-refused_so mode.Migrate text key why reports is = cc reports
-refused_so mode.Recheck text key why reports is = is
-refused_so mode.Watch text key why reports is = is
-
-pub due-from_read : (request : Request) (files : Option Files) (v : Vec ℕ Global) (got : Result Scenario ScenarioFault)
-    → IsTrue (reports request.mode) → Fetches files request.name greatest_scenario (fetched.Bytes v)
-    → ((scenario : Scenario) → Means (needs_own request.mode) v.items scenario → (got ≡ Ok scenario) ⊎ (got ≡ Err refusal.Memory))
-    → ((key : Key) (why : Cause) → IsRefused (needs_own request.mode) v.items key why → (got ≡ Err (refusal.Fault key why)) ⊎ (got ≡ Err refusal.Memory))
-    → (due : Result Scenario SetUpFault) → IsScenarioDue request files due → (made request.options got ≡ due) ⊎ (made request.options got ≡ Err fault.Memory)
-due-from_read request None v got reports fetch meant told (Ok scenario) due = cc due.2
-due-from_read request None v got reports fetch meant told (Err fault.NotHad) due = absurd due
-due-from_read request None v got reports fetch meant told (Err fault.LongScenario) due = cc due.2
-due-from_read request None v got reports fetch meant told (Err fault.LongRows) due = absurd due
-due-from_read request None v got reports fetch meant told (Err (fault.Refused key why)) due = cc due.2
-due-from_read request None v got reports fetch meant told (Err fault.Memory) due = absurd due
-due-from_read request (Some held) v got reports fetch meant told (Ok scenario) due =
+pub due-from_read : (request : ReportRequest) (files : Option Files) (v : Vec ℕ Global) (got : Result Scenario ScenarioFault)
+    → Fetches files request.name greatest_scenario (fetched.Bytes v)
+    → ((scenario : Scenario) → Means (needs_own (task_mode request.task)) v.items scenario → (got ≡ Ok scenario) ⊎ (got ≡ Err refusal.Memory))
+    → ((key : Key) (why : Cause) → IsRefused (needs_own (task_mode request.task)) v.items key why → (got ≡ Err (refusal.Fault key why)) ⊎ (got ≡ Err refusal.Memory))
+    → (due : Result Scenario SetUpFault) → IsScenarioDue request files due → (made request.window got ≡ due) ⊎ (made request.window got ≡ Err fault.Memory)
+due-from_read request None v got fetch meant told (Ok scenario) due = cc due.2
+due-from_read request None v got fetch meant told (Err fault.NotHad) due = absurd due
+due-from_read request None v got fetch meant told (Err fault.LongScenario) due = cc due.2
+due-from_read request None v got fetch meant told (Err fault.LongRows) due = absurd due
+due-from_read request None v got fetch meant told (Err (fault.Refused key why)) due = cc due.2
+due-from_read request None v got fetch meant told (Err fault.Memory) due = absurd due
+due-from_read request (Some held) v got fetch meant told (Ok scenario) due =
     let is = of_found held request.name v.items _ fetch.0 due in
-    subst (λ (s : Scenario). (made request.options got ≡ Ok s) ⊎ (made request.options got ≡ Err fault.Memory)) (sym is.values)
-    (made_or request.options got (Ok is.told) (meant is.told is.means))
-due-from_read request (Some held) v got reports fetch meant told (Err fault.NotHad) due = cc (due, fetch.0)
-due-from_read request (Some held) v got reports fetch meant told (Err fault.LongRows) due = absurd due
-due-from_read request (Some held) v got reports fetch meant told (Err fault.LongScenario) due =
+    subst (λ (s : Scenario). (made request.window got ≡ Ok s) ⊎ (made request.window got ≡ Err fault.Memory)) (sym is.values)
+    (made_or request.window got (Ok is.told) (meant is.told is.means))
+due-from_read request (Some held) v got fetch meant told (Err fault.NotHad) due = cc (due, fetch.0)
+due-from_read request (Some held) v got fetch meant told (Err fault.LongRows) due = absurd due
+due-from_read request (Some held) v got fetch meant told (Err fault.LongScenario) due =
     let long : greatest_scenario < length v.items = of_found held request.name v.items (λ text. greatest_scenario < length text) fetch.0 due in
     absurd (omega (arith, long, fetch.1))
-due-from_read request (Some held) v got reports fetch meant told (Err (fault.Refused key why)) due =
-    let is = of_found held request.name v.items (λ text. (length text ≤ greatest_scenario) × IsRefusedBy request.mode text key why) fetch.0 due in
-    made_or request.options got (Err (refusal.Fault key why)) (told key why (refused_so request.mode v.items key why reports is.1))
-due-from_read request (Some held) v got reports fetch meant told (Err fault.Memory) due = absurd due
+due-from_read request (Some held) v got fetch meant told (Err (fault.Refused key why)) due =
+    let is = of_found held request.name v.items (λ text. (length text ≤ greatest_scenario) × IsRefused (needs_own (task_mode request.task)) text key why) fetch.0 due in
+    made_or request.window got (Err (refusal.Fault key why)) (told key why is.1)
+due-from_read request (Some held) v got fetch meant told (Err fault.Memory) due = absurd due
 
 -- where own ship is needed, the scenario has her
 pub own_needed : (need : Bool) (text : List ℕ) (scenario : Scenario) → IsTrue need → Means need text scenario → IsSome scenario.own
@@ -152,15 +132,15 @@ own_unneeded false text scenario unneeded means = ap (λ (s : Scenario). s.own) 
 -- ---- the scenario and the rows
 
 -- what setting up said it would give, where no fetch failed
-abbrev pub GivesDue : Request → Option Files → ℕ → ℕ → Result SetFor SetUpFault → Type 0
+abbrev pub GivesDue : ReportRequest → Option Files → ℕ → ℕ → Result SetFor SetUpFault → Type 0
 GivesDue request files before now came =
     (due : Result SetFor SetUpFault) → IsSetUpDue request files due → (now ≡ one_more before) ⊎ ((came ≡ due) ⊎ (came ≡ Err fault.Memory))
 
-abbrev pub GivesScenario : Request → Option Files → ℕ → ℕ → Result Scenario SetUpFault → Type 0
+abbrev pub GivesScenario : ReportRequest → Option Files → ℕ → ℕ → Result Scenario SetUpFault → Type 0
 GivesScenario request files before now came =
     (due : Result Scenario SetUpFault) → IsScenarioDue request files due → (now ≡ one_more before) ⊎ ((came ≡ due) ⊎ (came ≡ Err fault.Memory))
 
-abbrev pub GivesRows : Request → Option Files → ℕ → ℕ → Result (List ℕ) SetUpFault → Type 0
+abbrev pub GivesRows : ReportRequest → Option Files → ℕ → ℕ → Result (List ℕ) SetUpFault → Type 0
 GivesRows request files before now came =
     (due : Result (List ℕ) SetUpFault) → AreRowsDue request files due → (now ≡ one_more before) ⊎ ((came ≡ due) ⊎ (came ≡ Err fault.Memory))
 
@@ -182,7 +162,7 @@ had_rows rows = Ok rows
 abbrev pub no_rows : SetUpFault → Result (List ℕ) SetUpFault
 no_rows why = Err why
 
-module _ (request : Request) (files : Option Files) (before now : ℕ) where
+module _ (request : ReportRequest) (files : Option Files) (before now : ℕ) where
   pub scenario_fails : (why : SetUpFault) → GivesScenario request files before now (Err why) → GivesDue request files before now (Err why)
   scenario_fails why gives (Ok made) is = by (gives (Ok made.0) is.0)
     where
@@ -204,7 +184,7 @@ module _ (request : Request) (files : Option Files) (before now : ℕ) where
       by (inr (inr memory)) = (let m : why ≡ fault.Memory = cc memory in inr (inr (ap not_set_up m)))
 
 -- Behind a scenario that was had.
-module _ (request : Request) (files : Option Files) (first before now : ℕ) (scenario : Scenario) (calm : before ≡ first)
+module _ (request : ReportRequest) (files : Option Files) (first before now : ℕ) (scenario : Scenario) (calm : before ≡ first)
     (gives : GivesScenario request files first before (Ok scenario)) (steps : (now ≡ before) ⊎ (now ≡ one_more before)) where
   risen_too : before ≡ one_more first → now ≡ one_more first
   risen_too risen = elim steps [

@@ -7,9 +7,10 @@ use Rattle.std.proofs.Math.Seq.{take-append-add}
 use Rattle.std.proofs.lemmas.List.{take-append-drop}
 use Rattle.outside.specs.Streams.{AppendsPart}
 use Rattle.scenario_values.specs.declared.values.Scenario.{Scenario}
-use Rattle.command_line.specs.declared.mode.Mode.{Mode}
+use Rattle.tasks.specs.declared.mode.Mode.{Mode}
 use Rattle.sessions.specs.Endings.{IsAnswerTo, IsEnding}
-use Rattle.sessions.specs.Modes.{needs_own, scenario_for}
+use Rattle.tasks.specs.Modes.{needs_own}
+use Rattle.sessions.specs.SessionScenarios.{scenario_for}
 use Rattle.scenario_values.specs.declared.own_part.OwnPart.{OwnPart}
 use Rattle.sessions.specs.Refusals.{IsStopped, IsUnrefused}
 use Rattle.sessions.specs.SettledText.{IsSettledText}

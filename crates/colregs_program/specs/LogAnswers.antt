@@ -2,7 +2,7 @@
 use Rattle.std.specs.Prelude.{ℕ, ◌≡◌, ◌++◌, Bool, true, false, List, Option, Ok, Err}
 use Rattle.std.specs.Io.KnownBytes.{Appends, Consumes}
 use Rattle.outside.specs.Streams.{AppendsPart}
-use Rattle.command_line.specs.declared.mode.Mode.{Mode}
+use Rattle.tasks.specs.declared.mode.Mode.{Mode}
 use Rattle.log_lines.specs.JudgedLines.{greatest_held}
 use Rattle.plan_situations.specs.PlanSituations.{greatest_targets}
 use Rattle.scenario_values.specs.declared.values.Scenario.{Scenario}

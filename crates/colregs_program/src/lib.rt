@@ -1,4 +1,4 @@
-//! The program as one call: a scenario and a log of AIS sentences in, the report of one mode out.
+//! The program as one call: a scenario and a log of AIS sentences in, the report of one task out.
 //!
 //! `run` reads the scenario from a shelf and the log from a source, block by block. It feeds each block to a session of the crate
 //! `sessions`, and writes to a sink what the session decides by it. What a finished run has written is the report that
@@ -20,10 +20,10 @@ mod stream_status;
 mod streaming;
 mod telling;
 
-pub use command_line::Mode;
 pub use drill_log::drill_log;
 pub use plan_situations::Unready;
 pub use program::run;
 pub use scenario::{Cause, Key, LogNumbers, Scenario, Window};
 pub use sessions::{Ending, Session, SessionFault};
 pub use status::{Status, Which};
+pub use tasks::Mode;

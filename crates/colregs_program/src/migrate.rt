@@ -7,13 +7,11 @@ ghost use Rattle.outside.specs.Streams.{AppendsPart};
 ghost use Rattle.scenario.specs.Migration.{IsNotMigrated};
 ghost use Rattle.scenario_keys.specs.declared.key.Key.{Key};
 ghost use Rattle.scenario_keys.specs.declared.cause.Cause.{Cause};
-ghost use Rattle.command_line.specs.declared.mode.Mode.TheVariants.{Migrate};
 ghost use Rattle.colregs_program.specs.Answers.{greatest_scenario, HoldsUnder, IsOfMigration, TellsLimit};
 ghost use Rattle.colregs_program.specs.LogAnswers.{IsFinished};
 ghost use Rattle.colregs_program.specs.FaultLines.{fault_line};
 ghost use Rattle.colregs_program.specs.Told.{Gains};
-ghost use Rattle.colregs_program.specs.Inner.Migrating.{ComesTo, HoldsMigrated, IsMigrationDue};
-ghost use Rattle.colregs_program.specs.Inner.SetUps.{SetUpCause, precedes_rows};
+ghost use Rattle.colregs_program.specs.Inner.Migrating.{ComesTo, HoldsMigrated, IsMigrationDue, MigrationCause};
 ghost use Rattle.colregs_program.specs.declared.set_up.SetUpFault.{SetUpFault};
 ghost use Rattle.colregs_program.specs.declared.status.Status.{Status};
 ghost use Rattle.colregs_program.specs.declared.status.Which.TheVariants as which;
@@ -22,55 +20,47 @@ use crate::fetching::fetch_text;
 use crate::set_up::{GREATEST_SCENARIO, SetUpFault};
 use crate::status::Status;
 use crate::telling::tell;
-use command_line::Request;
-use outside::{Shelf, Sink, put_all};
+use outside::{Shelf, Sink, Word, put_all};
 use scenario::migrate;
 use std::alloc::Global;
 
-/// The scenario under a request's name, as one of version 2.
-fn migrated<H: Shelf>(
-    alloc: Global,
-    request: &Request,
-    shelf: &mut H,
-) -> Result<Vec<u8>, SetUpFault>
-    requires { request.now.mode ≡ Migrate }
-    ensures migrated { IfOk result (λ text. HoldsMigrated (H.files shelf.old) request.now.name (λ migrated. migrated ≡ text.items)) }
-    ensures cause { IfErr result (SetUpCause request.now (H.files shelf.old) (H.faults shelf.old) (H.faults shelf.new)) }
-    ensures due { (due : Status) → IsMigrationDue request.now (H.files shelf.old) due
+/// The scenario of a name, as one of version 2.
+fn migrated<H: Shelf>(alloc: Global, name: &Word, shelf: &mut H) -> Result<Vec<u8>, SetUpFault>
+    ensures migrated { IfOk result (λ text. HoldsMigrated (H.files shelf.old) name.now (λ migrated. migrated ≡ text.items)) }
+    ensures cause { IfErr result (MigrationCause name.now (H.files shelf.old) (H.faults shelf.old) (H.faults shelf.new)) }
+    ensures due { (due : Status) → IsMigrationDue name.now (H.files shelf.old) due
         → (H.faults shelf.new ≡ one_more (H.faults shelf.old)) ⊎ ComesTo result due }
-    ensures early { IfErr result (λ why. IsTrue (precedes_rows why)) }
     ensures fetched { H.fetches shelf.new ≡ one_more (H.fetches shelf.old) }
     ensures calm { result ≢ Err SetUpFault.NotHad → H.faults shelf.new ≡ H.faults shelf.old }
 {
-    let text = fetch_text(alloc, &request.name, GREATEST_SCENARIO, shelf)?;
+    let text = fetch_text(alloc, name, GREATEST_SCENARIO, shelf)?;
     match migrate(alloc, text.as_slice()) {
         Ok(text) => Ok(text),
         Err(fault) => Err(fault.into()),
     }
 }
 
-/// Writes the scenario under a request's name as one of version 2. No log is looked at.
-pub(crate) fn write_migrated<H: Shelf, K: Sink, E: Sink>(
+/// Writes the scenario of a name as one of version 2. It reads no log.
+pub(crate) fn run_migration<H: Shelf, K: Sink, E: Sink>(
     alloc: Global,
-    request: &Request,
+    name: &Word,
     shelf: &mut H,
     out: &mut K,
     err: &mut E,
 ) -> Status
-    requires { request.now.mode ≡ Migrate }
-    ensures done { IsTrue (IsFinished result) → (result ≡ Status.Done) × HoldsMigrated (H.files shelf.old) request.now.name
+    ensures done { IsTrue (IsFinished result) → (result ≡ Status.Done) × HoldsMigrated (H.files shelf.old) name.now
         (λ text. Appends (K.contents out.old) (K.contents out.new) text) }
-    ensures due { (due : Status) → IsMigrationDue request.now (H.files shelf.old) due
+    ensures due { (due : Status) → IsMigrationDue name.now (H.files shelf.old) due
         → ¬ Rose (H.faults shelf.old) (H.faults shelf.new)
         → ¬ Rose (K.faults out.old) (K.faults out.new)
         → (result ≡ due) ⊎ (result ≡ Status.Memory) }
-    ensures shelf_fault { result ≡ Status.ShelfFault → (H.faults shelf.new ≡ one_more (H.faults shelf.old)) ⊎ IsMissing (H.files shelf.old) request.now.name }
+    ensures shelf_fault { result ≡ Status.ShelfFault → (H.faults shelf.new ≡ one_more (H.faults shelf.old)) ⊎ IsMissing (H.files shelf.old) name.now }
     ensures scenario_limit { (most : ℕ) → result ≡ Status.Limit which.Scenario most → (most ≡ greatest_scenario)
-        × HoldsUnder (H.files shelf.old) request.now.name (λ text. most < length text) }
+        × HoldsUnder (H.files shelf.old) name.now (λ text. most < length text) }
     ensures refused { (key : Key) (cause : Cause) → result ≡ Status.Scenario key cause
-        → HoldsUnder (H.files shelf.old) request.now.name (λ text. (length text ≤ greatest_scenario) × IsNotMigrated text key cause) }
+        → HoldsUnder (H.files shelf.old) name.now (λ text. (length text ≤ greatest_scenario) × IsNotMigrated text key cause) }
     ensures write_fault { result ≡ Status.WriteFault → (K.faults out.new ≡ one_more (K.faults out.old))
-        × HoldsMigrated (H.files shelf.old) request.now.name (λ text. AppendsPart (K.contents out.old) (K.contents out.new) text) }
+        × HoldsMigrated (H.files shelf.old) name.now (λ text. AppendsPart (K.contents out.old) (K.contents out.new) text) }
     ensures answers { IsTrue (IsOfMigration result) }
     ensures no_usage { result ≢ Status.Usage }
     ensures fetched { H.fetches shelf.new ≡ one_more (H.fetches shelf.old) }
@@ -81,7 +71,7 @@ pub(crate) fn write_migrated<H: Shelf, K: Sink, E: Sink>(
     ensures line { Gains (record { bytes = E.contents err.old; faults = E.faults err.old })
         (record { bytes = E.contents err.new; faults = E.faults err.new }) (fault_line result) }
 {
-    let text = match migrated(alloc, request, shelf) {
+    let text = match migrated(alloc, name, shelf) {
         Ok(text) => text,
         Err(fault) => return tell(alloc, fault.into(), err),
     };

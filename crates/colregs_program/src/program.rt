@@ -1,5 +1,5 @@
 //! The top call.
-ghost use Rattle.std.specs.Prelude.{◌≡◌, ◌≢◌, ◌<◌, ◌≤◌, ◌⊎◌, ℕ, length, IfSome, IsTrue, false};
+ghost use Rattle.std.specs.Prelude.{◌≡◌, ◌≢◌, ◌<◌, ◌≤◌, ◌⊎◌, ℕ, List, length, IfSome, IsTrue, false};
 ghost use Rattle.std.specs.Io.KnownBytes.{Appends, Keeps};
 ghost use Rattle.outside.specs.Causes.{one_more, Rose};
 ghost use Rattle.outside.specs.Shelves.{IsMissing};
@@ -8,13 +8,16 @@ ghost use Rattle.outside.specs.WholeReading.{StopsAt};
 ghost use Rattle.outside.specs.declared.whole.ReadFault.TheVariants as read;
 ghost use Rattle.scenario_keys.specs.declared.key.Key.{Key};
 ghost use Rattle.scenario_keys.specs.declared.cause.Cause.{Cause};
-ghost use Rattle.command_line.specs.Requests.{AskFor, AskForNothing};
-ghost use Rattle.command_line.specs.declared.mode.Mode.TheVariants.{Drill, Migrate};
+ghost use Rattle.command_line.specs.GivenArguments.{AskForNothing};
+ghost use Rattle.command_line.specs.Requests.{AskFor};
+ghost use Rattle.command_line.specs.declared.request.ReportRequest.{ReportRequest};
 ghost use Rattle.command_line.specs.declared.request.Request.{Request};
+ghost use Rattle.command_line.specs.declared.request.Request.TheVariants as asks;
 ghost use Rattle.refutation_check.specs.declared.checked_text.TheConstants.{GREATEST_TEXT};
-ghost use Rattle.sessions.specs.Modes.{needs_rows, reads_log};
-ghost use Rattle.colregs_program.specs.Answers.{EndsWith, greatest_scenario, HoldsUnder, IsBeforeLog, IsDue, IsOfDrill, IsOfMigration, IsReadBy, IsRefusedBy, MayPrecedeRows, Migrates, Requested, Runs, StopsWith, TellsLimit, WritesNothing, WritesPart};
-ghost use Rattle.colregs_program.specs.AskedScenarios.{log_of, task_of};
+ghost use Rattle.tasks.specs.Modes.{needs_rows, reads_log};
+ghost use Rattle.tasks.specs.Tasks.{task_mode, task_rows};
+ghost use Rattle.colregs_program.specs.Answers.{AskForMigration, EndsWith, greatest_scenario, HoldsUnder, IsBeforeLog, IsDue, IsOfDrill, IsOfMigration, IsReadBy, IsRefusedBy, MayPrecedeRows, Migrates, ReportRequested, Requested, Runs, StopsWith, TellsLimit, WritesNothing, WritesPart};
+ghost use Rattle.colregs_program.specs.AskedScenarios.{OfReport, asks_log, asks_rows, log_of, scenario_name, task_of};
 ghost use Rattle.colregs_program.specs.FaultLines.{fault_line};
 ghost use Rattle.colregs_program.specs.LogAnswers.{GainsFront, GainsReport, IsAnswered, IsFinished, LeavesSettled};
 ghost use Rattle.colregs_program.specs.Told.{Gains};
@@ -22,16 +25,15 @@ ghost use Rattle.plan_situations.specs.declared.readiness.Unready.{Unready};
 ghost use Rattle.colregs_program.specs.declared.status.Status.{Status};
 ghost use Rattle.colregs_program.specs.declared.status.Which.TheVariants as which;
 
-use crate::migrate::write_migrated;
+use crate::migrate::run_migration;
 use crate::report::report_on;
 use crate::set_up::set_up;
 use crate::status::Status;
 use crate::stream_status::stream_status;
 use crate::telling::tell;
-use command_line::request_of;
+use command_line::{Request, request_of};
 use outside::{Shelf, Sink, Source, Word};
 use sessions::laws::one_answer;
-use sessions::reports;
 use std::alloc::Global;
 
 /// Runs the program with these words, which do not hold its own name, and which `clap` reads by the command `colregs`.
@@ -59,7 +61,7 @@ pub fn run<H: Shelf, S: Source, K: Sink, E: Sink>(
     // which makes its log, and `out` gained exactly the report, which is that of the answer: `NoManoeuvre` comes exactly where every plan
     // fails. A printed plan is safe.
     // A finished migration wrote the same scenario in version 2.
-    ensures headline { IsTrue (IsFinished result) → Runs words.now (H.files shelf.old) (λ request. IsReadBy request.mode (S.left log.new))
+    ensures headline { IsTrue (IsFinished result) → Runs words.now (H.files shelf.old) (λ request. IsReadBy (task_mode request.task) (S.left log.new))
         (λ request rows scenario. IfSome (log_of request scenario (S.left log.old)) (λ bytes. IsAnswered (task_of request rows) scenario bytes result
         × GainsReport (task_of request rows) scenario bytes (K.contents out.old) (K.contents out.new)))
         ⊎ ((result ≡ Status.Done) × Migrates words.now (H.files shelf.old) (λ text. Appends (K.contents out.old) (K.contents out.new) text)) }
@@ -75,22 +77,23 @@ pub fn run<H: Shelf, S: Source, K: Sink, E: Sink>(
     ensures usage { result ≡ Status.Usage → AskForNothing words.now }
     ensures no_usage { (request : Request) → AskFor words.now request → result ≢ Status.Usage }
     ensures shelf_fault { result ≡ Status.ShelfFault → Requested words.now (λ request.
-        (H.faults shelf.new ≡ one_more (H.faults shelf.old)) ⊎ (IsMissing (H.files shelf.old) request.name
-        ⊎ (IsTrue (needs_rows request.mode) × IsMissing (H.files shelf.old) request.options.rows))) }
+        (H.faults shelf.new ≡ one_more (H.faults shelf.old)) ⊎ (IsMissing (H.files shelf.old) (scenario_name request)
+        ⊎ OfReport request (λ report. IsTrue (needs_rows (task_mode report.task)) × IsMissing (H.files shelf.old) (task_rows report.task)))) }
     ensures scenario_limit { (most : ℕ) → result ≡ Status.Limit which.Scenario most → (most ≡ greatest_scenario)
-        × Requested words.now (λ request. HoldsUnder (H.files shelf.old) request.name (λ text. most < length text)) }
+        × Requested words.now (λ request. HoldsUnder (H.files shelf.old) (scenario_name request) (λ text. most < length text)) }
     ensures rows_limit { (most : ℕ) → result ≡ Status.Limit which.Rows most → (most ≡ GREATEST_TEXT)
-        × Requested words.now (λ request. IsTrue (needs_rows request.mode) × HoldsUnder (H.files shelf.old) request.options.rows (λ text. most < length text)) }
+        × ReportRequested words.now (λ request. IsTrue (needs_rows (task_mode request.task))
+        × HoldsUnder (H.files shelf.old) (task_rows request.task) (λ text. most < length text)) }
     ensures refused { (key : Key) (cause : Cause) → result ≡ Status.Scenario key cause
-        → Requested words.now (λ request. HoldsUnder (H.files shelf.old) request.name (λ text.
-        (length text ≤ greatest_scenario) × IsRefusedBy request.mode text key cause)) }
+        → Requested words.now (λ request. HoldsUnder (H.files shelf.old) (scenario_name request) (λ text.
+        (length text ≤ greatest_scenario) × IsRefusedBy request text key cause)) }
     // A run that a fault or a refusal stops has written what the bytes before it settle. Own ship's lacks, her targets and an entry that is not
     // right come at the log's end.
     ensures read_fault { result ≡ Status.ReadFault → (S.faults log.new ≡ one_more (S.faults log.old))
-        × Runs words.now (H.files shelf.old) (λ request. IsTrue (reads_log request.mode))
-        (λ request rows scenario. LeavesSettled request.mode scenario (S.left log.old) (S.left log.new) (K.contents out.old) (K.contents out.new)) }
+        × Runs words.now (H.files shelf.old) (λ request. IsTrue (reads_log (task_mode request.task)))
+        (λ request rows scenario. LeavesSettled (task_mode request.task) scenario (S.left log.old) (S.left log.new) (K.contents out.old) (K.contents out.new)) }
     ensures log_limit { (most : ℕ) → result ≡ Status.Limit which.Log most → Runs words.now (H.files shelf.old)
-        (λ request. IsTrue (reads_log request.mode) → StopsAt most 0 (S.left log.old) (S.left log.new) read.TooLong)
+        (λ request. IsTrue (reads_log (task_mode request.task)) → StopsAt most 0 (S.left log.old) (S.left log.new) read.TooLong)
         (λ request rows scenario. (most ≡ scenario.log.max_bytes)
         × StopsWith request scenario (S.left log.old) (K.contents out.old) (K.contents out.new) (Status.Limit which.Log most)) }
     ensures vessel_limit { (most : ℕ) → result ≡ Status.Limit which.Vessels most → Runs words.now (H.files shelf.old) (λ _. Unit {0})
@@ -111,21 +114,22 @@ pub fn run<H: Shelf, S: Source, K: Sink, E: Sink>(
         ⊎ Migrates words.now (H.files shelf.old) (λ text. AppendsPart (K.contents out.old) (K.contents out.new) text)) }
     ensures memory { result ≡ Status.Memory → Keeps (K.contents out.old) (K.contents out.new) ⊎ Runs words.now (H.files shelf.old) (λ _. Unit {0})
         (λ request rows scenario. IfSome (log_of request scenario (S.left log.old)) (λ bytes.
-        GainsFront request.mode scenario bytes (K.contents out.old) (K.contents out.new))) }
-    ensures drill { (request : Request) → AskFor words.now request → request.mode ≡ Drill → IsTrue (IsOfDrill result) }
-    ensures migration { (request : Request) → AskFor words.now request → request.mode ≡ Migrate → IsTrue (IsOfMigration result) }
+        GainsFront (task_mode request.task) scenario bytes (K.contents out.old) (K.contents out.new))) }
+    ensures drill { (request : ReportRequest) → AskFor words.now (asks.Report request) → reads_log (task_mode request.task) ≡ false
+        → IsTrue (IsOfDrill result) }
+    ensures migration { (name : List ℕ) → AskForMigration words.now name → IsTrue (IsOfMigration result) }
 
     // What is asked for and what is written then.
     ensures unfetched { AskForNothing words.now → H.fetches shelf.new ≡ H.fetches shelf.old }
-    ensures fetched { (request : Request) → AskFor words.now request → needs_rows request.mode ≡ false
+    ensures fetched { (request : Request) → AskFor words.now request → asks_rows request ≡ false
         → (H.fetches shelf.new ≡ one_more (H.fetches shelf.old)) ⊎ ((result ≡ Status.Memory) × (H.fetches shelf.new ≡ H.fetches shelf.old)) }
-    ensures fetched_rows { (request : Request) → AskFor words.now request → IsTrue (needs_rows request.mode)
+    ensures fetched_rows { (request : Request) → AskFor words.now request → IsTrue (asks_rows request)
         → (H.fetches shelf.new ≡ one_more (one_more (H.fetches shelf.old)))
         ⊎ ((IsTrue (MayPrecedeRows result) × (H.fetches shelf.new ≡ one_more (H.fetches shelf.old)))
         ⊎ ((result ≡ Status.Memory) × (H.fetches shelf.new ≡ H.fetches shelf.old))) }
     ensures untouched { IsTrue (IsBeforeLog result)
         → Keeps (S.left log.old) (S.left log.new) × (S.faults log.new ≡ S.faults log.old) }
-    ensures unread { (request : Request) → AskFor words.now request → reads_log request.mode ≡ false
+    ensures unread { (request : Request) → AskFor words.now request → asks_log request ≡ false
         → Keeps (S.left log.old) (S.left log.new) × (S.faults log.new ≡ S.faults log.old) }
     ensures unwritten { IsTrue (WritesNothing result) → Keeps (K.contents out.old) (K.contents out.new) }
     // The count of faults of each rises with its answer alone, and so tells which of them has failed.
@@ -141,16 +145,17 @@ pub fn run<H: Shelf, S: Source, K: Sink, E: Sink>(
         Ok(request) => request,
         Err(fault) => return tell(alloc, fault.into(), err),
     };
-    if !reports(request.mode) {
-        return write_migrated(alloc, &request, shelf, out, err);
-    }
-    let made = match set_up(alloc, &request, shelf) {
+    let report = match request {
+        Request::Report(report) => report,
+        Request::Migration(name) => return run_migration(alloc, &name, shelf, out, err),
+    };
+    let made = match set_up(alloc, &report, shelf) {
         Ok(made) => made,
         Err(fault) => return tell(alloc, fault.into(), err),
     };
     one_answer();
     let most = made.scenario.log.max_bytes;
-    let none = match report_on(alloc, &request, made, log, out) {
+    let none = match report_on(alloc, &report, made, log, out) {
         Ok(none) => none,
         Err(fault) => return tell(alloc, stream_status(fault, most), err),
     };

@@ -3,7 +3,8 @@ ghost use Rattle.std.specs.Prelude.{◌≡◌, ◌≤◌, length, false, IfErr, 
 ghost use Rattle.std.specs.Io.KnownBytes.{Keeps};
 ghost use Rattle.refutation_check.specs.declared.checked_text.TheConstants.{GREATEST_TEXT};
 ghost use Rattle.scenario_values.specs.ValueRanges.{IsInRange};
-ghost use Rattle.sessions.specs.Modes.{needs_own, reads_log, reports};
+ghost use Rattle.tasks.specs.Modes.{needs_own, reads_log};
+ghost use Rattle.tasks.specs.Tasks.{task_mode, task_seed};
 ghost use Rattle.colregs_program.specs.Answers.{IsReadBy};
 ghost use Rattle.colregs_program.specs.AskedScenarios.{log_of, task_of};
 ghost use Rattle.colregs_program.specs.LogAnswers.{Reports};
@@ -11,11 +12,11 @@ ghost use Rattle.colregs_program.specs.Inner.Streaming.{LogCount, OutCount, Repo
 
 use crate::set_up::SetUp;
 use crate::streaming::{StreamFault, write_report};
-use command_line::Request;
+use command_line::ReportRequest;
 use drill_laws::laws::a_drill_meets_no_limit;
 use drill_log::DrillSource;
 use outside::{Sink, Source};
-use sessions::{Asked, SessionFault, reads_log};
+use sessions::{Asked, SessionFault};
 use std::alloc::Global;
 
 /// The fault of a run whose log is made: where it cannot be read, there is no memory to make it.
@@ -32,37 +33,40 @@ fn made_fault(fault: StreamFault) -> StreamFault
 /// Writes the report that a request asks for. Tells whether it is one without a manoeuvre.
 pub(crate) fn report_on<S: Source, K: Sink>(
     alloc: Global,
-    request: &Request,
+    request: &ReportRequest,
     set_up: SetUp,
     log: &mut S,
     out: &mut K,
 ) -> Result<bool, StreamFault>
-    requires reports { IsTrue (reports request.now.mode) }
     requires in_range { IsInRange set_up.scenario }
-    requires own { IsTrue (needs_own request.now.mode) → IsSome set_up.scenario.own }
-    requires unneeded { needs_own request.now.mode ≡ false → set_up.scenario.own ≡ None }
+    requires own { IsTrue (needs_own (task_mode request.now.task)) → IsSome set_up.scenario.own }
+    requires unneeded { needs_own (task_mode request.now.task) ≡ false → set_up.scenario.own ≡ None }
     requires rows { length set_up.rows.items ≤ GREATEST_TEXT }
-    requires seed { request.now.options.seed ≤ 999999 }
+    requires seed { task_seed request.now.task ≤ 999999 }
     ensures report { IfOk result (λ none. IfSome (log_of request.now set_up.scenario (S.left log.old)) (λ bytes.
         Reports (task_of request.now set_up.rows.items) set_up.scenario bytes none (K.contents out.old) (K.contents out.new))) }
-    ensures end { OnOk result (IsReadBy request.now.mode (S.left log.new)) }
-    ensures untouched { reads_log request.now.mode ≡ false → Keeps (S.left log.old) (S.left log.new) × (S.faults log.new ≡ S.faults log.old) }
-    ensures cause { IfErr result (ReportCause request.now set_up.rows.items set_up.scenario (S.left log.old) (S.left log.new) (K.contents out.old) (K.contents out.new)) }
-    ensures drill { reads_log request.now.mode ≡ false → MatchResult result (λ none. none ≡ false) (λ fault. IsTrue (is_of_drill fault)) }
+    ensures end { OnOk result (IsReadBy (task_mode request.now.task) (S.left log.new)) }
+    ensures untouched { reads_log (task_mode request.now.task) ≡ false
+        → Keeps (S.left log.old) (S.left log.new) × (S.faults log.new ≡ S.faults log.old) }
+    ensures cause { IfErr result (ReportCause request.now set_up.rows.items set_up.scenario
+        (S.left log.old) (S.left log.new) (K.contents out.old) (K.contents out.new)) }
+    ensures drill { reads_log (task_mode request.now.task) ≡ false
+        → MatchResult result (λ none. none ≡ false) (λ fault. IsTrue (is_of_drill fault)) }
     ensures log_faults { MatchResult result (λ _. S.faults log.new ≡ S.faults log.old) (LogCount (S.faults log.old) (S.faults log.new)) }
     ensures out_faults { MatchResult result (λ _. K.faults out.new ≡ K.faults out.old) (OutCount (K.faults out.old) (K.faults out.new)) }
 {
     let SetUp { scenario, rows } = set_up;
-    let mode = request.mode;
+    let mode = request.task.mode();
     let asked = Asked {
-        why: request.options.why,
+        why: request.task.says_why(),
         rows: rows.as_slice(),
     };
-    if reads_log(mode) {
-        return write_report(alloc, scenario, mode, &asked, log, out);
-    }
+    let seed = match request.task.seed() {
+        Some(seed) => seed,
+        None => return write_report(alloc, scenario, mode, &asked, log, out),
+    };
     a_drill_meets_no_limit();
-    let mut made = DrillSource::new(alloc, &scenario, request.options.seed)?;
+    let mut made = DrillSource::new(alloc, &scenario, seed)?;
     match write_report(alloc, scenario, mode, &asked, &mut made, out) {
         Ok(none) => Ok(none),
         Err(fault) => Err(made_fault(fault)),

@@ -5,18 +5,19 @@ ghost use Rattle.scenario_values.specs.ValueRanges.{IsInRange};
 ghost use Rattle.scenario_values.specs.declared.values.Scenario.{Scenario};
 ghost use Rattle.colregs_program.specs.Answers.{AreRows, HoldsUnder, IsScenario};
 ghost use Rattle.colregs_program.specs.AskedScenarios.{with_options};
-ghost use Rattle.sessions.specs.Modes.{needs_own, needs_rows, reports};
+ghost use Rattle.tasks.specs.Modes.{needs_own, needs_rows};
+ghost use Rattle.tasks.specs.Tasks.{task_mode, task_rows};
 ghost use Rattle.colregs_program.specs.Inner.SetUps.{AreOptions, AreRowsDue, HaveFetched, IsScenarioDue, IsSetUpDue, SetFor, SetUpCause, came_of, precedes_rows, rows_fault, rows_had};
 ghost use Rattle.colregs_program.specs.declared.set_up.SetUpFault.{SetUpFault};
 
 use crate::fetching::{FetchFault, fetch_text};
 use crate::status::{Status, Which};
-use command_line::{Options, Request};
+use command_line::{ReportRequest, WindowOptions};
 use outside::Shelf;
 use refutation_check::GREATEST_TEXT;
 use scenario::{Cause, Key, Scenario, ScenarioFault, read};
-use sessions::{needs_own, needs_rows};
 use std::alloc::Global;
+use tasks::needs_own;
 
 /// The greatest length of a scenario, in bytes.
 pub(crate) const GREATEST_SCENARIO: u64 = 1 << 20;
@@ -82,7 +83,7 @@ impl From<SetUpFault> for Status {
 }
 
 /// The scenario with the values that are given in place of its own.
-fn with_options(mut scenario: Scenario, options: &Options) -> Scenario
+fn with_options(mut scenario: Scenario, options: &WindowOptions) -> Scenario
     ensures { result ≡ with_options options.now scenario }
 {
     if let Some(start) = options.start {
@@ -105,18 +106,17 @@ fn rows_fault(fault: FetchFault) -> SetUpFault
     }
 }
 
-/// The scenario of a request, with own ship where its mode needs her.
+/// The scenario of a request, with own ship if its task needs her.
 fn scenario_of<H: Shelf>(
     alloc: Global,
-    request: &Request,
+    request: &ReportRequest,
     shelf: &mut H,
 ) -> Result<Scenario, SetUpFault>
-    requires options { AreOptions request.now.options }
-    requires reports { IsTrue (reports request.now.mode) }
+    requires { AreOptions request.now.window }
     ensures scenario { IfOk result (λ scenario. HoldsUnder (H.files shelf.old) request.now.name (λ text. IsScenario request.now text scenario)) }
     ensures in_range { IfOk result IsInRange }
-    ensures own { IfOk result (λ scenario. IsTrue (needs_own request.now.mode) → IsSome scenario.own) }
-    ensures unneeded { IfOk result (λ scenario. needs_own request.now.mode ≡ false → scenario.own ≡ None) }
+    ensures own { IfOk result (λ scenario. IsTrue (needs_own (task_mode request.now.task)) → IsSome scenario.own) }
+    ensures unneeded { IfOk result (λ scenario. needs_own (task_mode request.now.task) ≡ false → scenario.own ≡ None) }
     ensures cause { IfErr result (SetUpCause request.now (H.files shelf.old) (H.faults shelf.old) (H.faults shelf.new)) }
     ensures due { (due : Result Scenario SetUpFault) → IsScenarioDue request.now (H.files shelf.old) due
         → (H.faults shelf.new ≡ one_more (H.faults shelf.old)) ⊎ ((result ≡ due) ⊎ (result ≡ Err SetUpFault.Memory)) }
@@ -126,27 +126,33 @@ fn scenario_of<H: Shelf>(
     ensures calm { result ≢ Err SetUpFault.NotHad → H.faults shelf.new ≡ H.faults shelf.old }
 {
     let text = fetch_text(alloc, &request.name, GREATEST_SCENARIO, shelf)?;
-    match read(alloc, text.as_slice(), needs_own(request.mode)) {
-        Ok(scenario) => Ok(with_options(scenario, &request.options)),
+    match read(alloc, text.as_slice(), needs_own(request.task.mode())) {
+        Ok(scenario) => Ok(with_options(scenario, &request.window)),
         Err(fault) => Err(fault.into()),
     }
 }
 
-/// The text of the rows of a request, where its mode needs them; else an empty one.
-fn rows_of<H: Shelf>(alloc: Global, request: &Request, shelf: &mut H) -> Result<Vec<u8>, SetUpFault>
+/// The text of the rows that the task of a request checks, or an empty one if it checks none.
+fn rows_of<H: Shelf>(
+    alloc: Global,
+    request: &ReportRequest,
+    shelf: &mut H,
+) -> Result<Vec<u8>, SetUpFault>
     ensures rows { IfOk result (λ rows. AreRows (H.files shelf.old) request.now rows.items) }
     ensures few { IfOk result (λ rows. length rows.items ≤ GREATEST_TEXT) }
     ensures cause { IfErr result (SetUpCause request.now (H.files shelf.old) (H.faults shelf.old) (H.faults shelf.new)) }
     ensures due { (due : Result (List ℕ) SetUpFault) → AreRowsDue request.now (H.files shelf.old) due
         → (H.faults shelf.new ≡ one_more (H.faults shelf.old)) ⊎ ((rows_had result ≡ due) ⊎ (rows_had result ≡ Err SetUpFault.Memory)) }
     ensures steps { (H.faults shelf.new ≡ H.faults shelf.old) ⊎ (H.faults shelf.new ≡ one_more (H.faults shelf.old)) }
-    ensures fetched { H.fetches shelf.new ≡ (if needs_rows request.now.mode then one_more (H.fetches shelf.old) else H.fetches shelf.old) }
+    ensures fetched { H.fetches shelf.new ≡
+        (if needs_rows (task_mode request.now.task) then one_more (H.fetches shelf.old) else H.fetches shelf.old) }
     ensures calm { result ≢ Err SetUpFault.NotHad → H.faults shelf.new ≡ H.faults shelf.old }
 {
-    if !needs_rows(request.mode) {
-        return Ok(Vec::new(alloc));
-    }
-    match fetch_text(alloc, &request.options.rows, GREATEST_TEXT, shelf) {
+    let name = match request.task.rows() {
+        Some(name) => name,
+        None => return Ok(Vec::new(alloc)),
+    };
+    match fetch_text(alloc, name, GREATEST_TEXT, shelf) {
         Ok(rows) => Ok(rows),
         Err(fault) => Err(rows_fault(fault)),
     }
@@ -155,26 +161,25 @@ fn rows_of<H: Shelf>(alloc: Global, request: &Request, shelf: &mut H) -> Result<
 /// What a run is set up with.
 #[derive(Drop)]
 pub(crate) struct SetUp {
-    /// The scenario, with own ship where the mode needs her.
+    /// The scenario, with own ship if the task needs her.
     pub(crate) scenario: Scenario,
-    /// The text of the rows that the mode needs, or an empty one.
+    /// The text of the rows that the task checks, or an empty one.
     pub(crate) rows: Vec<u8>,
 }
 
 /// The scenario of a request, and then the rows that it needs.
 pub(crate) fn set_up<H: Shelf>(
     alloc: Global,
-    request: &Request,
+    request: &ReportRequest,
     shelf: &mut H,
 ) -> Result<SetUp, SetUpFault>
-    requires options { AreOptions request.now.options }
-    requires reports { IsTrue (reports request.now.mode) }
+    requires { AreOptions request.now.window }
     ensures scenario { IfOk result (λ made. HoldsUnder (H.files shelf.old) request.now.name (λ text. IsScenario request.now text made.scenario)) }
     ensures rows { IfOk result (λ made. AreRows (H.files shelf.old) request.now made.rows.items) }
     ensures few { IfOk result (λ made. length made.rows.items ≤ GREATEST_TEXT) }
     ensures in_range { IfOk result (λ made. IsInRange made.scenario) }
-    ensures own { IfOk result (λ made. IsTrue (needs_own request.now.mode) → IsSome made.scenario.own) }
-    ensures unneeded { IfOk result (λ made. needs_own request.now.mode ≡ false → made.scenario.own ≡ None) }
+    ensures own { IfOk result (λ made. IsTrue (needs_own (task_mode request.now.task)) → IsSome made.scenario.own) }
+    ensures unneeded { IfOk result (λ made. needs_own (task_mode request.now.task) ≡ false → made.scenario.own ≡ None) }
     ensures cause { IfErr result (SetUpCause request.now (H.files shelf.old) (H.faults shelf.old) (H.faults shelf.new)) }
     ensures due { (due : Result SetFor SetUpFault) → IsSetUpDue request.now (H.files shelf.old) due
         → (H.faults shelf.new ≡ one_more (H.faults shelf.old)) ⊎ ((came_of result ≡ due) ⊎ (came_of result ≡ Err SetUpFault.Memory)) }

@@ -4,7 +4,7 @@ ghost use Rattle.std.specs.declared.option.Option.{Option};
 ghost use Rattle.std.specs.Io.KnownBytes.{Appends, IsAtEnd};
 ghost use Rattle.audit_report.specs.ReportTexts.{HasText};
 ghost use Rattle.scenario_values.specs.ValueRanges.{IsInRange};
-ghost use Rattle.sessions.specs.Modes.{needs_own, reports};
+ghost use Rattle.tasks.specs.Modes.{needs_own};
 ghost use Rattle.sessions.specs.Standing.{IsInUse, StandsFor, mode_of, session_scenario, taken_of};
 ghost use Rattle.sessions.specs.Tasks.{task_by};
 ghost use Rattle.sessions.specs.declared.asked.Asked.{Asked};
@@ -222,7 +222,6 @@ pub(crate) fn write_report<S: Source, K: Sink>(
     requires in_range { IsInRange scenario }
     requires own { IsTrue (needs_own mode) → IsSome scenario.own }
     requires unneeded { needs_own mode ≡ false → scenario.own ≡ None }
-    requires reports { IsTrue (reports mode) }
     requires rows { length asked.now.rows.now ≤ GREATEST_TEXT }
     ensures report { IfOk result (λ none. IfSome (S.left log.old) (λ bytes. Reports (task_by mode asked.now) scenario bytes none (K.contents out.old) (K.contents out.new))) }
     ensures end { OnOk result (IsAtEnd (S.left log.new)) }

@@ -13,7 +13,7 @@ use Rattle.clap.specs.declared.builder.value_parser.ValueParser.TheVariants.{Val
 use Rattle.clap.specs.declared.error.kind.ErrorKind.TheVariants.{InvalidValue, TooManyValues}
 use Rattle.clap.specs.Walk.{Held, Outcome, Step, Waiting, Walk, after_flag, after_step, arg_by_id, arg_by_index, arg_by_long, arg_by_short, attached_value, bundle, bundle_met, bundle_step, done, finished, flag_met, idle, is_pending, long_met, long_or_other, long_word, next, nothing_held, option, option_met, option_word, plain, plain_word, positional, positional_held, pushed, reacted, refused, settled, settled_rows, short_met, short_or_plain, short_word, subcommand, subcommand_met, subcommand_or_other, takes_several, takes_values, to_positional, trailing, used, used_by_id, value, waits, walk_from, walked, walked_from, word_met}
 use Rattle.command_line.specs.CommandLine.{colregs, settings}
-use Rattle.command_line.specs.Requests.{with_program_name}
+use Rattle.command_line.specs.GivenArguments.{with_program_name}
 use Rattle.command_line.proofs.Finished.{defaults_added, defaults_pass, fault_behind, fault_in_two, with_settings}
 use Rattle.command_line.proofs.Settings.{Choices, top}
 

@@ -8,8 +8,8 @@ use Rattle.clap.specs.ValueTests.{accepts}
 use Rattle.clap.specs.declared.builder.value_parser.ValueParser.{ValueParser}
 use Rattle.clap.specs.declared.builder.value_parser.ValueParser.TheVariants as parser
 use Rattle.command_line.specs.CommandLine.{Kind, Setting, Value, a_flag, a_number, a_text, default_of, flag, kind_of, rows_file, seed, start, takes_number, takes_text, ticks, why, written}
-use Rattle.command_line.specs.Requests.{IsTaken, MayBeGiven, is_plain_text, said, value_of}
-use Rattle.command_line.specs.declared.request.Options.{Options}
+use Rattle.command_line.specs.GivenArguments.{IsTaken, MayBeGiven, is_plain_text, said, value_of}
+use Rattle.command_line.specs.declared.arguments.Options.{Options}
 use Rattle.command_line.proofs.Numbers.{decimal_accepted, decimal_is_number, decimal_is_plain}
 
 -- the numbers of the kind are small, and its default lies in the range

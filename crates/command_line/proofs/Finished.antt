@@ -17,7 +17,7 @@ use Rattle.clap.specs.declared.parser.matches.ValueSource.TheVariants.{DefaultVa
 use Rattle.clap.proofs.SimpleLemmas.{is_false, is_nil}
 use Rattle.clap.proofs.WalkLemmas.{both}
 use Rattle.command_line.specs.CommandLine.{Kind, Setting, a_number, colregs, default_texts, flag, kind_of, label, option_rule, settings, takes_number, takes_text}
-use Rattle.command_line.specs.Requests.{with_program_name}
+use Rattle.command_line.specs.GivenArguments.{with_program_name}
 use Rattle.command_line.proofs.ByKind.{IsSound, right_accepted, right_default, sound}
 use Rattle.command_line.proofs.Plain.{Walks, first_rows}
 use Rattle.command_line.proofs.Settings.{Choices, built_rule, known, setting_is, top}

@@ -1,10 +1,11 @@
 pub mod ForCallers
 mod Alike
-mod Arguments
+mod RuledArguments
 pub mod Asked
+mod Given
 mod ByKind
 mod Finished
-mod HeldRequests
+mod HeldArguments
 mod Numbers
 mod Parsed
 mod Plain

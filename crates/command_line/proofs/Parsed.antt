@@ -24,7 +24,7 @@ use Rattle.clap.proofs.SimpleLemmas.{is_false, is_nil, plain_fields}
 use Rattle.clap.proofs.WalkLemmas.{both}
 use Rattle.command_line.specs.CommandLine.{Kind, Setting, a_number, colregs, default_of, flag, kind_of, label, mode_rule, option_rule, scenario_rule, setting_rule, settings}
 use Rattle.command_line.specs.CommandLine.{takes_number, takes_text, written}
-use Rattle.command_line.specs.Requests.{IsTaken}
+use Rattle.command_line.specs.GivenArguments.{IsTaken}
 use Rattle.command_line.proofs.ByKind.{TakesValue}
 use Rattle.command_line.proofs.Settings.{Choices, known, setting_is}
 

@@ -8,8 +8,8 @@ use Rattle.clap.specs.Kinds.{or_else}
 use Rattle.clap.specs.Walk.{Walk, has_row, nothing_held, walk_from, walked}
 use Rattle.clap.specs.Faults.{settle_fault, turn_fault, walk_fault}
 use Rattle.command_line.specs.CommandLine.{AreModes, Setting, Value, a_flag, a_number, a_text, flag, kind_of, label, mode_text, written}
-use Rattle.command_line.specs.Requests.{AreOnce, MayAllBeGiven, is_given, is_plain_text, setting_words}
-use Rattle.command_line.specs.declared.mode.Mode.{Mode}
+use Rattle.command_line.specs.GivenArguments.{AreOnce, MayAllBeGiven, is_given, is_plain_text, setting_words}
+use Rattle.command_line.specs.declared.mode.ModeArgument.{ModeArgument}
 use Rattle.command_line.proofs.ByKind.{IsRight, TakesValue, flag_kind, number_kind, right_accepted, right_given, sound, text_kind}
 use Rattle.command_line.proofs.Settings.{Choices, known, top}
 use Rattle.command_line.proofs.Walking.{Pending, before_value, behind, flag_faultless, flag_walked, held, mode_accepted, mode_faultless, mode_is_name, mode_walked, name_faultless, name_faultless_by}
@@ -160,7 +160,7 @@ first_missing values mode name (g ∷ rest) =
     (ap₂ (λ a b. a || (b || false)) is.no_mode is.no_scenario, first_missing values mode name rest)
 
 -- the plain form is walked
-pub plain_walks : (values : Choices) → AreModes values.now → (m : Mode) (name : Text) (given : List (Setting × Value)) → is_plain_text name ≡ true → AreOnce given → MayAllBeGiven given
+pub plain_walks : (values : Choices) → AreModes values.now → (m : ModeArgument) (name : Text) (given : List (Setting × Value)) → is_plain_text name ≡ true → AreOnce given → MayAllBeGiven given
     → Walks values (walk_from nothing_held) (mode_text m ∷ name ∷ flat_map setting_words given) (first_rows (mode_text m) name ++ map setting_row given)
 plain_walks values are m name given named once may =
     let t = mode_text m in

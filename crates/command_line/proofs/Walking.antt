@@ -17,9 +17,10 @@ use Rattle.clap.specs.declared.parser.matches.ValueSource.TheVariants.{CommandLi
 use Rattle.clap.proofs.OnLiterals.{clap_on_literals}
 use Rattle.clap.proofs.SimpleLemmas.{is_false}
 use Rattle.command_line.specs.CommandLine.{AreModes, Kind, Setting, colregs, flag, kind_of, label, mode_text, option_rule, takes_number, takes_text}
-use Rattle.command_line.specs.Requests.{is_plain_text}
-use Rattle.command_line.specs.declared.mode.Mode.{Mode}
-use Rattle.command_line.specs.declared.mode.Mode.TheVariants as mode
+use Rattle.command_line.specs.GivenArguments.{is_plain_text}
+use Rattle.command_line.specs.declared.mode.ModeArgument.{ModeArgument}
+use Rattle.command_line.specs.declared.mode.ModeArgument.TheVariants as argument
+use Rattle.tasks.specs.declared.mode.Mode.TheVariants as mode
 use Rattle.command_line.proofs.ByKind.{TakesValue, parser_of_kind}
 use Rattle.command_line.proofs.Settings.{Choices, built_rule, known, top}
 
@@ -58,14 +59,14 @@ unfolding colregs top clap_on_literals
 mode_faultless values [] named = absurd (true≢false (sym named))
 mode_faultless values (c ∷ cs) named = let plain : (c == 45) ≡ false = is_false _ named in simp plain
 
-pub mode_is_name : (m : Mode) → is_plain_text (mode_text m) ≡ true
-mode_is_name mode.Points = refl
-mode_is_name mode.Audit = refl
-mode_is_name mode.Plan = refl
-mode_is_name mode.Drill = refl
-mode_is_name mode.Migrate = refl
-mode_is_name mode.Recheck = refl
-mode_is_name mode.Watch = refl
+pub mode_is_name : (m : ModeArgument) → is_plain_text (mode_text m) ≡ true
+mode_is_name (argument.Report mode.Points) = refl
+mode_is_name (argument.Report mode.Audit) = refl
+mode_is_name (argument.Report mode.Plan) = refl
+mode_is_name (argument.Report mode.Drill) = refl
+mode_is_name argument.Migrate = refl
+mode_is_name (argument.Report mode.Recheck) = refl
+mode_is_name (argument.Report mode.Watch) = refl
 
 pub name_walked : (values : Choices) (text name : Text) → is_plain_text name ≡ true
     → walked (top values).rules [] (behind [] (with_value (codes "mode") text) 2) name ≡ behind (row (codes "mode") text ∷ []) (with_value (codes "scenario") name) 3
@@ -76,14 +77,14 @@ name_walked values text (c ∷ cs) named =
     simp plain
 
 -- the argument `mode` takes the text
-pub mode_accepted : (values : Choices) → AreModes values.now → (m : Mode) → list_any (possible_matches false (mode_text m)) values.now ≡ true
-mode_accepted values are mode.Points = are (codes "points")
-mode_accepted values are mode.Audit = are (codes "audit")
-mode_accepted values are mode.Plan = are (codes "plan")
-mode_accepted values are mode.Drill = are (codes "drill")
-mode_accepted values are mode.Migrate = are (codes "migrate")
-mode_accepted values are mode.Recheck = are (codes "recheck")
-mode_accepted values are mode.Watch = are (codes "watch")
+pub mode_accepted : (values : Choices) → AreModes values.now → (m : ModeArgument) → list_any (possible_matches false (mode_text m)) values.now ≡ true
+mode_accepted values are (argument.Report mode.Points) = are (codes "points")
+mode_accepted values are (argument.Report mode.Audit) = are (codes "audit")
+mode_accepted values are (argument.Report mode.Plan) = are (codes "plan")
+mode_accepted values are (argument.Report mode.Drill) = are (codes "drill")
+mode_accepted values are argument.Migrate = are (codes "migrate")
+mode_accepted values are (argument.Report mode.Recheck) = are (codes "recheck")
+mode_accepted values are (argument.Report mode.Watch) = are (codes "watch")
 
 pub name_faultless : (values : Choices) (text name : Text) → list_any (possible_matches false text) values.now ≡ true → is_plain_text name ≡ true
     → turn_fault (top values) [] (behind [] (with_value (codes "mode") text) 2) name ≡ []

@@ -11,22 +11,24 @@ use Rattle.clap.specs.Values.{bool_text}
 use Rattle.clap.specs.declared.builder.ArgAction.TheVariants.{Set, SetTrue}
 use Rattle.clap.specs.declared.builder.possible_value.PossibleValue.{PossibleValue}
 use Rattle.clap.specs.declared.builder.value_parser.ValueParser.TheVariants as parser
-use Rattle.command_line.specs.declared.mode.Mode.{Mode}
-use Rattle.command_line.specs.declared.mode.Mode.TheVariants as mode
+use Rattle.command_line.specs.declared.mode.ModeArgument.{ModeArgument}
+use Rattle.command_line.specs.declared.mode.ModeArgument.TheVariants as argument
+use Rattle.tasks.specs.declared.mode.Mode.TheVariants as mode
 
 -- ---- the modes
 
-abbrev pub mode_text : Mode → Text
-mode_text mode.Points = codes "points"
-mode_text mode.Audit = codes "audit"
-mode_text mode.Plan = codes "plan"
-mode_text mode.Drill = codes "drill"
-mode_text mode.Migrate = codes "migrate"
-mode_text mode.Recheck = codes "recheck"
-mode_text mode.Watch = codes "watch"
+abbrev pub mode_text : ModeArgument → Text
+mode_text (argument.Report mode.Points) = codes "points"
+mode_text (argument.Report mode.Audit) = codes "audit"
+mode_text (argument.Report mode.Plan) = codes "plan"
+mode_text (argument.Report mode.Drill) = codes "drill"
+mode_text argument.Migrate = codes "migrate"
+mode_text (argument.Report mode.Recheck) = codes "recheck"
+mode_text (argument.Report mode.Watch) = codes "watch"
 
-abbrev pub modes : List Mode
-modes = mode.Points ∷ mode.Audit ∷ mode.Plan ∷ mode.Drill ∷ mode.Migrate ∷ mode.Recheck ∷ mode.Watch ∷ []
+abbrev pub modes : List ModeArgument
+modes = argument.Report mode.Points ∷ argument.Report mode.Audit ∷ argument.Report mode.Plan ∷ argument.Report mode.Drill ∷ argument.Migrate
+    ∷ argument.Report mode.Recheck ∷ argument.Report mode.Watch ∷ []
 
 -- these values of an argument are the modes: a text is one of them exactly where it is the text of a mode
 abbrev pub AreModes : List PossibleValue → Type 0

@@ -1,116 +1,43 @@
--- What the words of a command line ask for. The program's own name is none of them.
-use Rattle.std.specs.Prelude.{◌≡◌, ◌≢◌, ◌≤◌, ◌==◌, ⊤, ℕ, Bool, true, false, not, codes, List, [], ◌∷◌, ◌++◌, Option, Some}
-use Rattle.std.specs.Prelude.{IfSome, find, option_map}
-use Rattle.std.specs.Option.{option_map_or, option_or}
-use Rattle.std.specs.List.{flat_map, list_any}
-use Rattle.std.specs.Str.{bytes_eq}
-use Rattle.std.specs.Str.Parse.{IsNumeral, digits_value, without_leading_plus}
-use Rattle.clap.specs.Words.{App, Row, Text, fault_of, first_of, matches_of}
-use Rattle.command_line.specs.CommandLine.{IsColregs, Kind, Setting, Value, a_flag, a_number, a_text, default_of, flag, kind_of, label, mode_text, rows_file}
-use Rattle.command_line.specs.CommandLine.{seed, start, takes_number, takes_text, ticks, why, written}
-use Rattle.command_line.specs.declared.request.Options.{Options}
+-- What the words of a command line ask for: a migration, or the report of a task.
+use Rattle.std.specs.Prelude.{ℕ, ◌≡◌, Bool, List}
+use Rattle.clap.specs.Words.{Text}
+use Rattle.tasks.specs.declared.mode.Mode.{Mode}
+use Rattle.tasks.specs.declared.mode.Mode.TheVariants as mode
+use Rattle.tasks.specs.declared.task.Task.{Task}
+use Rattle.tasks.specs.declared.task.Task.TheVariants as task
+use Rattle.command_line.specs.GivenArguments.{ArePlain, GiveArguments}
+use Rattle.command_line.specs.declared.arguments.Arguments.{Arguments}
+use Rattle.command_line.specs.declared.arguments.Options.{Options}
+use Rattle.command_line.specs.declared.mode.ModeArgument.{ModeArgument}
+use Rattle.command_line.specs.declared.mode.ModeArgument.TheVariants as argument
 use Rattle.command_line.specs.declared.request.Request.{Request}
+use Rattle.command_line.specs.declared.request.Request.TheVariants as request
 
--- the text is decimal digits, which a `+` may stand before, and they have this value
-abbrev pub IsNumber : Text → ℕ → Type 0
-IsNumber text n = IsNumeral 10 (without_leading_plus text) × (n ≡ digits_value 10 (without_leading_plus text))
+-- the task of a mode, with the options that it needs: the seed of a drill, whether a plan says why every plan fails, and the rows of a recheck
+abbrev pub task_by : Mode → ℕ → Bool → Text → Task
+task_by mode.Points seed why rows = task.Points
+task_by mode.Audit seed why rows = task.Audit
+task_by mode.Plan seed why rows = task.Plan why
+task_by mode.Drill seed why rows = task.Drill seed
+task_by mode.Recheck seed why rows = task.Recheck rows
+task_by mode.Watch seed why rows = task.Watch
 
--- ---- what `clap` makes of the words
+abbrev pub request_with : ModeArgument → Text → Options → Request
+request_with argument.Migrate name options = request.Migration name
+request_with (argument.Report mode) name options = request.Report (record {
+  task = task_by mode options.seed options.why options.rows;
+  name = name;
+  window = record { start = options.start; ticks = options.ticks };
+})
 
--- an option of the kind takes the text: where it takes a number, that of a number in its range
-abbrev pub IsTaken : Kind → Text → Type 0
-IsTaken (takes_number low high default) text = (n : ℕ) × (low ≤ n) × (n ≤ high) × IsNumber text n
-IsTaken _ text = ⊤
-
--- the value that the text of an option says, where the matches hold one; a flag is given where that is `true`
-abbrev pub said : Kind → Option Text → Option Value
-said (takes_number low high default) held = option_map (λ text. a_number (digits_value 10 (without_leading_plus text))) held
-said flag held = Some (a_flag (option_map_or (bytes_eq (codes "true")) held false))
-said (takes_text default) held = option_map a_text held
-
--- the matches hold this value of the option, or none
-abbrev pub HoldsValue : List Row → Setting → Option Value → Type 0
-HoldsValue rows s value = IfSome (first_of (label s) rows) (IsTaken (kind_of s)) × (value ≡ said (kind_of s) (first_of (label s) rows))
-
--- the value of an option among the options
-abbrev pub value_of : Setting → Options → Option Value
-value_of start options = option_map a_number options.start
-value_of ticks options = option_map a_number options.ticks
-value_of seed options = Some (a_number options.seed)
-value_of why options = Some (a_flag options.why)
-value_of rows_file options = Some (a_text options.rows)
-
--- the matches hold this request
-pub record HoldsRequest (rows : List Row) (request : Request) : Type 0 where
-  pub mode : first_of (codes "mode") rows ≡ Some (mode_text request.mode)
-  pub name : first_of (codes "scenario") rows ≡ Some request.name
-  pub options : (s : Setting) → HoldsValue rows s (value_of s request.options)
-
--- the words with the program's name, as `clap` reads them
-abbrev pub with_program_name : List Text → List Text
-with_program_name words = codes "colregs" ∷ words
-
--- `clap` takes the words for this command, and its matches hold the request
-abbrev pub IsAccepted : App → List Text → Request → Type 0
-IsAccepted app words request = (fault_of app (with_program_name words) ≡ []) × HoldsRequest (matches_of app (with_program_name words)) request
-
--- `clap` refuses the words for this command
-abbrev pub AreWordsRefused : App → List Text → Type 0
-AreWordsRefused app words = fault_of app (with_program_name words) ≢ []
+-- the request that arguments make: an option that it does not need has no effect
+abbrev pub request_by : Arguments → Request
+request_by arguments = request_with arguments.mode arguments.name arguments.options
 
 -- The words ask for the request, as `clap` reads them by the command.
 abbrev pub AskFor : List Text → Request → Type 0
-AskFor words request = (app : App) × IsColregs app × IsAccepted app words request
+AskFor words request = (arguments : Arguments) × GiveArguments words arguments × (request ≡ request_by arguments)
 
--- The words are no command line.
-abbrev pub AskForNothing : List Text → Type 0
-AskForNothing words = (app : App) × IsColregs app × AreWordsRefused app words
-
--- ---- the plain form
-
--- a text that is not empty and does not begin with `-`
-abbrev pub is_plain_text : Text → Bool
-is_plain_text [] = false
-is_plain_text (first ∷ rest) = not (first == 45)
-
--- what a value adds behind the option: nothing behind a flag, and else the value as a word of its own
-abbrev pub value_words : Value → List Text
-value_words (a_flag given) = []
-value_words (a_number n) = written (a_number n) ∷ []
-value_words (a_text text) = written (a_text text) ∷ []
-
-abbrev pub setting_words : Setting × Value → List Text
-setting_words given = (codes "--" ++ label given.0) ∷ value_words given.1
-
-abbrev pub is_given : Setting → List (Setting × Value) → Bool
-is_given s given = list_any (λ g. bytes_eq (label g.0) (label s)) given
-
--- no option stands twice
-abbrev pub AreOnce : List (Setting × Value) → Type 0
-AreOnce [] = ⊤
-AreOnce (g ∷ rest) = (is_given g.0 rest ≡ false) × AreOnce rest
-
--- an option of this kind may be given with this value: a number of the range, a flag as one that is set, a plain text
-abbrev pub MayBeGiven : Kind → Value → Type 0
-MayBeGiven (takes_number low high default) (a_number n) = (low ≤ n) × (n ≤ high)
-MayBeGiven flag (a_flag given) = given ≡ true
-MayBeGiven (takes_text default) (a_text text) = is_plain_text text ≡ true
-MayBeGiven _ _ = ⊥
-
-abbrev pub MayAllBeGiven : List (Setting × Value) → Type 0
-MayAllBeGiven [] = ⊤
-MayAllBeGiven (g ∷ rest) = MayBeGiven (kind_of g.0) g.1 × MayAllBeGiven rest
-
--- the value of an option: the one that is given, or else its default
-abbrev pub value_among : Setting → List (Setting × Value) → Option Value
-value_among s given = option_or (option_map (λ g. g.1) (find (λ g. bytes_eq (label g.0) (label s)) given)) (default_of (kind_of s))
-
--- The words are a mode, a name and then options, each at most once. A flag stands alone, and any other option is followed by its value.
--- This is what they ask for.
-pub record IsPlain (words : List Text) (request : Request) : Type 0 where
-  pub given : List (Setting × Value)
-  pub form : words ≡ mode_text request.mode ∷ request.name ∷ flat_map setting_words given
-  pub name : is_plain_text request.name ≡ true
-  pub once : AreOnce given
-  pub values : MayAllBeGiven given
-  pub options : (s : Setting) → value_of s request.options ≡ value_among s given
+-- The words have the plain form, and this is what they ask for.
+abbrev pub IsPlain : List Text → Request → Type 0
+IsPlain words request = (arguments : Arguments) × ArePlain words arguments × (request ≡ request_by arguments)

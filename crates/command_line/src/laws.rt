@@ -1,6 +1,7 @@
 //! Laws of words and what they ask for, which stand over the definitions alone.
 ghost use Rattle.std.specs.Prelude.{◌≡◌, ℕ, List};
-ghost use Rattle.command_line.specs.Requests.{AskFor, AskForNothing, IsPlain};
+ghost use Rattle.command_line.specs.GivenArguments.{AskForNothing};
+ghost use Rattle.command_line.specs.Requests.{AskFor, IsPlain};
 ghost use Rattle.command_line.specs.declared.request.Request.{Request};
 
 /// Words ask for one request at most.

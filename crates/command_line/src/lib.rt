@@ -5,6 +5,7 @@
 //! What a mode does has no place here, and no file is looked at.
 #![tactic(auto)]
 
+mod arguments;
 mod colregs;
 mod help;
 pub mod laws;
@@ -12,6 +13,7 @@ mod mode;
 mod number;
 mod request;
 
+pub use arguments::{Arguments, Options, WordsFault};
 pub use help::{Told, told_text, told_word};
-pub use mode::Mode;
-pub use request::{Options, Request, WordsFault, request_of};
+pub use mode::ModeArgument;
+pub use request::{ReportRequest, Request, WindowOptions, request_of};

@@ -1,29 +1,20 @@
-//! The modes by their names.
+//! The values of the argument `mode`.
 ghost use Rattle.std.specs.Prelude.{◌≡◌, ◌≢◌, MatchOption, true};
 ghost use Rattle.std.specs.List.{list_any};
 ghost use Rattle.std.specs.Str.{bytes_eq};
 ghost use Rattle.command_line.specs.CommandLine.{AreModes, mode_text};
-ghost use Rattle.command_line.specs.declared.mode.Mode.{Mode};
+ghost use Rattle.command_line.specs.declared.mode.ModeArgument.{ModeArgument};
 
 use clap::builder::PossibleValue;
+use tasks::Mode;
 
-/// What the program is to do.
-#[derive(Clone, Copy, Debug, PartialEq, Eq)]
-pub enum Mode {
-    /// Positions out of a log, as points of the plane.
-    Points,
-    /// How the vessels of a log met, and which duties were broken or stayed undecided.
-    Audit,
-    /// The first plan of own ship that newly breaks no rule and enters no domain.
-    Plan,
-    /// A log of forty vessels that is made for the scenario, and the totals of its audit.
-    Drill,
+/// What the argument `mode` names: a migration, or the report of a mode.
+#[derive(Clone, Copy, PartialEq, Eq)]
+pub enum ModeArgument {
     /// The scenario as one of version 2, with the same meaning.
     Migrate,
-    /// Whether rows say rightly why every plan of own ship fails, told without a search.
-    Recheck,
-    /// Each breach of a rule at the first step that decides it, as soon as the log settles that step.
-    Watch,
+    /// The report of this mode.
+    Report(Mode),
 }
 
 /// The modes as values of an argument, each with its line of help.
@@ -54,17 +45,18 @@ pub(crate) fn mode_values() -> [PossibleValue<'static>; 7]
 }
 
 /// The mode of this name.
-pub(crate) fn mode_named(text: &str) -> Option<Mode>
-    ensures { MatchOption result ((mode : Mode) → text.now ≢ mode_text mode) (λ mode. text.now ≡ mode_text mode) }
+pub(crate) fn mode_named(text: &str) -> Option<ModeArgument>
+    ensures { MatchOption result ((mode : ModeArgument) → text.now ≢ mode_text mode)
+        (λ mode. text.now ≡ mode_text mode) }
 {
     match text {
-        "points" => Some(Mode::Points),
-        "audit" => Some(Mode::Audit),
-        "plan" => Some(Mode::Plan),
-        "drill" => Some(Mode::Drill),
-        "migrate" => Some(Mode::Migrate),
-        "recheck" => Some(Mode::Recheck),
-        "watch" => Some(Mode::Watch),
+        "points" => Some(ModeArgument::Report(Mode::Points)),
+        "audit" => Some(ModeArgument::Report(Mode::Audit)),
+        "plan" => Some(ModeArgument::Report(Mode::Plan)),
+        "drill" => Some(ModeArgument::Report(Mode::Drill)),
+        "migrate" => Some(ModeArgument::Migrate),
+        "recheck" => Some(ModeArgument::Report(Mode::Recheck)),
+        "watch" => Some(ModeArgument::Report(Mode::Watch)),
         _ => None,
     }
 }

@@ -1,7 +1,7 @@
 //! Numbers of the command line.
 ghost use Rattle.std.specs.Prelude.{◌<◌, ◌^◌, ℕ, MatchOption};
 ghost use Rattle.command_line.specs.Inner.Reading.{IsNumberIn};
-ghost use Rattle.command_line.specs.Requests.{IsNumber};
+ghost use Rattle.command_line.specs.GivenArguments.{IsNumber};
 
 /// The number that the text writes.
 fn number_of(text: &str) -> Option<u64>

@@ -1,179 +1,104 @@
-//! What the words ask for.
-ghost use Rattle.std.specs.Prelude.{◌≡◌, ◌≢◌, ◌⊎◌, ◌<◌, ◌^◌, ◌∷◌, IfOk, IfSome, Some, codes, map, option_map};
-ghost use Rattle.std.specs.Borrow.{Bor};
-ghost use Rattle.clap.specs.Words.{first_of, found_of, rows_of};
-ghost use Rattle.clap.specs.declared.error.kind.ErrorKind.{ErrorKind};
-ghost use Rattle.command_line.specs.Requests.{AskFor, AskForNothing, HoldsRequest, IsPlain, said, with_program_name};
-ghost use Rattle.command_line.specs.CommandLine.{a_flag, flag};
-ghost use Rattle.command_line.specs.Inner.Reading.{GivesNumber, GivesOptions, HoldsNone};
+//! What the arguments of the command line ask for.
+ghost use Rattle.std.specs.Prelude.{◌≡◌, ◌⊎◌, IfOk, Ok, Err};
+ghost use Rattle.command_line.specs.GivenArguments.{AskForNothing};
+ghost use Rattle.command_line.specs.Requests.{AskFor, IsPlain, request_by, task_by};
 ghost use Rattle.command_line.specs.declared.request.Request.{Request};
 
-use crate::colregs::colregs;
-use crate::mode::{Mode, mode_named, mode_values};
-use crate::number::number_in;
-use clap::ArgMatches;
-use clap::error::ErrorKind;
-use out_of_memory::Memory;
+use crate::arguments::{Arguments, Options, WordsFault, arguments_of};
+use crate::mode::ModeArgument;
 use outside::Word;
-use std::alloc::{AllocError, Global};
+use std::alloc::Global;
+use tasks::{Mode, Task};
 
-/// The options, each of which counts in the modes that use it.
-#[derive(Drop)]
-pub struct Options {
-    /// The start of the window in place of the scenario's, in seconds since the Unix epoch, 0 to 9999999999.
+/// What stands in place of the scenario's own window.
+#[derive(Clone, Copy, PartialEq, Eq)]
+pub struct WindowOptions {
+    /// The start of the window, in seconds since the Unix epoch, 0 to 9999999999.
     pub start: Option<u64>,
-    /// The length of the window in place of the scenario's, in ticks, 1 to 20000.
+    /// The length of the window, in ticks, 1 to 20000.
     pub ticks: Option<u32>,
-    /// The seed of a drill's log, 0 to 999999.
-    pub seed: u32,
-    /// Whether the report is to say why there is no plan.
-    pub why: bool,
-    /// The name of the file with the rows that say so, which may be empty.
-    pub rows: Word,
 }
 
-/// What is asked for: a mode, with the scenario of a name.
+/// What is asked for where a report is: a task, on the scenario of a name.
 #[derive(Drop)]
-pub struct Request {
-    /// What to do.
-    pub mode: Mode,
+pub struct ReportRequest {
+    /// What is asked of the log.
+    pub task: Task,
     /// The name of the scenario, which may be empty.
     pub name: Word,
-    /// The options.
-    pub options: Options,
+    /// What stands in place of the scenario's own window.
+    pub window: WindowOptions,
 }
 
-/// Why words ask for nothing.
-#[derive(Clone, Copy, PartialEq, Eq)]
-pub enum WordsFault {
-    /// They are no command line.
-    Usage,
-    /// There was no memory to read them.
-    Memory,
+/// What is asked for: a report, or a migration, which reports on no log.
+#[derive(Drop)]
+pub enum Request {
+    /// The scenario of this name as one of version 2, with the same meaning.
+    Migration(Word),
+    /// A report.
+    Report(ReportRequest),
 }
 
-/// The text of an argument, where it has one.
-fn text_given<'a>(matches: &ArgMatches<'a>, name: &str) -> Option<&'a str>
-    ensures { option_map (λ text. text.now) result ≡ first_of name.now (rows_of (found_of matches.now)) }
+/// The task of a mode, with the options that it needs. The others have no effect.
+fn task_by(mode: Mode, seed: u32, why: bool, rows: Word) -> Task
+    ensures { result ≡ task_by mode seed why rows }
 {
-    matches.get_str(name)
-}
-
-/// The number of an option, where it is given.
-fn number_given(
-    matches: &ArgMatches<'_>,
-    name: &str,
-    least: u64,
-    most: u64,
-) -> Result<Option<u64>, WordsFault>
-    ensures { GivesNumber (rows_of (found_of matches.now)) name.now least most result }
-{
-    match text_given(matches, name) {
-        Some(text) => match number_in(text, least, most) {
-            Some(number) => Ok(Some(number)),
-            None => Err(WordsFault::Usage),
-        },
-        None => Ok(None),
+    match mode {
+        Mode::Points => {
+            drop(rows);
+            Task::Points
+        }
+        Mode::Audit => {
+            drop(rows);
+            Task::Audit
+        }
+        Mode::Plan => {
+            drop(rows);
+            Task::Plan { why }
+        }
+        Mode::Drill => {
+            drop(rows);
+            Task::Drill { seed }
+        }
+        Mode::Recheck => Task::Recheck { rows },
+        Mode::Watch => {
+            drop(rows);
+            Task::Watch
+        }
     }
 }
 
-/// The same number, in 32 bits.
-fn narrow(number: Option<u64>) -> Option<u32>
-    requires { IfSome number (λ n. n < 2 ^ 32) }
-    ensures { result ≡ number }
+/// The request that arguments make.
+fn request_by(arguments: Arguments) -> Request
+    ensures { result ≡ request_by arguments }
 {
-    match number {
-        Some(number) => Some(number as u32),
-        None => None,
-    }
-}
-
-/// Whether a flag is given: `clap` keeps that as a text.
-fn flag_given(matches: &ArgMatches<'_>, name: &str) -> bool
-    ensures { Some (a_flag result) ≡ said flag (first_of name.now (rows_of (found_of matches.now))) }
-{
-    match text_given(matches, name) {
-        Some("true") => true,
-        _ => false,
-    }
-}
-
-/// The options that the matches hold.
-fn options_in(alloc: Global, matches: &ArgMatches<'_>) -> Result<Options, WordsFault>
-    ensures { GivesOptions (rows_of (found_of matches.now)) result }
-{
-    let start = number_given(matches, "start", 0, 9_999_999_999)?;
-    let ticks = narrow(number_given(matches, "ticks", 1, 20_000)?);
-    let Some(seed) = number_given(matches, "seed", 0, 999_999)? else {
-        return Err(WordsFault::Usage);
-    };
-    let why = flag_given(matches, "why");
-    let Some(rows) = text_given(matches, "rows") else {
-        return Err(WordsFault::Usage);
-    };
-    match Word::new(alloc, rows) {
-        Ok(rows) => Ok(Options {
-            start,
-            ticks,
-            seed: seed as u32,
-            why,
-            rows,
-        }),
-        Err(Memory) => Err(WordsFault::Memory),
-    }
-}
-
-/// The request that the matches hold.
-fn request_in(alloc: Global, matches: &ArgMatches<'_>) -> Result<Request, WordsFault>
-    ensures held { IfOk result (HoldsRequest (rows_of (found_of matches.now))) }
-    ensures unheld { result ≡ Err WordsFault.Usage → HoldsNone (rows_of (found_of matches.now)) }
-{
-    let Some(mode) = text_given(matches, "mode") else {
-        return Err(WordsFault::Usage);
-    };
-    let Some(mode) = mode_named(mode) else {
-        return Err(WordsFault::Usage);
-    };
-    let Some(name) = text_given(matches, "scenario") else {
-        return Err(WordsFault::Usage);
-    };
-    let options = options_in(alloc, matches)?;
-    match Word::new(alloc, name) {
-        Ok(name) => Ok(Request {
-            mode,
+    let Arguments {
+        mode,
+        name,
+        options,
+    } = arguments;
+    let Options {
+        start,
+        ticks,
+        seed,
+        why,
+        rows,
+    } = options;
+    match mode {
+        ModeArgument::Migrate => {
+            drop(rows);
+            Request::Migration(name)
+        }
+        ModeArgument::Report(mode) => Request::Report(ReportRequest {
+            task: task_by(mode, seed, why, rows),
             name,
-            options,
+            window: WindowOptions { start, ticks },
         }),
-        Err(Memory) => Err(WordsFault::Memory),
     }
 }
 
-/// The words behind the program's name, which `clap` reads too.
-fn named_words<'a>(alloc: Global, words: &'a [Word]) -> Result<Vec<&'a str>, AllocError>
-    ensures { IfOk result (λ texts. map (λ text. text.now) texts.items ≡ with_program_name words.entry.now) }
-{
-    let mut texts = Vec::new(alloc);
-    texts.push("colregs")?;
-    for word in words {
-        texts.push(word.text())?;
-    }
-    Ok(texts)
-}
-
-/// The fault where `clap` gives an error of this kind.
-fn fault_by(kind: ErrorKind) -> WordsFault
-    ensures usage { result ≡ WordsFault.Usage → kind ≢ ErrorKind.OutOfMemory }
-    ensures memory { result ≡ WordsFault.Memory → kind ≡ ErrorKind.OutOfMemory }
-{
-    if kind == ErrorKind::OutOfMemory {
-        WordsFault::Memory
-    } else {
-        WordsFault::Usage
-    }
-}
-
-/// What the words behind the program's name ask for, as `clap` reads them by the command `colregs`: a mode and the name of a
-/// scenario, and options anywhere. A number is what `u64` reads from its text. `Usage` comes only where `clap` refuses the words.
+/// What the words behind the program's name ask for, as `clap` reads them by the command `colregs`: a migration, or the report of a task. An
+/// option that the task does not need has no effect. `Usage` comes only where `clap` refuses the words.
 pub fn request_of(alloc: Global, words: &[Word]) -> Result<Request, WordsFault>
     ensures asked { IfOk result (AskFor words.now) }
     ensures refused { result ≡ Err WordsFault.Usage → AskForNothing words.now }
@@ -182,19 +107,8 @@ pub fn request_of(alloc: Global, words: &[Word]) -> Result<Request, WordsFault>
     ensures plain { (request : Request) → IsPlain words.now request
         → (result ≡ Ok request) ⊎ (result ≡ Err WordsFault.Memory) }
 {
-    let Ok(texts) = named_words(alloc, words) else {
-        return Err(WordsFault::Memory);
-    };
-    let modes = mode_values();
-    let Ok(command) = colregs(alloc, modes.as_slice()) else {
-        return Err(WordsFault::Memory);
-    };
-    match command.try_get_matches_from(texts.as_slice()) {
-        Ok(matches) => {
-            let request = request_in(alloc, &matches);
-            drop(matches);
-            request
-        }
-        Err(error) => Err(fault_by(error.kind())),
+    match arguments_of(alloc, words) {
+        Ok(arguments) => Ok(request_by(arguments)),
+        Err(fault) => Err(fault),
     }
 }

@@ -8,8 +8,8 @@ use Rattle.auditor.specs.AuditRows.{AreAuditRows}
 use Rattle.auditor.specs.AuditTotals.{AreTotals}
 use Rattle.early_monitor.specs.Alarms.{AreAlarms}
 use Rattle.traces.specs.Audited.{Sighting}
-use Rattle.command_line.specs.declared.mode.Mode.{Mode}
-use Rattle.command_line.specs.declared.mode.Mode.TheVariants as mode
+use Rattle.tasks.specs.declared.mode.Mode.{Mode}
+use Rattle.tasks.specs.declared.mode.Mode.TheVariants as mode
 use Rattle.log_lines.specs.EachLine.{each_after}
 use Rattle.log_lines.specs.JudgedLines.{count_of, judged_line, judged_lines, numbers_of, outcome_of}
 use Rattle.log_lines.specs.LineOutcomes.{line_outcome, outcome_index}
@@ -228,6 +228,5 @@ module _ (scenario : Scenario) (log less : List ℕ) (front : List (List ℕ)) (
   of_mode mode.Audit why rows text report = of_audit text report
   of_mode mode.Plan why rows text report = of_plan why text report
   of_mode mode.Drill why rows text report = of_drill text report
-  of_mode mode.Migrate why rows text report = absurd report
   of_mode mode.Recheck why rows text report = of_recheck rows text report
   of_mode mode.Watch why rows text report = of_watch text report

@@ -34,8 +34,8 @@ use Rattle.sessions.specs.RecheckReport.{IsRecheckReport}
 use Rattle.sessions.specs.WatchReport.{IsWatchReport}
 use Rattle.sessions.proofs.ForCallers.{one_manoeuvre}
 use Rattle.sessions.proofs.ForCallers.{one_own, one_ready}
-use Rattle.command_line.specs.declared.mode.Mode.{Mode}
-use Rattle.command_line.specs.declared.mode.Mode.TheVariants as mode
+use Rattle.tasks.specs.declared.mode.Mode.{Mode}
+use Rattle.tasks.specs.declared.mode.Mode.TheVariants as mode
 use Rattle.settling.specs.ScenarioAudit.{audit_numbers}
 
 one_audit_report : (scenario : Scenario) (log text other : List ℕ) → IsAuditReport scenario log text → IsAuditReport scenario log other → text ≡ other
@@ -103,7 +103,6 @@ one_report mode.Points why rows scenario log text other a b = a ∙ sym b
 one_report mode.Audit why rows scenario log text other a b = one_audit_report scenario log text other a b
 one_report mode.Plan why rows scenario log text other a b = one_plan_report why scenario log text other a b
 one_report mode.Drill why rows scenario log text other a b = one_drill_report scenario log text other a b
-one_report mode.Migrate why rows scenario log text other a b = absurd a
 one_report mode.Recheck why rows scenario log text other a b = one_recheck_report rows scenario log text other a b
 one_report mode.Watch why rows scenario log text other a b = one_watch_report scenario log text other a b
 

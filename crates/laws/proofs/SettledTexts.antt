@@ -17,8 +17,8 @@ use Rattle.settling.specs.DecidedAlarms.{AreDecidedAlarms}
 use Rattle.settling.specs.DecidedRows.{AreDecided}
 use Rattle.settled_ticks.specs.Sightings.{sighted}
 use Rattle.settling.specs.ScenarioAudit.{audit_numbers}
-use Rattle.command_line.specs.declared.mode.Mode.{Mode}
-use Rattle.command_line.specs.declared.mode.Mode.TheVariants as mode
+use Rattle.tasks.specs.declared.mode.Mode.{Mode}
+use Rattle.tasks.specs.declared.mode.Mode.TheVariants as mode
 use Rattle.sessions.specs.AuditReport.{rows_behind, sightings_of}
 use Rattle.report_parts.specs.AlarmRows.{alarm_rows, told_alarm}
 use Rattle.report_parts.specs.OutcomeRows.{count_rows}
@@ -26,7 +26,7 @@ use Rattle.report_parts.specs.PointRows.{point_rows, rows_of_line}
 use Rattle.report_parts.specs.StretchRows.{stretch_fields, stretch_rows}
 use Rattle.sessions.specs.Endings.{IsEnding, IsReport}
 use Rattle.sessions.specs.Tasks.{Task}
-use Rattle.sessions.specs.Modes.{Look, alarms, each_line, each_tick, early_look, nothing, own_ship, stretches}
+use Rattle.tasks.specs.Modes.{Focus, alarms, each_line, each_tick, early_focus, nothing, own_ship, stretches}
 use Rattle.sessions.specs.PointsReport.{points_report}
 use Rattle.sessions.specs.SettledText.{IsDecidedBy, IsDecidedText, IsSettledText}
 
@@ -44,7 +44,7 @@ abbrev pub OneOfAlarms : Type 0
 OneOfAlarms = (scenario : Scenario) (lines : List (List ℕ)) (early others : List Alarm) → AreDecidedAlarms scenario lines early → AreDecidedAlarms scenario lines others → early ≡ others
 
 one_by : OneOfRows → OneOfAlarms
-    → (look : Look) (scenario : Scenario) (lines : List (List ℕ)) (text other : List ℕ) → IsDecidedBy look scenario lines text → IsDecidedBy look scenario lines other → text ≡ other
+    → (focus : Focus) (scenario : Scenario) (lines : List (List ℕ)) (text other : List ℕ) → IsDecidedBy focus scenario lines text → IsDecidedBy focus scenario lines other → text ≡ other
 one_by one same each_line scenario lines text other a b = a ∙ sym b
 one_by one same (each_tick stretches) scenario lines text other (rows, are, is) (others, are', is') =
     is ∙ ap (stretch_rows scenario.rules) (one scenario lines rows others are are') ∙ sym is'
@@ -55,7 +55,7 @@ one_by one same nothing scenario lines text other a b = a ∙ sym b
 
 pub one_decided : OneOfRows → OneOfAlarms
     → (m : Mode) (scenario : Scenario) (lines : List (List ℕ)) (text other : List ℕ) → IsDecidedText m scenario lines text → IsDecidedText m scenario lines other → text ≡ other
-one_decided one same m = one_by one same (early_look m)
+one_decided one same m = one_by one same (early_focus m)
 
 -- ---- the rows of lines
 
@@ -107,8 +107,8 @@ pub record Fronts : Type 0 where
       → AreAlarms (audit_numbers scenario) (sighted scenario (sent scenario (lines ++ more))) all → (rest : List Alarm) × (all ≡ early ++ rest)
 
 module _ (fronts : Fronts) where
-  decided_by : (look : Look) (scenario : Scenario) (lines more : List (List ℕ)) (text later : List ℕ) → IsDecidedBy look scenario lines text
-      → IsDecidedBy look scenario (lines ++ more) later → Begins text later
+  decided_by : (focus : Focus) (scenario : Scenario) (lines more : List (List ℕ)) (text later : List ℕ) → IsDecidedBy focus scenario lines text
+      → IsDecidedBy focus scenario (lines ++ more) later → Begins text later
   decided_by each_line scenario lines more text later a b = begins_is text _ later (is_begins text _ _ a (points_begin scenario lines more)) b
   decided_by (each_tick stretches) scenario lines more text later (rows, are, is) (others, are', is') =
       let rest = fronts.rows scenario lines more rows others are are' in
@@ -121,7 +121,7 @@ module _ (fronts : Fronts) where
 
   decided_on : (m : Mode) (scenario : Scenario) (lines more : List (List ℕ)) (text later : List ℕ) → IsDecidedText m scenario lines text
       → IsDecidedText m scenario (lines ++ more) later → Begins text later
-  decided_on m = decided_by (early_look m)
+  decided_on m = decided_by (early_focus m)
 
   pub settled_on : (stay : (log more : List ℕ) → (lines : List (List ℕ)) × (ended_lines (log ++ more) ≡ ended_lines log ++ lines))
       → (m : Mode) (scenario : Scenario) (front more text later : List ℕ) → IsSettledText m scenario front text → IsSettledText m scenario (front ++ more) later
@@ -145,7 +145,6 @@ module _ (fronts : Fronts) where
       begins_is text _ report (goes_on text _ (rows_behind scenario log b.totals) (is_begins text _ _ told (stretches_begin scenario rows b.rows rest.0 rest.1))) b.is
   decided_begins mode.Plan scenario lines more log text report is a why asked b = empty_begins text report a
   decided_begins mode.Drill scenario lines more log text report is a why asked b = empty_begins text report a
-  decided_begins mode.Migrate scenario lines more log text report is a why asked b = empty_begins text report a
   decided_begins mode.Recheck scenario lines more log text report is a why asked b = empty_begins text report a
   decided_begins mode.Watch scenario lines more log text report is (early, are, told) why asked b =
       let all = subst (λ (l : List (List ℕ)). AreAlarms (audit_numbers scenario) (sighted scenario (sent scenario l)) b.alarms) is b.are_alarms in

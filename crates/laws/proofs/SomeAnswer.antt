@@ -7,7 +7,7 @@ use Rattle.log_lines.specs.JudgedLines.{is_crowded}
 use Rattle.log_lines.specs.LogLines.{lines_of}
 use Rattle.plan_situations.specs.declared.readiness.Unready.{Unready}
 use Rattle.scenario_values.specs.declared.values.Scenario.{Scenario}
-use Rattle.command_line.specs.declared.mode.Mode.{Mode}
+use Rattle.tasks.specs.declared.mode.Mode.{Mode}
 use Rattle.sessions.specs.Endings.{Came, First, FirstOf, HasBadEntry, HasManyTraces, HasNoManoeuvre, IsAnswerOf, MeetsTargetLimit, Unless, unready_of}
 use Rattle.sessions.specs.Refusals.{HasManySettled, IsLogRefused, IsMet, IsRefusedAt, IsUnrefused}
 use Rattle.sessions.specs.Tasks.{Task}

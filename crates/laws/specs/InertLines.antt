@@ -4,8 +4,8 @@ use Rattle.std.specs.List.{All}
 use Rattle.aivdm.specs.declared.sentence.LineCause.{LineCause}
 use Rattle.report_csv.specs.CsvRows.{row_of}
 use Rattle.audit_report.specs.ReportRows.{count_fields}
-use Rattle.command_line.specs.declared.mode.Mode.{Mode}
-use Rattle.command_line.specs.declared.mode.Mode.TheVariants as mode
+use Rattle.tasks.specs.declared.mode.Mode.{Mode}
+use Rattle.tasks.specs.declared.mode.Mode.TheVariants as mode
 use Rattle.log_lines.specs.GrowingLog.{open_part}
 use Rattle.log_lines.specs.JudgedLines.{judged_line, outcome_of}
 use Rattle.log_lines.specs.LineOutcomes.{all_outcomes, line_outcome, outcome_index}

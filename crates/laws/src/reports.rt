@@ -4,7 +4,7 @@ ghost use Rattle.std.specs.declared.option.Option.{Option};
 ghost use Rattle.colregs_program.specs.Answers.{IsDue};
 ghost use Rattle.colregs_program.specs.declared.status.Status.{Status};
 ghost use Rattle.command_line.specs.Requests.{AskFor};
-ghost use Rattle.command_line.specs.declared.mode.Mode.{Mode};
+ghost use Rattle.tasks.specs.declared.mode.Mode.{Mode};
 ghost use Rattle.command_line.specs.declared.request.Request.{Request};
 ghost use Rattle.outside.specs.Shelves.{Files};
 ghost use Rattle.refutation_search.specs.CanonicalLists.{IsCanonical};

@@ -1,7 +1,7 @@
 //! What a session gives as a log grows, and at its end.
-ghost use Rattle.std.specs.Prelude.{◌≡◌, ◌≤◌, IfOk, IsTrue, OnOk, false};
+ghost use Rattle.std.specs.Prelude.{◌≡◌, ◌≤◌, IfOk, OnOk, false};
 ghost use Rattle.scenario_values.specs.ValueRanges.{IsInRange};
-ghost use Rattle.sessions.specs.Modes.{needs_own, reports};
+ghost use Rattle.tasks.specs.Modes.{needs_own};
 ghost use Rattle.sessions.specs.Standing.{IsInUse};
 
 use crate::compared::{is, is_true};
@@ -49,8 +49,7 @@ fn scenario_with(alloc: Global, more: &str) -> Result<Scenario, Fail>
 
 /// A session of a mode on the scenario with these lines behind it.
 fn session(alloc: Global, more: &str, mode: Mode) -> Result<Session, Fail>
-    requires own { needs_own mode ≡ false }
-    requires reports { IsTrue (reports mode) }
+    requires { needs_own mode ≡ false }
     ensures { IfOk result IsInUse }
 {
     let scenario = scenario_with(alloc, more)?;
@@ -93,7 +92,6 @@ fn rest_of(session: Session) -> Result<Vec<u8>, Fail>
 /// What a mode gives of the head-on log and one line more before its end, in pieces of this many bytes, and then at its end.
 fn fed(alloc: Global, mode: Mode, last: &[u8], count: usize) -> Result<(Vec<u8>, Vec<u8>), Fail>
     requires own { needs_own mode ≡ false }
-    requires reports { IsTrue (reports mode) }
     requires count { 1 ≤ count }
 {
     let log = head_on_with(alloc, last)?;
@@ -120,7 +118,6 @@ fn are_given(
     rows: &[Settled],
 ) -> Result<(), Fail>
     requires own { needs_own mode ≡ false }
-    requires reports { IsTrue (reports mode) }
     requires count { 1 ≤ count }
 {
     for row in rows {

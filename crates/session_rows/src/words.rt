@@ -1,10 +1,11 @@
 //! Words that are accepted and words that are not, as a user writes them.
 use crate::compared::{is, is_true};
-use command_line::{Mode, Options, Request, Told, WordsFault, request_of, told_text, told_word};
+use command_line::{Request, Told, WindowOptions, WordsFault, request_of, told_text, told_word};
 use out_of_memory::Memory;
 use outside::Word;
 use std::alloc::{AllocError, Global};
 use std::process::Abort;
+use tasks::Task;
 
 fn words(alloc: Global, texts: &[&str]) -> Result<Vec<Word>, Memory> {
     let mut words = Vec::new(alloc);
@@ -21,46 +22,69 @@ fn asked(alloc: Global, texts: &[&str]) -> Result<Request, WordsFault> {
     }
 }
 
-/// Options, with the name of the rows as a text.
+/// What a request asks for, with the name of the rows as a text.
 #[derive(Clone, Copy, PartialEq, Eq)]
-struct Given {
-    start: Option<u64>,
-    ticks: Option<u32>,
-    seed: u32,
-    why: bool,
-    rows: &'static str,
+enum Wanted {
+    Migration,
+    Points,
+    Audit,
+    Plan(bool),
+    Drill(u32),
+    Recheck(&'static str),
+    Watch,
 }
 
-const BARE: Given = Given {
-    start: None,
-    ticks: None,
-    seed: 1,
-    why: false,
-    rows: "why.csv",
-};
+/// What stands in place of the scenario's own window.
+type Window = (Option<u64>, Option<u32>);
 
-/// Words, and what they ask for: a mode, the name of a scenario, and options.
-type Asked = (&'static [&'static str], Mode, &'static str, Given);
+const OWN: Window = (None, None);
 
-/// Whether the options are these.
-fn are_given(rt: &impl Abort, options: &Options, wanted: &Given) {
-    is(rt, options.start, wanted.start);
-    is(rt, options.ticks, wanted.ticks);
-    is(rt, options.seed, wanted.seed);
-    is(rt, options.why, wanted.why);
-    is(rt, options.rows.text(), wanted.rows);
+/// Arguments, and what they ask for, with the name of the scenario and the options of its window.
+type Asked = (&'static [&'static str], Wanted, &'static str, Window);
+
+/// Whether the task is this.
+fn is_task(rt: &impl Abort, task: &Task, wanted: Wanted) {
+    match task {
+        Task::Points => is_true(rt, wanted == Wanted::Points),
+        Task::Audit => is_true(rt, wanted == Wanted::Audit),
+        Task::Plan { why } => is_true(rt, wanted == Wanted::Plan(*why)),
+        Task::Drill { seed } => is_true(rt, wanted == Wanted::Drill(*seed)),
+        Task::Recheck { rows } => match wanted {
+            Wanted::Recheck(text) => is(rt, rows.text(), text),
+            _ => is_true(rt, false),
+        },
+        Task::Watch => is_true(rt, wanted == Wanted::Watch),
+    }
 }
 
-/// Whether the words of each row ask for what stands behind them.
+/// Whether the options of the window are these.
+fn is_window(rt: &impl Abort, options: WindowOptions, wanted: Window) {
+    is(rt, options.start, wanted.0);
+    is(rt, options.ticks, wanted.1);
+}
+
+/// Whether the request is this.
+fn is_request(rt: &impl Abort, request: &Request, row: &Asked) {
+    let (_, wanted, name, window) = row;
+    match request {
+        Request::Migration(found) => {
+            is_true(rt, *wanted == Wanted::Migration);
+            is(rt, found.text(), *name);
+        }
+        Request::Report(report) => {
+            is_task(rt, &report.task, *wanted);
+            is(rt, report.name.text(), *name);
+            is_window(rt, report.window, *window);
+        }
+    }
+}
+
+/// Whether the arguments of each row ask for what stands in it.
 fn are_asked(rt: &impl Abort, alloc: Global, rows: &[Asked]) {
-    for (texts, mode, name, options) in rows {
-        match asked(alloc, texts) {
-            Ok(request) => {
-                is(rt, request.mode, *mode);
-                is(rt, request.name.text(), *name);
-                are_given(rt, &request.options, options);
-            }
-            Err(_) => is(rt, (*name, false), (*name, true)),
+    for row in rows {
+        match asked(alloc, row.0) {
+            Ok(request) => is_request(rt, &request, row),
+            Err(_) => is(rt, (row.2, false), (row.2, true)),
         }
     }
 }
@@ -72,15 +96,16 @@ fn are_usage(rt: &impl Abort, alloc: Global, rows: &[&'static [&'static str]]) {
     }
 }
 
+#[rattlefmt::skip]
 static OF_EVERY_MODE: [Asked; 8] = [
-    (&["points", "a.toml"], Mode::Points, "a.toml", BARE),
-    (&["audit", "a.toml"], Mode::Audit, "a.toml", BARE),
-    (&["plan", "a.toml"], Mode::Plan, "a.toml", BARE),
-    (&["drill", "a.toml"], Mode::Drill, "a.toml", BARE),
-    (&["migrate", "a.toml"], Mode::Migrate, "a.toml", BARE),
-    (&["recheck", "a.toml"], Mode::Recheck, "a.toml", BARE),
-    (&["watch", "a.toml"], Mode::Watch, "a.toml", BARE),
-    (&["audit", ""], Mode::Audit, "", BARE),
+    (&["points", "a.toml"], Wanted::Points, "a.toml", OWN),
+    (&["audit", "a.toml"], Wanted::Audit, "a.toml", OWN),
+    (&["plan", "a.toml"], Wanted::Plan(false), "a.toml", OWN),
+    (&["drill", "a.toml"], Wanted::Drill(1), "a.toml", OWN),
+    (&["migrate", "a.toml"], Wanted::Migration, "a.toml", OWN),
+    (&["recheck", "a.toml"], Wanted::Recheck("why.csv"), "a.toml", OWN),
+    (&["watch", "a.toml"], Wanted::Watch, "a.toml", OWN),
+    (&["audit", ""], Wanted::Audit, "", OWN),
 ];
 
 #[test]
@@ -88,53 +113,28 @@ fn two_words_of_every_mode(rt: HostRuntime) {
     are_asked(&rt, rt.alloc(), &OF_EVERY_MODE);
 }
 
-const FOUR: Given = Given {
-    start: None,
-    ticks: Some(4),
-    seed: 1,
-    why: false,
-    rows: "why.csv",
-};
+const FOUR: Window = (None, Some(4));
 
-const ALL: Given = Given {
-    start: Some(9_999_999_999),
-    ticks: Some(20_000),
-    seed: 0,
-    why: false,
-    rows: "why.csv",
-};
-
-const WHY: Given = Given {
-    start: None,
-    ticks: None,
-    seed: 1,
-    why: true,
-    rows: "why.csv",
-};
-
-const ROWS: Given = Given {
-    start: None,
-    ticks: None,
-    seed: 1,
-    why: false,
-    rows: "-b",
-};
+const ALL: Window = (Some(9_999_999_999), Some(20_000));
 
 #[rattlefmt::skip]
-static WITH_OPTIONS: [Asked; 13] = [
-    (&["audit", "a", "--ticks", "4"], Mode::Audit, "a", FOUR),
-    (&["--ticks", "4", "audit", "a"], Mode::Audit, "a", FOUR),
-    (&["audit", "--ticks=4", "a"], Mode::Audit, "a", FOUR),
-    (&["audit", "--ticks", "4", "--", "a"], Mode::Audit, "a", FOUR),
-    (&["audit", "--", "--ticks"], Mode::Audit, "--ticks", BARE),
-    (&["audit", "a", "--ticks", "04"], Mode::Audit, "a", FOUR),
-    (&["audit", "a", "--ticks=+4"], Mode::Audit, "a", FOUR),
-    (&["--seed", "00", "--start=9999999999", "--ticks=0020000", "drill", "a"], Mode::Drill, "a", ALL),
-    (&["--seed", "0", "drill", "--start=9999999999", "a", "--ticks", "20000"], Mode::Drill, "a", ALL),
-    (&["plan", "--why", "a"], Mode::Plan, "a", WHY),
-    (&["plan", "--rows", "why.csv", "--why", "--", "a"], Mode::Plan, "a", WHY),
-    (&["--rows=-b", "plan", "a"], Mode::Plan, "a", ROWS),
-    (&["audit", "--", "--why"], Mode::Audit, "--why", BARE),
+static WITH_OPTIONS: [Asked; 16] = [
+    (&["audit", "a", "--ticks", "4"], Wanted::Audit, "a", FOUR),
+    (&["--ticks", "4", "audit", "a"], Wanted::Audit, "a", FOUR),
+    (&["audit", "--ticks=4", "a"], Wanted::Audit, "a", FOUR),
+    (&["audit", "--ticks", "4", "--", "a"], Wanted::Audit, "a", FOUR),
+    (&["audit", "--", "--ticks"], Wanted::Audit, "--ticks", OWN),
+    (&["audit", "a", "--ticks", "04"], Wanted::Audit, "a", FOUR),
+    (&["audit", "a", "--ticks=+4"], Wanted::Audit, "a", FOUR),
+    (&["--seed", "00", "--start=9999999999", "--ticks=0020000", "drill", "a"], Wanted::Drill(0), "a", ALL),
+    (&["--seed", "0", "drill", "--start=9999999999", "a", "--ticks", "20000"], Wanted::Drill(0), "a", ALL),
+    (&["plan", "--why", "a"], Wanted::Plan(true), "a", OWN),
+    (&["plan", "--rows", "why.csv", "--why", "--", "a"], Wanted::Plan(true), "a", OWN),
+    (&["--rows=-b", "plan", "a"], Wanted::Plan(false), "a", OWN),
+    (&["--rows=-b", "recheck", "a"], Wanted::Recheck("-b"), "a", OWN),
+    (&["watch", "a", "--why", "--seed=7", "--rows", "b"], Wanted::Watch, "a", OWN),
+    (&["migrate", "a", "--ticks", "4", "--why"], Wanted::Migration, "a", OWN),
+    (&["audit", "--", "--why"], Wanted::Audit, "--why", OWN),
 ];
 
 #[test]

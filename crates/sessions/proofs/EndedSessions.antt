@@ -1,7 +1,7 @@
 -- A session that ends.
 use Rattle.std.proofs.Common.{◌∙◌, ℕ, ◌≡◌, ◌+◌, ◌<◌, ◌≤◌, List, [], ◌∷◌, ◌++◌, length, length-append, append-nil, IsTrue, Err, refl, ap, ap₂, sym, subst, arith}
 use Rattle.audit_report.specs.declared.report_text.ReportText.{ReportText}
-use Rattle.command_line.specs.declared.mode.Mode.{Mode}
+use Rattle.tasks.specs.declared.mode.Mode.{Mode}
 use Rattle.log_lines.specs.GrowingLog.{ended_lines}
 use Rattle.log_lines.specs.LogLines.{lines_of}
 use Rattle.log_lines.specs.Standing.{StandsFor as JudgeStandsFor, LinesStandFor, kept_of}
@@ -16,7 +16,7 @@ use Rattle.traces.specs.ManyTraces.{HaveMoreThan}
 use Rattle.traces.specs.declared.all_traces.TheConstants.{MOST_TRACES}
 use Rattle.sessions.specs.AuditReport.{sightings_of}
 use Rattle.sessions.specs.Feeding.{UnlessMemory}
-use Rattle.sessions.specs.Modes.{Look, OfTicks, each_line, each_tick, is_own, look_of, needs_own, nothing, own_ship}
+use Rattle.tasks.specs.Modes.{Focus, OfTicks, each_line, each_tick, is_own, focus_of, needs_own, nothing, own_ship}
 use Rattle.sessions.specs.Endings.{IsAnswerOf, IsAnswerTo}
 use Rattle.sessions.specs.Tasks.{Task}
 use Rattle.sessions.specs.Standing.{KeepsEnough, StandsFor, mode_by, mode_of, session_scenario}
@@ -53,8 +53,8 @@ one_feed [] [] behind is some = absurd (omega (arith, some))
 one_feed (byte ∷ before) piece behind is some =
     absurd (let long = ap length is ∙ length-append ((byte ∷ before) ++ piece) behind in let front = length-append (byte ∷ before) piece in omega (arith, long, front, some))
 
-many_in_all : (look : Look) (scenario : Scenario) (log : List ℕ) → OfTicks look (HaveManySettled scenario (lines_of log))
-    → OfTicks look (HaveMoreThan MOST_TRACES (audit_numbers scenario) (sightings_of scenario log))
+many_in_all : (focus : Focus) (scenario : Scenario) (log : List ℕ) → OfTicks focus (HaveManySettled scenario (lines_of log))
+    → OfTicks focus (HaveMoreThan MOST_TRACES (audit_numbers scenario) (sightings_of scenario log))
 unfolding sightings_of
 many_in_all each_line scenario log many = many
 many_in_all (each_tick told) scenario log many = many_settled_in_all scenario (lines_of log) many
@@ -64,7 +64,7 @@ many_in_all nothing scenario log many = many
 -- why all lines of a log are refused
 cause_at_end : (because : SessionFault) (m : Mode) (rows : List ℕ) (scenario : Scenario) (log : List ℕ) → IsCause because m scenario (lines_of log) → IsAnswerOf m rows scenario log (Err because)
 cause_at_end why.Vessels m rows scenario log crowded = crowded_answer m rows scenario log crowded
-cause_at_end why.Pairs m rows scenario log (calm, many) = pairs_answer m rows scenario log calm (many_in_all (look_of m) scenario log many)
+cause_at_end why.Pairs m rows scenario log (calm, many) = pairs_answer m rows scenario log calm (many_in_all (focus_of m) scenario log many)
 cause_at_end why.LogBytes m rows scenario log none = absurd none
 cause_at_end (why.Own lack) m rows scenario log none = absurd none
 cause_at_end why.Targets m rows scenario log none = absurd none
@@ -131,11 +131,11 @@ module _ (session : Session) (judge : Judge) (judges : (scenario : Scenario) (lo
 
 -- ---- own ship's situation
 
-looks_at_own : (look : Look) → IsTrue (is_own look) → look ≡ own_ship
-looks_at_own each_line needs = cc needs
-looks_at_own (each_tick told) needs = cc needs
-looks_at_own own_ship needs = refl
-looks_at_own nothing needs = cc needs
+is_own_ship : (focus : Focus) → IsTrue (is_own focus) → focus ≡ own_ship
+is_own_ship each_line needs = cc needs
+is_own_ship (each_tick told) needs = cc needs
+is_own_ship own_ship needs = refl
+is_own_ship nothing needs = cc needs
 
 -- every task of the mode is refused for this
 abbrev pub NoSituation : Session → SessionFault → Type 0
@@ -144,13 +144,13 @@ NoSituation self because = UnlessMemory because ((fed given : List ℕ) → Stan
 
 module _ (self : Session) (judge : Judge) (judges : (fed given : List ℕ) → StandsFor self fed given → JudgeStandsFor judge self.scenario (lines_of fed)) (needs : IsTrue (needs_own (mode_of self))) where
   pub no_situation : (because : SessionFault)
-      → ((log : List ℕ) → JudgeStandsFor judge self.scenario (lines_of log) → (mode : Mode) (rows : List ℕ) → look_of mode ≡ own_ship → EndCause mode rows self.scenario log because)
+      → ((log : List ℕ) → JudgeStandsFor judge self.scenario (lines_of log) → (mode : Mode) (rows : List ℕ) → focus_of mode ≡ own_ship → EndCause mode rows self.scenario log because)
       → NoSituation self because
   no_situation because cause = all_causes because self
       (λ fed. (task : Task) → task.mode ≡ mode_of self → IsAnswerTo task (session_scenario self) fed (Err because))
       (λ fed given stands.
       each_task because fed (λ task same.
-      cause fed (judges fed given stands) task.mode task.rows (ap look_of same ∙ looks_at_own (look_of (mode_of self)) needs)))
+      cause fed (judges fed given stands) task.mode task.rows (ap focus_of same ∙ is_own_ship (focus_of (mode_of self)) needs)))
     where
       each_task : (because : SessionFault) (fed : List ℕ) → ((task : Task) → task.mode ≡ mode_of self → UnlessMemory because (IsAnswerTo task self.scenario fed (Err because)))
           → UnlessMemory because ((task : Task) → task.mode ≡ mode_of self → IsAnswerTo task self.scenario fed (Err because))

@@ -3,7 +3,7 @@ use Rattle.std.proofs.Common.{ℕ, ◌≡◌, List, [], ◌∷◌, ◌++◌, sym
 use Rattle.audit_report.specs.ReportTexts.{HasText}
 use Rattle.audit_report.specs.declared.report_text.ReportText.{ReportText}
 use Rattle.audit_rows.specs.declared.row.Row.{Row}
-use Rattle.command_line.specs.declared.mode.Mode.TheVariants as mode
+use Rattle.tasks.specs.declared.mode.Mode.TheVariants as mode
 use Rattle.early_monitor.specs.declared.alarm.Alarm.{Alarm}
 use Rattle.log_lines.specs.JudgedLines.{judged_lines}
 use Rattle.log_lines.specs.LogLines.{lines_of}

@@ -21,9 +21,9 @@ use Rattle.log_lines.specs.declared.judged.Judged.{Judged}
 use Rattle.scenario_values.specs.declared.values.Scenario.{Scenario}
 use Rattle.sessions.specs.Inner.Pieces.{IsPiece}
 use Rattle.log_lines.specs.declared.streamed.StreamedLines.{StreamedLines}
-use Rattle.command_line.specs.declared.mode.Mode.{Mode}
+use Rattle.tasks.specs.declared.mode.Mode.{Mode}
 use Rattle.sessions.specs.Feeding.{Refuses, TookPiece, UnlessMemory}
-use Rattle.sessions.specs.Modes.{needs_own}
+use Rattle.tasks.specs.Modes.{needs_own}
 use Rattle.sessions.specs.Refusals.{HasManySettled, IsStopped, IsUnrefused}
 use Rattle.sessions.specs.Standing.{IsInUse, KeepsEnough, StandsFor, mode_by, mode_of, session_scenario, taken_of}
 use Rattle.sessions.specs.Inner.Lines.{Follows, HasRoomFor, IsCause, IsReadyToTake, RefusesLine, RefusesPiece, TookLines}

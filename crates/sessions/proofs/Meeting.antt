@@ -4,8 +4,8 @@ use Rattle.plan_situations.specs.declared.readiness.Unready.{Unready}
 use Rattle.scenario_values.specs.declared.values.Scenario.{Scenario}
 use Rattle.log_lines.specs.JudgedLines.{is_crowded}
 use Rattle.log_lines.specs.LogLines.{lines_of}
-use Rattle.command_line.specs.declared.mode.Mode.{Mode}
-use Rattle.command_line.specs.declared.mode.Mode.TheVariants as mode
+use Rattle.tasks.specs.declared.mode.Mode.{Mode}
+use Rattle.tasks.specs.declared.mode.Mode.TheVariants as mode
 use Rattle.refutation_check.specs.CheckedRows.{IsFirstBadRow, why_rows}
 use Rattle.refutation_check.proofs.ForCallers.{one_index}
 use Rattle.scenario_values.specs.declared.own_part.OwnPart.{OwnPart}
@@ -15,7 +15,7 @@ use Rattle.traces.specs.ManyTraces.{HaveMoreThan}
 use Rattle.traces.specs.declared.all_traces.TheConstants.{MOST_TRACES}
 use Rattle.sessions.specs.AuditReport.{sightings_of}
 use Rattle.sessions.specs.Endings.{Came, First, FirstOf, MeetsTargetLimit, HasBadEntry, HasManyTraces, HasNoManoeuvre, IsAnswerOf, OfOwn, Unless, unready_of}
-use Rattle.sessions.specs.Modes.{Look, OfOwnShip, OfTicks, WhereChecked, each_line, each_tick, look_of, needs_rows, nothing, own_ship}
+use Rattle.tasks.specs.Modes.{Focus, OfOwnShip, OfTicks, WhereChecked, each_line, each_tick, focus_of, needs_rows, nothing, own_ship}
 use Rattle.sessions.specs.PlanReport.{IsOwn, situation_on}
 use Rattle.sessions.proofs.OneOwn.{one_own, one_ready}
 use Rattle.sessions.specs.declared.session_fault.SessionFault.TheVariants as fault
@@ -39,9 +39,9 @@ one_bad_row scenario log rows k l (own, ready, is, bad) (own', ready', is', bad'
     subst₂ (λ (o : OwnPart) (r : Ready). IsFirstBadRow (situation_on scenario log o r) (why_rows rows) l) (sym same) (sym same-ready) bad' in
     one_index (situation_on scenario log own ready) (why_rows rows) k l bad there
 
-one_bad_entry : (look : Look) (checks : Bool) (rows : List ℕ) (scenario : Scenario) (log : List ℕ) (k l : ℕ)
-    → OfOwnShip look (WhereChecked checks (OfOwn scenario log (λ own ready. IsFirstBadRow (situation_on scenario log own ready) (why_rows rows) k)))
-    → OfOwnShip look (WhereChecked checks (OfOwn scenario log (λ own ready. IsFirstBadRow (situation_on scenario log own ready) (why_rows rows) l))) → k ≡ l
+one_bad_entry : (focus : Focus) (checks : Bool) (rows : List ℕ) (scenario : Scenario) (log : List ℕ) (k l : ℕ)
+    → OfOwnShip focus (WhereChecked checks (OfOwn scenario log (λ own ready. IsFirstBadRow (situation_on scenario log own ready) (why_rows rows) k)))
+    → OfOwnShip focus (WhereChecked checks (OfOwn scenario log (λ own ready. IsFirstBadRow (situation_on scenario log own ready) (why_rows rows) l))) → k ≡ l
 one_bad_entry own_ship true rows scenario log k l a b = one_bad_row scenario log rows k l a b
 one_bad_entry own_ship false rows scenario log k l a b = absurd a
 one_bad_entry each_line checks rows scenario log k l a b = absurd a
@@ -92,7 +92,7 @@ module _ (m : Mode) (rows : List ℕ) (scenario : Scenario) (log : List ℕ) whe
       (λ e f. unless_once (unready_of m scenario log) behind_own e f
       (λ g h. first_once (MeetsTargetLimit m scenario log) (Err fault.Targets) behind_targets g h
       (λ i j. first_once (HasNoManoeuvre m scenario log) (Ok true) behind_search i j
-      (λ k l. first_of_once (HasBadEntry m rows scenario log) entry_fault reported k l (one_bad_entry (look_of m) (needs_rows m) rows scenario log) (λ x y is is'. is ∙ sym is'))))))
+      (λ k l. first_of_once (HasBadEntry m rows scenario log) entry_fault reported k l (one_bad_entry (focus_of m) (needs_rows m) rows scenario log) (λ x y is is'. is ∙ sym is'))))))
 
 -- ---- the answers to lines
 
@@ -125,9 +125,9 @@ module _ (scenario : Scenario) (log : List ℕ) (calm : is_crowded scenario (lin
 
   -- ---- where own ship is looked at
 
-  module _ (m : Mode) (rows : List ℕ) (looks : look_of m ≡ own_ship) where
+  module _ (m : Mode) (rows : List ℕ) (on_own : focus_of m ≡ own_ship) where
     no_traces : ¬ HasManyTraces m scenario log
-    no_traces many = subst (λ (look : Look). OfTicks look (HaveMoreThan MOST_TRACES (audit_numbers scenario) (sightings_of scenario log))) looks many
+    no_traces many = subst (λ (focus : Focus). OfTicks focus (HaveMoreThan MOST_TRACES (audit_numbers scenario) (sightings_of scenario log))) on_own many
 
     behind_lines : (came : Came) → behind_traces m rows scenario log came → IsAnswerOf m rows scenario log came
     behind_lines came is = inr (not_crowded scenario log calm, inr (no_traces, is))

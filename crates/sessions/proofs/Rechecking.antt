@@ -15,7 +15,7 @@ use Rattle.plan_situations.specs.declared.readiness.Ready.{Ready}
 use Rattle.plan_situations.specs.declared.situation.Situation.{Situation}
 use Rattle.scenario_values.specs.declared.own_part.OwnPart.{OwnPart}
 use Rattle.scenario_values.specs.declared.values.Scenario.{Scenario}
-use Rattle.command_line.specs.declared.mode.Mode.TheVariants as mode
+use Rattle.tasks.specs.declared.mode.Mode.TheVariants as mode
 use Rattle.sessions.specs.Endings.{HasBadEntry, IsAnswerOf}
 use Rattle.sessions.specs.Inner.Faults.{EndCause}
 use Rattle.sessions.specs.Inner.Rechecking.{IsBadText}

@@ -13,11 +13,11 @@ use Rattle.refutation_check.specs.CheckedRows.{IsFirstBadRow, why_rows}
 use Rattle.scenario_values.specs.declared.values.Scenario.{Scenario}
 use Rattle.settling.specs.ManySettled.{HaveManySettled}
 use Rattle.sessions.specs.Inner.Pieces.{IsPiece}
-use Rattle.command_line.specs.declared.mode.Mode.{Mode}
+use Rattle.tasks.specs.declared.mode.Mode.{Mode}
 use Rattle.plan_situations.specs.PlanSituations.{greatest_targets, targets_near}
 use Rattle.plan_situations.specs.declared.readiness.Unready.{Unready}
 use Rattle.sessions.specs.Endings.{Came, First, HasBadEntry, MeetsTargetLimit, IsAnswerOf, OfOwn, Unless, lack_by, unready_of}
-use Rattle.sessions.specs.Modes.{Look, OfOwnShip, OfTicks, WhereChecked, each_line, each_tick, early_by, look_of, look_of, manner_of, needs_rows, nothing, own_ship}
+use Rattle.tasks.specs.Modes.{Focus, OfOwnShip, OfTicks, WhereChecked, each_line, each_tick, early_by, focus_of, needs_of, needs_rows, nothing, own_ship}
 use Rattle.sessions.specs.PlanReport.{log_messages, situation_on}
 use Rattle.sessions.specs.Inner.Lines.{IsCause}
 use Rattle.sessions.specs.Refusals.{HasManySettled, IsMet, IsLogRefused, IsRefusedAt, IsStopped, IsUnrefused}
@@ -60,7 +60,7 @@ ManyStay = (scenario : Scenario) (lines more : List (List ℕ)) → HaveManySett
 abbrev pub PartsGoOn : Type 0
 PartsGoOn = (log part : List ℕ) → All (λ byte. is_line_feed byte ≡ false) part → ended_lines (log ++ part) ≡ ended_lines log
 
-many_on : ManyStay → (look : Look) (scenario : Scenario) (lines more : List (List ℕ)) → OfTicks look (HaveManySettled scenario lines) → OfTicks look (HaveManySettled scenario (lines ++ more))
+many_on : ManyStay → (focus : Focus) (scenario : Scenario) (lines more : List (List ℕ)) → OfTicks focus (HaveManySettled scenario lines) → OfTicks focus (HaveManySettled scenario (lines ++ more))
 many_on stay each_line scenario lines more many = many
 many_on stay (each_tick told) scenario lines more many = stay scenario lines more many
 many_on stay own_ship scenario lines more many = many
@@ -97,7 +97,7 @@ module _ (stay : EndedStay) (settle : ManyStay) (m : Mode) (scenario : Scenario)
       record {
         short = (let short = un.short in omega (arith, long));
         calm = calm_before scenario (ended_lines front) lines.0 (ap (is_crowded scenario) (sym lines.1) ∙ un.calm);
-        few = λ many. un.few (subst (HasManySettled m scenario) (sym lines.1) (many_on settle (look_of m) scenario (ended_lines front) lines.0 many));
+        few = λ many. un.few (subst (HasManySettled m scenario) (sym lines.1) (many_on settle (focus_of m) scenario (ended_lines front) lines.0 many));
       }
 
   pub first_unrefused : (log : List ℕ) (place : ℕ) → IsUnrefused m scenario log → IsUnrefused m scenario (take place log)
@@ -335,15 +335,15 @@ entry_needed m rows scenario log k good (inr (calm, inr (traces, own))) = behind
     behind None (inr (not, inr (some, inr (none, same)))) = cc same
 
 -- Where own ship is looked at, nothing is settled.
-nothing_by : (look : Look) (early : Bool) (scenario : Scenario) (lines : List (List ℕ)) (log text : List ℕ) → IsDecidedBy (early_by look early) scenario lines text
-    → (lack_by look scenario log ≡ None → ⊥) → text ≡ []
+nothing_by : (focus : Focus) (early : Bool) (scenario : Scenario) (lines : List (List ℕ)) (log text : List ℕ) → IsDecidedBy (early_by focus early) scenario lines text
+    → (lack_by focus scenario log ≡ None → ⊥) → text ≡ []
 nothing_by each_line early scenario lines log text settled own = absurd (own refl)
 nothing_by (each_tick told) early scenario lines log text settled own = absurd (own refl)
 nothing_by own_ship early scenario lines log text settled own = settled
 nothing_by nothing early scenario lines log text settled own = absurd (own refl)
 
-nothing_towards : (look : Look) (early : Bool) (scenario : Scenario) (lines : List (List ℕ)) (text : List ℕ) (P : Type 0) → IsDecidedBy (early_by look early) scenario lines text
-    → ((OfOwnShip look P → ⊥) → ⊥) → text ≡ []
+nothing_towards : (focus : Focus) (early : Bool) (scenario : Scenario) (lines : List (List ℕ)) (text : List ℕ) (P : Type 0) → IsDecidedBy (early_by focus early) scenario lines text
+    → ((OfOwnShip focus P → ⊥) → ⊥) → text ≡ []
 nothing_towards each_line early scenario lines text P settled own = absurd (own (λ x. x))
 nothing_towards (each_tick told) early scenario lines text P settled own = absurd (own (λ x. x))
 nothing_towards own_ship early scenario lines text P settled own = settled
@@ -353,18 +353,18 @@ nothing_towards nothing early scenario lines text P settled own = absurd (own (�
 pub nothing_with_own : (m : Mode) (rows : List ℕ) (scenario : Scenario) (log text : List ℕ) (lack : Unready) → IsSettledText m scenario log text
     → IsAnswerOf m rows scenario log (Err (fault.Own lack)) → text ≡ []
 nothing_with_own m rows scenario log text lack settled answer =
-    nothing_by (look_of m) (manner_of m).early scenario (ended_lines log) log text settled (λ none. own_needed m rows scenario log lack none answer)
+    nothing_by (focus_of m) (needs_of m).early scenario (ended_lines log) log text settled (λ none. own_needed m rows scenario log lack none answer)
 
 pub nothing_with_targets : (m : Mode) (rows : List ℕ) (scenario : Scenario) (log text : List ℕ) → IsSettledText m scenario log text
     → IsAnswerOf m rows scenario log (Err fault.Targets) → text ≡ []
 nothing_with_targets m rows scenario log text settled answer =
-    nothing_towards (look_of m) (manner_of m).early scenario (ended_lines log) text
+    nothing_towards (focus_of m) (needs_of m).early scenario (ended_lines log) text
     (OfOwn scenario log (λ own ready. greatest_targets < length (targets_near (numbers_of scenario) (log_messages scenario log) scenario own ready))) settled
     (λ few. targets_needed m rows scenario log few answer)
 
 pub nothing_with_entry : (m : Mode) (rows : List ℕ) (scenario : Scenario) (log text : List ℕ) (k : ℕ) → IsSettledText m scenario log text
     → IsAnswerOf m rows scenario log (Err (fault.Entry k)) → text ≡ []
 nothing_with_entry m rows scenario log text k settled answer =
-    nothing_towards (look_of m) (manner_of m).early scenario (ended_lines log) text
+    nothing_towards (focus_of m) (needs_of m).early scenario (ended_lines log) text
     (WhereChecked (needs_rows m) (OfOwn scenario log (λ own ready. IsFirstBadRow (situation_on scenario log own ready) (why_rows rows) k))) settled
     (λ good. entry_needed m rows scenario log k good answer)

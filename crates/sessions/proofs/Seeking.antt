@@ -28,9 +28,9 @@ use Rattle.report_parts.specs.PlanRows.{manoeuvre_rows}
 use Rattle.report_parts.specs.VesselRows.{near_rows}
 use Rattle.sessions.specs.Inner.Faults.{EndCause, preparing_fault}
 use Rattle.sessions.specs.Inner.PlanWriting.{AreReasonsWhere, IsSought, SoughtCause}
-use Rattle.command_line.specs.declared.mode.Mode.{Mode}
-use Rattle.command_line.specs.declared.mode.Mode.TheVariants as mode
-use Rattle.sessions.specs.Modes.{Look, OfOwnShip, look_of, own_ship}
+use Rattle.tasks.specs.declared.mode.Mode.{Mode}
+use Rattle.tasks.specs.declared.mode.Mode.TheVariants as mode
+use Rattle.tasks.specs.Modes.{Focus, OfOwnShip, focus_of, own_ship}
 use Rattle.sessions.proofs.Meeting.{a_report, no_manoeuvre, own_unready, too_many_targets}
 use Rattle.sessions.proofs.OneManoeuvre.{each_fails}
 
@@ -54,23 +54,23 @@ search_cause scenario messages (prepare.Unready why) unready many = unready why 
 search_cause scenario messages prepare.TooManyTargets unready many = many refl
 search_cause scenario messages prepare.Memory unready many = tt
 
-module _ (scenario : Scenario) (log : List ℕ) (calm : is_crowded scenario (lines_of log) ≡ false) (m : Mode) (rows : List ℕ) (looks : look_of m ≡ own_ship) where
+module _ (scenario : Scenario) (log : List ℕ) (calm : is_crowded scenario (lines_of log) ≡ false) (m : Mode) (rows : List ℕ) (on_own : focus_of m ≡ own_ship) where
   -- what she lacks, by her readiness
   pub lacks : (own : OwnPart) (came : Result Ready Unready) → scenario.own ≡ Some own → own_readiness (numbers_of scenario) (log_messages scenario log) scenario own ≡ came
       → unready_of m scenario log ≡ lack_of came
-  lacks own came is readiness = ap (λ (look : Look). lack_by look scenario log) looks ∙ (ap (lack_where scenario log) is ∙ ap lack_of readiness)
+  lacks own came is readiness = ap (λ (focus : Focus). lack_by focus scenario log) on_own ∙ (ap (lack_where scenario log) is ∙ ap lack_of readiness)
 
   pub own_cause : IsSome scenario.own → (fault : PrepareFault) → SoughtCause scenario (log_messages scenario log) fault → EndCause m rows scenario log (preparing_fault fault)
   own_cause some (prepare.Unready why) cause =
       let own = own_of scenario.own (λ own. own_readiness (numbers_of scenario) (log_messages scenario log) scenario own ≡ Err why) some cause in
-      own_unready scenario log calm m rows looks why (lacks own.own (Err why) own.is own.holds)
+      own_unready scenario log calm m rows on_own why (lacks own.own (Err why) own.is own.holds)
   own_cause some prepare.TooManyTargets cause =
       let own = own_of scenario.own (HaveManyTargets (numbers_of scenario) (log_messages scenario log) scenario) some cause in
       let (ready, is_ready, many) = own.holds in
       let limit : OfOwnShip own_ship (OfOwn scenario log (λ own ready. greatest_targets < length (targets_near (numbers_of scenario) (log_messages scenario log) scenario own ready))) =
       (own.own, ready, record { needed = own.is; is_ready = is_ready }, many) in
-      too_many_targets scenario log calm m rows looks (lacks own.own (Ok ready) own.is is_ready)
-      (subst (λ (look : Look). OfOwnShip look (OfOwn scenario log (λ own ready. greatest_targets < length (targets_near (numbers_of scenario) (log_messages scenario log) scenario own ready)))) (sym looks) limit)
+      too_many_targets scenario log calm m rows on_own (lacks own.own (Ok ready) own.is is_ready)
+      (subst (λ (focus : Focus). OfOwnShip focus (OfOwn scenario log (λ own ready. greatest_targets < length (targets_near (numbers_of scenario) (log_messages scenario log) scenario own ready)))) (sym on_own) limit)
   own_cause some prepare.Memory cause = tt
 
 -- ---- what was sought

@@ -16,7 +16,7 @@ use Rattle.traces.specs.declared.fault.TickFault.{TickFault as WatchFault}
 use Rattle.traces.specs.declared.fault.TickFault.TheVariants as watch_fault
 use Rattle.rule_set.specs.NamedTrees.{NamedTree}
 use Rattle.scenario_values.specs.declared.values.Scenario.{Scenario}
-use Rattle.command_line.specs.declared.mode.Mode.TheVariants as mode
+use Rattle.tasks.specs.declared.mode.Mode.TheVariants as mode
 use Rattle.settling.specs.DecidedAlarms.{AreDecidedAlarms}
 use Rattle.settling.specs.ScenarioAudit.{audit_numbers}
 use Rattle.settling.specs.WatchStanding.{AreOfOneLog}

@@ -23,8 +23,8 @@ use Rattle.settling.specs.WatchStanding.{StandsFor as WatchStandsFor, watched_ti
 use Rattle.settling.specs.declared.settled_audit.SettledAudit.{SettledAudit}
 use Rattle.settling.specs.declared.settled_watch.SettledWatch.{SettledWatch}
 use Rattle.settling.proofs.ForCallers.{few_settled, few_watched, none_decided, no_alarms_decided, none_many}
-use Rattle.command_line.specs.declared.mode.Mode.{Mode}
-use Rattle.sessions.specs.Modes.{Look, OfTicks, alarms, each_line, each_tick, early_look, look_of, nothing, own_ship, stretches}
+use Rattle.tasks.specs.declared.mode.Mode.{Mode}
+use Rattle.tasks.specs.Modes.{Focus, OfTicks, alarms, each_line, each_tick, early_focus, focus_of, nothing, own_ship, stretches}
 use Rattle.report_parts.specs.AlarmRows.{alarm_rows, told_alarm}
 use Rattle.report_parts.specs.PointRows.{point_rows, rows_of_line}
 use Rattle.report_parts.specs.StretchRows.{stretch_fields, stretch_rows}
@@ -53,7 +53,7 @@ nothing_ended : ended_lines [] ≡ []
 unfolding ended_lines
 nothing_ended = refl
 
-nothing_decided : (look : Look) (scenario : Scenario) → IsDecidedBy look scenario [] []
+nothing_decided : (focus : Focus) (scenario : Scenario) → IsDecidedBy focus scenario [] []
 nothing_decided each_line scenario = no_points scenario
 nothing_decided (each_tick stretches) scenario = ([], none_decided scenario, refl)
 nothing_decided (each_tick alarms) scenario = ([], no_alarms_decided scenario, refl)
@@ -61,13 +61,13 @@ nothing_decided own_ship scenario = refl
 nothing_decided nothing scenario = refl
 
 pub nothing_settled : (m : Mode) (scenario : Scenario) → IsSettledText m scenario [] []
-nothing_settled m scenario = subst (λ (lines : List (List ℕ)). IsDecidedText m scenario lines []) (sym nothing_ended) (nothing_decided (early_look m) scenario)
+nothing_settled m scenario = subst (λ (lines : List (List ℕ)). IsDecidedText m scenario lines []) (sym nothing_ended) (nothing_decided (early_focus m) scenario)
 
 none_crowded : (scenario : Scenario) → is_crowded scenario [] ≡ false
 unfolding is_crowded each_after
 none_crowded scenario = refl
 
-none_too_many : (look : Look) (scenario : Scenario) → OfTicks look (HaveManySettled scenario []) → ⊥
+none_too_many : (focus : Focus) (scenario : Scenario) → OfTicks focus (HaveManySettled scenario []) → ⊥
 none_too_many each_line scenario many = many
 none_too_many (each_tick told) scenario many = none_many scenario many
 none_too_many own_ship scenario many = many
@@ -77,7 +77,7 @@ pub nothing_refused : (m : Mode) (scenario : Scenario) → IsUnrefused m scenari
 nothing_refused m scenario = record {
   short = omega arith;
   calm = ap (is_crowded scenario) nothing_ended ∙ none_crowded scenario;
-  few = λ many. none_too_many (look_of m) scenario (subst (HasManySettled m scenario) nothing_ended many);
+  few = λ many. none_too_many (focus_of m) scenario (subst (HasManySettled m scenario) nothing_ended many);
 }
 
 pub points_begun : (scenario : Scenario) → IsDone work.Points scenario [] []

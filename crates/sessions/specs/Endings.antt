@@ -12,11 +12,11 @@ use Rattle.scenario_values.specs.declared.own_part.OwnPart.{OwnPart}
 use Rattle.scenario_values.specs.declared.values.Scenario.{Scenario}
 use Rattle.sessions.specs.AuditReport.{IsAuditReport, sightings_of}
 use Rattle.sessions.specs.DrillReport.{IsDrillReport}
-use Rattle.sessions.specs.Modes.{Look, OfOwnShip, OfTicks, WhereChecked, WhereSought, look_of, needs_rows, own_ship}
+use Rattle.tasks.specs.Modes.{Focus, OfOwnShip, OfTicks, WhereChecked, WhereSought, focus_of, needs_rows, own_ship}
 use Rattle.sessions.specs.PlanReport.{IsOwn, IsPlanReport, log_messages, situation_on}
 use Rattle.sessions.specs.PointsReport.{points_report}
-use Rattle.command_line.specs.declared.mode.Mode.{Mode}
-use Rattle.command_line.specs.declared.mode.Mode.TheVariants as mode
+use Rattle.tasks.specs.declared.mode.Mode.{Mode}
+use Rattle.tasks.specs.declared.mode.Mode.TheVariants as mode
 use Rattle.sessions.specs.declared.session_fault.SessionFault.{SessionFault}
 use Rattle.sessions.specs.RecheckReport.{IsRecheckReport}
 use Rattle.sessions.specs.Tasks.{Task}
@@ -31,7 +31,6 @@ IsReport mode.Points why rows scenario log text = text ≡ points_report scenari
 IsReport mode.Audit why rows scenario log text = IsAuditReport scenario log text
 IsReport mode.Plan why rows scenario log text = IsPlanReport why scenario log text
 IsReport mode.Drill why rows scenario log text = IsDrillReport scenario log text
-IsReport mode.Migrate why rows scenario log text = ⊥
 IsReport mode.Recheck why rows scenario log text = IsRecheckReport rows scenario log text
 IsReport mode.Watch why rows scenario log text = IsWatchReport scenario log text
 
@@ -43,7 +42,7 @@ IsEnding task = IsReport task.mode task.why task.rows
 
 -- More traces begin at the ticks of the window.
 abbrev pub HasManyTraces : Mode → Scenario → List ℕ → Type 0
-HasManyTraces mode scenario log = OfTicks (look_of mode) (HaveMoreThan MOST_TRACES (audit_numbers scenario) (sightings_of scenario log))
+HasManyTraces mode scenario log = OfTicks (focus_of mode) (HaveMoreThan MOST_TRACES (audit_numbers scenario) (sightings_of scenario log))
 
 -- what own ship lacks
 abbrev pub lack_of : Result Ready Unready → Option Unready
@@ -55,12 +54,12 @@ lack_where scenario log None = None
 lack_where scenario log (Some own) = lack_of (own_readiness (numbers_of scenario) (log_messages scenario log) scenario own)
 
 -- why own ship cannot be planned for, where she is to be
-abbrev pub lack_by : Look → Scenario → List ℕ → Option Unready
+abbrev pub lack_by : Focus → Scenario → List ℕ → Option Unready
 lack_by own_ship scenario log = lack_where scenario log scenario.own
 lack_by _ scenario log = None
 
 abbrev pub unready_of : Mode → Scenario → List ℕ → Option Unready
-unready_of mode = lack_by (look_of mode)
+unready_of mode = lack_by (focus_of mode)
 
 -- P holds of own ship, who is ready.
 abbrev pub OfOwn : Scenario → List ℕ → (OwnPart → Ready → Type 0) → Type 0
@@ -68,18 +67,18 @@ OfOwn scenario log P = (own : OwnPart) × (ready : Ready) × IsOwn scenario log 
 
 -- More vessels are her targets than are planned for.
 abbrev pub MeetsTargetLimit : Mode → Scenario → List ℕ → Type 0
-MeetsTargetLimit mode scenario log = OfOwnShip (look_of mode) (OfOwn scenario log (λ own ready.
+MeetsTargetLimit mode scenario log = OfOwnShip (focus_of mode) (OfOwn scenario log (λ own ready.
     greatest_targets < length (targets_near (numbers_of scenario) (log_messages scenario log) scenario own ready)))
 
 -- A plan of hers is sought, and every plan fails.
 abbrev pub HasNoManoeuvre : Mode → Scenario → List ℕ → Type 0
 HasNoManoeuvre mode scenario log =
-    OfOwnShip (look_of mode) (WhereSought (needs_rows mode) (OfOwn scenario log (λ own ready. AllFail (situation_on scenario log own ready))))
+    OfOwnShip (focus_of mode) (WhereSought (needs_rows mode) (OfOwn scenario log (λ own ready. AllFail (situation_on scenario log own ready))))
 
 -- Rows are checked, and they are not right: this is the least index at which one is not, or their number where together they leave out a plan.
 abbrev pub HasBadEntry : Mode → List ℕ → Scenario → List ℕ → ℕ → Type 0
 HasBadEntry mode rows scenario log k =
-    OfOwnShip (look_of mode) (WhereChecked (needs_rows mode) (OfOwn scenario log (λ own ready. IsFirstBadRow (situation_on scenario log own ready) (why_rows rows) k)))
+    OfOwnShip (focus_of mode) (WhereChecked (needs_rows mode) (OfOwn scenario log (λ own ready. IsFirstBadRow (situation_on scenario log own ready) (why_rows rows) k)))
 
 -- ---- what a log comes to
 

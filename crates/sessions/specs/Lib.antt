@@ -5,7 +5,7 @@ pub mod PlanReport
 pub mod RecheckReport
 pub mod WatchReport
 pub mod Tasks
-pub mod Modes
+pub mod SessionScenarios
 pub mod SessionFaultTexts
 pub mod SettledText
 pub mod Endings

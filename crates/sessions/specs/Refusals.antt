@@ -4,9 +4,9 @@ use Rattle.log_lines.specs.GrowingLog.{ended_lines}
 use Rattle.log_lines.specs.JudgedLines.{is_crowded}
 use Rattle.scenario_values.specs.declared.values.Scenario.{Scenario}
 use Rattle.settling.specs.ManySettled.{HaveManySettled}
-use Rattle.command_line.specs.declared.mode.Mode.{Mode}
+use Rattle.tasks.specs.declared.mode.Mode.{Mode}
 use Rattle.sessions.specs.Endings.{Came, First, IsAnswerTo}
-use Rattle.sessions.specs.Modes.{OfTicks, look_of}
+use Rattle.tasks.specs.Modes.{OfTicks, focus_of}
 use Rattle.sessions.specs.SettledText.{IsSettledText}
 use Rattle.sessions.specs.Tasks.{Task}
 use Rattle.sessions.specs.declared.session_fault.SessionFault.{SessionFault}
@@ -14,7 +14,7 @@ use Rattle.sessions.specs.declared.session_fault.SessionFault.TheVariants as fau
 
 -- More traces begin at ticks that the lines settle, where ticks are looked at.
 abbrev pub HasManySettled : Mode → Scenario → List (List ℕ) → Type 0
-HasManySettled mode scenario lines = OfTicks (look_of mode) (HaveManySettled scenario lines)
+HasManySettled mode scenario lines = OfTicks (focus_of mode) (HaveManySettled scenario lines)
 
 -- A front of a log is refused, whatever follows: it has more bytes than the scenario allows; or else the lines that a line feed has ended
 -- make more vessels held; or else more traces begin at ticks that they settle.

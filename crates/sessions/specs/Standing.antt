@@ -10,9 +10,9 @@ use Rattle.settling.specs.WatchStanding.{StandsFor as WatchStandsFor, watched_ti
 use Rattle.log_lines.specs.Standing.{LinesStandFor, kept_of}
 use Rattle.tracks.specs.declared.keeping.Keeping.{Keeping}
 use Rattle.tracks.specs.declared.keeping.Keeping.TheVariants.{Latest, Tracks}
-use Rattle.command_line.specs.declared.mode.Mode.{Mode}
-use Rattle.command_line.specs.declared.mode.Mode.TheVariants as mode
-use Rattle.sessions.specs.Modes.{needs_own}
+use Rattle.tasks.specs.declared.mode.Mode.{Mode}
+use Rattle.tasks.specs.declared.mode.Mode.TheVariants as mode
+use Rattle.tasks.specs.Modes.{needs_own}
 use Rattle.sessions.specs.Refusals.{IsUnrefused}
 use Rattle.sessions.specs.SettledText.{IsDecidedText, IsSettledText}
 use Rattle.sessions.specs.declared.session.Session.{Session}

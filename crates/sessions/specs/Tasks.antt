@@ -1,6 +1,6 @@
 -- What is asked of a log.
 use Rattle.std.specs.Prelude.{ℕ, Bool, List}
-use Rattle.command_line.specs.declared.mode.Mode.{Mode}
+use Rattle.tasks.specs.declared.mode.Mode.{Mode}
 use Rattle.sessions.specs.declared.asked.Asked.{Asked}
 
 -- the report of a mode: with that of a plan, whether it is to say why every plan fails, if every plan does; and a text, whose rows a recheck checks

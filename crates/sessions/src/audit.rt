@@ -12,7 +12,7 @@ ghost use Rattle.settling.specs.Standing.{audited_ticks};
 ghost use Rattle.sessions.specs.Endings.{IsAnswerOf};
 ghost use Rattle.sessions.specs.Inner.AtEnd.{IsAuditAtEnd, IsAuditOf};
 ghost use Rattle.sessions.specs.Inner.Faults.{EndCause};
-ghost use Rattle.command_line.specs.declared.mode.Mode.TheVariants.{Audit};
+ghost use Rattle.tasks.specs.declared.mode.Mode.TheVariants.{Audit};
 ghost use Rattle.tracks.specs.declared.keeping.Keeping.TheVariants.{Latest};
 
 use crate::ending::Ending;

@@ -10,7 +10,7 @@ ghost use Rattle.settling.specs.Standing.{audited_ticks};
 ghost use Rattle.sessions.specs.Endings.{IsAnswerOf};
 ghost use Rattle.sessions.specs.Inner.AtEnd.{IsAuditAtEnd, IsAuditOf};
 ghost use Rattle.sessions.specs.Inner.Faults.{EndCause};
-ghost use Rattle.command_line.specs.declared.mode.Mode.TheVariants.{Drill};
+ghost use Rattle.tasks.specs.declared.mode.Mode.TheVariants.{Drill};
 
 use crate::ending::Ending;
 use crate::session_fault::SessionFault;

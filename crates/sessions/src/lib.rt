@@ -15,7 +15,6 @@ mod audit;
 mod drill;
 mod ending;
 pub mod laws;
-mod modes;
 mod plan;
 mod points;
 mod reasons;
@@ -26,8 +25,7 @@ mod watch;
 mod work;
 
 pub use asked::Asked;
-pub use command_line::Mode;
 pub use ending::Ending;
-pub use modes::{needs_own, needs_rows, reads_log, reports};
 pub use session::Session;
 pub use session_fault::SessionFault;
+pub use tasks::Mode;

@@ -25,7 +25,7 @@ ghost use Rattle.sessions.specs.PlanReport.{IsManoeuvre, IsPlanReport};
 ghost use Rattle.sessions.specs.Inner.Faults.{EndCause};
 ghost use Rattle.sessions.specs.declared.session_fault.SessionFault.TheVariants as fault;
 ghost use Rattle.sessions.specs.Inner.PlanWriting.{AreReasonsWhere, IsSought, SoughtCause};
-ghost use Rattle.command_line.specs.declared.mode.Mode.TheVariants as mode;
+ghost use Rattle.tasks.specs.declared.mode.Mode.TheVariants as mode;
 
 use crate::ending::Ending;
 use crate::reasons::add_reasons;

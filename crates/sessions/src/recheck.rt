@@ -2,8 +2,8 @@
 ghost use Rattle.std.specs.Prelude.{◌≡◌, ◌≤◌, ℕ, List, length, IfErr, IfOk, IsSome, Ok};
 ghost use Rattle.report_csv.specs.CsvRows.{row_of};
 ghost use Rattle.audit_report.specs.ReportRows.{no_plan_fields};
-ghost use Rattle.command_line.specs.declared.mode.Mode.{Mode};
-ghost use Rattle.command_line.specs.declared.mode.Mode.TheVariants as mode;
+ghost use Rattle.tasks.specs.declared.mode.Mode.{Mode};
+ghost use Rattle.tasks.specs.declared.mode.Mode.TheVariants as mode;
 ghost use Rattle.log_lines.specs.LogLines.{lines_of};
 ghost use Rattle.log_lines.specs.Standing.{StandsFor as JudgeStandsFor, keeping_of};
 ghost use Rattle.refutation_check.specs.declared.checked_text.TheConstants.{GREATEST_TEXT};
@@ -11,7 +11,7 @@ ghost use Rattle.scenario_values.specs.ValueRanges.{IsInRange};
 ghost use Rattle.plan_situations.specs.Situations.{IsSituation};
 ghost use Rattle.tracks.specs.declared.keeping.Keeping.TheVariants.{Tracks};
 ghost use Rattle.sessions.specs.Endings.{IsAnswerOf};
-ghost use Rattle.sessions.specs.Modes.{look_of, own_ship};
+ghost use Rattle.tasks.specs.Modes.{focus_of, own_ship};
 ghost use Rattle.sessions.specs.PlanReport.{IsSituationOn};
 ghost use Rattle.sessions.specs.RecheckReport.{IsRecheckReport};
 ghost use Rattle.sessions.specs.Inner.Faults.{EndCause};
@@ -41,7 +41,7 @@ pub(crate) fn situation_at_end(
     ensures sound { IfOk result IsSituation }
     ensures situation { IfOk result (λ situation. (log : List ℕ) → JudgeStandsFor judge.now scenario (lines_of log) → IsSituationOn scenario log situation) }
     ensures cause { IfErr result (λ why. (log : List ℕ) → JudgeStandsFor judge.now scenario (lines_of log)
-        → (mode : Mode) (rows : List ℕ) → look_of mode ≡ own_ship → EndCause mode rows scenario log why) }
+        → (mode : Mode) (rows : List ℕ) → focus_of mode ≡ own_ship → EndCause mode rows scenario log why) }
 {
     let prepared = prepare(alloc, scenario, judge.book())?;
     Ok(prepared.situation)

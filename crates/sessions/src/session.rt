@@ -5,7 +5,8 @@ ghost use Rattle.scenario_values.specs.ValueRanges.{IsInRange};
 ghost use Rattle.sessions.specs.Endings.{IsAnswerTo, IsEnding};
 ghost use Rattle.sessions.specs.Feeding.{Refuses, TookPiece, UnlessMemory};
 ghost use Rattle.sessions.specs.Inner.Lines.{EndedLine, IsReadyToTake, RefusesLine, RefusesPiece, TookLines};
-ghost use Rattle.sessions.specs.Modes.{needs_own, reports, scenario_for};
+ghost use Rattle.tasks.specs.Modes.{needs_own};
+ghost use Rattle.sessions.specs.SessionScenarios.{scenario_for};
 ghost use Rattle.sessions.specs.Refusals.{IsStopped};
 ghost use Rattle.sessions.specs.PlanReport.{IsSituationOn};
 ghost use Rattle.sessions.specs.Standing.{IsInUse, StandsFor, mode_of, session_scenario, taken_of};
@@ -16,12 +17,10 @@ ghost use Rattle.plan_situations.specs.Situations.{IsSituation};
 
 use crate::asked::Asked;
 use crate::ending::Ending;
-use crate::modes::needs_own;
 use crate::recheck::situation_at_end;
 use crate::session_fault::SessionFault;
 use crate::work::Work;
 use audit_report::ReportText;
-use command_line::Mode;
 use log_lines::laws::{a_part_goes_on, ended_lines_stay};
 use log_lines::{StreamedLines, first_line_feed};
 use out_of_memory::Memory;
@@ -29,6 +28,7 @@ use plan_situations::Situation;
 use scenario_values::Scenario;
 use settling::laws::many_settled_stay;
 use std::alloc::Global;
+use tasks::{Mode, needs_own};
 
 /// So many ticks are taken at least before what lies before them is forgotten.
 const TICKS_AT_LEAST: u32 = 64;
@@ -81,11 +81,10 @@ pub struct Session {
 
 impl Session {
     /// The session of a mode on a scenario, before the first byte. Own ship is needed where she is planned for; any other mode leaves her out,
-    /// so that its window of lines ends a gap behind the last tick. A migration reports on no log.
+    /// so that its window of lines ends a gap behind the last tick.
     pub fn new(alloc: Global, scenario: Scenario, mode: Mode) -> Result<Session, Memory>
         requires in_range { IsInRange scenario }
         requires own { IsTrue (needs_own mode) → IsSome scenario.own }
-        requires reports { IsTrue (reports mode) }
         ensures mode { IfOk result (λ session. mode_of session ≡ mode) }
         ensures scenario { IfOk result (λ session. session_scenario session ≡ scenario_for mode scenario) }
         ensures stands { IfOk result (λ session. StandsFor session [] []) }

@@ -11,7 +11,7 @@ ghost use Rattle.settling.specs.WatchStanding.{watched_ticks};
 ghost use Rattle.sessions.specs.Endings.{IsAnswerOf};
 ghost use Rattle.sessions.specs.Inner.AtEnd.{IsWatchAtEnd, IsWatchOf};
 ghost use Rattle.sessions.specs.Inner.Faults.{EndCause};
-ghost use Rattle.command_line.specs.declared.mode.Mode.TheVariants.{Watch};
+ghost use Rattle.tasks.specs.declared.mode.Mode.TheVariants.{Watch};
 
 use crate::ending::Ending;
 use crate::session_fault::SessionFault;

@@ -6,7 +6,7 @@ ghost use Rattle.refutation_check.specs.declared.checked_text.TheConstants.{GREA
 ghost use Rattle.scenario_values.specs.ValueRanges.{IsInRange};
 ghost use Rattle.sessions.specs.Inner.AtEnd.{EndsWithAnswer, EndsWithCause, EndsWithReport, IsAtEnd};
 ghost use Rattle.sessions.specs.Inner.Working.{GoesOn, IsDone, IsReadyFor, Works};
-ghost use Rattle.sessions.specs.Modes.{needs_own, reports};
+ghost use Rattle.tasks.specs.Modes.{needs_own};
 ghost use Rattle.sessions.specs.Refusals.{HasManySettled};
 ghost use Rattle.sessions.specs.Standing.{KeepsEnough, keeping_by, mode_by};
 ghost use Rattle.sessions.specs.declared.session_fault.SessionFault.TheVariants as fault;
@@ -23,13 +23,13 @@ use crate::recheck::end_recheck;
 use crate::session_fault::SessionFault;
 use crate::watch::end_watch;
 use audit_report::ReportText;
-use command_line::Mode;
 use log_lines::{Judge, Judged};
 use out_of_memory::Memory;
 use report_parts::{write_alarms, write_line, write_stretches};
 use scenario_values::Scenario;
 use settling::{SettledAudit, SettledWatch};
 use std::alloc::Global;
+use tasks::Mode;
 use tracks::Keeping;
 
 /// What a mode does, and what it keeps beside the lines.
@@ -46,8 +46,7 @@ pub(crate) enum Work {
 impl Work {
     /// The work of a mode, before the first line.
     pub(crate) fn of(alloc: Global, scenario: &Scenario, mode: Mode) -> Result<Work, Memory>
-        requires in_range { IsInRange scenario.now }
-        requires reports { IsTrue (reports mode) }
+        requires { IsInRange scenario.now }
         ensures mode { IfOk result (λ work. mode_by work ≡ mode) }
         ensures done { IfOk result (λ work. IsDone work scenario.now [] []) }
     {
@@ -56,7 +55,6 @@ impl Work {
             Mode::Audit => Ok(Work::Audit(SettledAudit::new(alloc, scenario)?)),
             Mode::Plan => Ok(Work::Plan),
             Mode::Drill => Ok(Work::Drill(SettledAudit::new(alloc, scenario)?)),
-            Mode::Migrate => unreachable!(),
             Mode::Recheck => Ok(Work::Recheck),
             Mode::Watch => Ok(Work::Watch(SettledWatch::new(alloc, scenario)?)),
         }

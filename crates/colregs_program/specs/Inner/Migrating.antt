@@ -1,11 +1,11 @@
 -- What a migration comes to.
 use Rattle.std.specs.Prelude.{ℕ, ◌≡◌, ◌≤◌, ◌<◌, ◌⊎◌, List, length, Option, Result, Ok, Err, Vec}
 use Rattle.std.specs.declared.alloc.Global.{Global}
+use Rattle.outside.specs.Causes.{one_more}
 use Rattle.outside.specs.Shelves.{Files, IsMissing}
 use Rattle.scenario.specs.Migration.{IsMigrated, IsNotMigrated}
 use Rattle.colregs_program.specs.Answers.{CanMigrate, HoldsUnder, LiesUnder, greatest_scenario}
 use Rattle.colregs_program.specs.Inner.SetUps.{answer_of}
-use Rattle.command_line.specs.declared.request.Request.{Request}
 use Rattle.scenario_keys.specs.declared.key.Key.{Key}
 use Rattle.scenario_keys.specs.declared.cause.Cause.{Cause}
 use Rattle.colregs_program.specs.declared.set_up.SetUpFault.{SetUpFault}
@@ -30,12 +30,20 @@ MayBe text = (length text ≤ greatest_scenario) × CanMigrate text
 
 -- The answer that the bytes under the name call for, where they are to be migrated: nothing lies there, or too much; or it is told why they are
 -- not migrated, or they can be.
-abbrev pub IsMigrationDue : Request → Option Files → Status → Type 0
-IsMigrationDue request files answer =
-    ((answer ≡ status.ShelfFault) × IsMissing files request.name)
-    ⊎ (((answer ≡ status.Limit which.Scenario greatest_scenario) × LiesUnder files request.name IsLong)
-    ⊎ (((key : Key) × (cause : Cause) × (answer ≡ status.Scenario key cause) × LiesUnder files request.name (IsRefusal key cause))
-    ⊎ ((answer ≡ status.Done) × LiesUnder files request.name MayBe)))
+abbrev pub IsMigrationDue : List ℕ → Option Files → Status → Type 0
+IsMigrationDue name files answer =
+    ((answer ≡ status.ShelfFault) × IsMissing files name)
+    ⊎ (((answer ≡ status.Limit which.Scenario greatest_scenario) × LiesUnder files name IsLong)
+    ⊎ (((key : Key) × (cause : Cause) × (answer ≡ status.Scenario key cause) × LiesUnder files name (IsRefusal key cause))
+    ⊎ ((answer ≡ status.Done) × LiesUnder files name MayBe)))
+
+-- what the fault says of the bytes under the name, and of the shelf's count of faults
+abbrev pub MigrationCause : List ℕ → Option Files → ℕ → ℕ → SetUpFault → Type 0
+MigrationCause name files before now fault.NotHad = (now ≡ one_more before) ⊎ IsMissing files name
+MigrationCause name files before now fault.LongScenario = HoldsUnder files name IsLong
+MigrationCause name files before now fault.LongRows = ⊥
+MigrationCause name files before now (fault.Refused key cause) = HoldsUnder files name (IsRefusal key cause)
+MigrationCause name files before now fault.Memory = Unit {0}
 
 -- A migration that came to this gives the answer, or found no memory.
 abbrev pub ComesTo : Result (Vec ℕ Global) SetUpFault → Status → Type 0

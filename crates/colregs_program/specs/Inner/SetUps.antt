@@ -6,12 +6,14 @@ use Rattle.outside.specs.Shelves.{Files, IsMissing}
 use Rattle.scenario_values.specs.declared.values.Scenario.{Scenario}
 use Rattle.scenario_keys.specs.declared.fault.ScenarioFault.{ScenarioFault}
 use Rattle.scenario_keys.specs.declared.fault.ScenarioFault.TheVariants as refusal
-use Rattle.colregs_program.specs.Answers.{HasScenario, HoldsUnder, IsRefusedBy, LiesUnder, greatest_scenario}
+use Rattle.scenario.specs.ScenarioReading.{IsRefused}
+use Rattle.colregs_program.specs.Answers.{HasScenario, HoldsUnder, LiesUnder, greatest_scenario}
 use Rattle.refutation_check.specs.declared.checked_text.TheConstants.{GREATEST_TEXT}
-use Rattle.sessions.specs.Modes.{needs_rows}
+use Rattle.tasks.specs.Modes.{needs_own, needs_rows}
+use Rattle.tasks.specs.Tasks.{task_mode, task_rows}
 use Rattle.colregs_program.specs.declared.set_up.SetUp.{SetUp}
-use Rattle.command_line.specs.declared.request.Options.{Options}
-use Rattle.command_line.specs.declared.request.Request.{Request}
+use Rattle.command_line.specs.declared.request.WindowOptions.{WindowOptions}
+use Rattle.command_line.specs.declared.request.ReportRequest.{ReportRequest}
 use Rattle.colregs_program.specs.declared.fetching.FetchFault.{FetchFault}
 use Rattle.colregs_program.specs.declared.fetching.FetchFault.TheVariants as fetch
 use Rattle.colregs_program.specs.declared.set_up.SetUpFault.{SetUpFault}
@@ -21,10 +23,9 @@ use Rattle.colregs_program.specs.declared.status.Status.TheVariants as status
 use Rattle.colregs_program.specs.declared.status.Which.TheVariants as which
 
 -- The numbers that are given lie in their ranges.
-pub record AreOptions (options : Options) : Type 0 where
+pub record AreOptions (options : WindowOptions) : Type 0 where
   pub start : IfSome options.start (λ n. n ≤ 9999999999)
   pub ticks : IfSome options.ticks (λ n. (1 ≤ n) × (n ≤ 20000))
-  pub seed : options.seed ≤ 999999
 
 -- the fault of a scenario that was had
 abbrev pub set_up_fault : ScenarioFault → SetUpFault
@@ -51,14 +52,14 @@ answer_of (fault.Refused key cause) = status.Scenario key cause
 answer_of fault.Memory = status.Memory
 
 -- what the fault says of the bytes under the names, and of the shelf's count of faults
-abbrev pub SetUpCause : Request → Option Files → ℕ → ℕ → SetUpFault → Type 0
+abbrev pub SetUpCause : ReportRequest → Option Files → ℕ → ℕ → SetUpFault → Type 0
 SetUpCause request files before now fault.NotHad =
-    (now ≡ one_more before) ⊎ (IsMissing files request.name ⊎ (IsTrue (needs_rows request.mode) × IsMissing files request.options.rows))
+    (now ≡ one_more before) ⊎ (IsMissing files request.name ⊎ (IsTrue (needs_rows (task_mode request.task)) × IsMissing files (task_rows request.task)))
 SetUpCause request files before now fault.LongScenario = HoldsUnder files request.name (λ text. greatest_scenario < length text)
 SetUpCause request files before now fault.LongRows =
-    IsTrue (needs_rows request.mode) × HoldsUnder files request.options.rows (λ text. GREATEST_TEXT < length text)
+    IsTrue (needs_rows (task_mode request.task)) × HoldsUnder files (task_rows request.task) (λ text. GREATEST_TEXT < length text)
 SetUpCause request files before now (fault.Refused key cause) =
-    HoldsUnder files request.name (λ text. (length text ≤ greatest_scenario) × IsRefusedBy request.mode text key cause)
+    HoldsUnder files request.name (λ text. (length text ≤ greatest_scenario) × IsRefused (needs_own (task_mode request.task)) text key cause)
 SetUpCause request files before now fault.Memory = Unit {0}
 
 -- ---- what is called for
@@ -77,13 +78,13 @@ rows_had (Ok rows) = Ok rows.items
 rows_had (Err why) = Err why
 
 -- what the bytes under the request's name call for, where the shelf tells them
-abbrev pub IsScenarioDue : Request → Option Files → Result Scenario SetUpFault → Type 0
+abbrev pub IsScenarioDue : ReportRequest → Option Files → Result Scenario SetUpFault → Type 0
 IsScenarioDue request files (Ok scenario) = HasScenario files request scenario
 IsScenarioDue request files (Err fault.NotHad) = IsMissing files request.name
 IsScenarioDue request files (Err fault.LongScenario) = LiesUnder files request.name (λ text. greatest_scenario < length text)
 IsScenarioDue request files (Err fault.LongRows) = ⊥
 IsScenarioDue request files (Err (fault.Refused key cause)) =
-    LiesUnder files request.name (λ text. (length text ≤ greatest_scenario) × IsRefusedBy request.mode text key cause)
+    LiesUnder files request.name (λ text. (length text ≤ greatest_scenario) × IsRefused (needs_own (task_mode request.task)) text key cause)
 IsScenarioDue request files (Err fault.Memory) = ⊥
 
 -- what those under the rows' name call for, where they are needed
@@ -94,11 +95,11 @@ AreRowsDueWhere true files name (Err fault.NotHad) = IsMissing files name
 AreRowsDueWhere true files name (Err fault.LongRows) = LiesUnder files name (λ text. GREATEST_TEXT < length text)
 AreRowsDueWhere true files name (Err _) = ⊥
 
-abbrev pub AreRowsDue : Request → Option Files → Result (List ℕ) SetUpFault → Type 0
-AreRowsDue request files = AreRowsDueWhere (needs_rows request.mode) files request.options.rows
+abbrev pub AreRowsDue : ReportRequest → Option Files → Result (List ℕ) SetUpFault → Type 0
+AreRowsDue request files = AreRowsDueWhere (needs_rows (task_mode request.task)) files (task_rows request.task)
 
 -- what both call for
-abbrev pub IsSetUpDue : Request → Option Files → Result SetFor SetUpFault → Type 0
+abbrev pub IsSetUpDue : ReportRequest → Option Files → Result SetFor SetUpFault → Type 0
 IsSetUpDue request files (Ok (scenario, rows)) = IsScenarioDue request files (Ok scenario) × AreRowsDue request files (Ok rows)
 IsSetUpDue request files (Err why) =
     IsScenarioDue request files (Err why) ⊎ (((scenario : Scenario) × HasScenario files request scenario) × AreRowsDue request files (Err why))
@@ -116,5 +117,5 @@ HaveFetchedBy false before now came = now ≡ one_more before
 HaveFetchedBy true before now (Ok made) = now ≡ one_more (one_more before)
 HaveFetchedBy true before now (Err why) = (now ≡ one_more (one_more before)) ⊎ (IsTrue (precedes_rows why) × (now ≡ one_more before))
 
-abbrev pub HaveFetched : Request → ℕ → ℕ → Result SetUp SetUpFault → Type 0
-HaveFetched request = HaveFetchedBy (needs_rows request.mode)
+abbrev pub HaveFetched : ReportRequest → ℕ → ℕ → Result SetUp SetUpFault → Type 0
+HaveFetched request = HaveFetchedBy (needs_rows (task_mode request.task))

@@ -7,11 +7,12 @@ use Rattle.outside.specs.WholeReading.{StopsAt}
 use Rattle.audit_report.specs.ReportTexts.{HasText}
 use Rattle.audit_report.specs.declared.report_text.ReportText.{ReportText}
 use Rattle.outside.specs.declared.whole.ReadFault.TheVariants as read
-use Rattle.command_line.specs.declared.mode.Mode.{Mode}
-use Rattle.command_line.specs.declared.request.Request.{Request}
+use Rattle.tasks.specs.declared.mode.Mode.{Mode}
+use Rattle.command_line.specs.declared.request.ReportRequest.{ReportRequest}
 use Rattle.scenario_values.specs.declared.values.Scenario.{Scenario}
 use Rattle.sessions.specs.Endings.{IsAnswerTo}
-use Rattle.sessions.specs.Modes.{reads_log}
+use Rattle.tasks.specs.Modes.{reads_log}
+use Rattle.tasks.specs.Tasks.{task_mode}
 use Rattle.sessions.specs.Refusals.{IsStopped, IsUnrefused}
 use Rattle.sessions.specs.Standing.{StandsFor, mode_of, session_scenario}
 use Rattle.sessions.specs.declared.session.Session.{Session}
@@ -128,16 +129,16 @@ OutCount before now (fault.Unreported because) = now ≡ before
 -- ---- of a request
 
 -- what a fault says of the log of a request, and of what the sink gained
-abbrev pub ReportCause : Request → List ℕ → Scenario → Option (List ℕ) → Option (List ℕ) → Option (List ℕ) → Option (List ℕ) → StreamFault → Type 0
+abbrev pub ReportCause : ReportRequest → List ℕ → Scenario → Option (List ℕ) → Option (List ℕ) → Option (List ℕ) → Option (List ℕ) → StreamFault → Type 0
 ReportCause request rows scenario left left' contents contents' fault.NotRead =
-    IsTrue (reads_log request.mode) × LeavesSettled request.mode scenario left left' contents contents'
+    IsTrue (reads_log (task_mode request.task)) × LeavesSettled (task_mode request.task) scenario left left' contents contents'
 ReportCause request rows scenario left left' contents contents' fault.NotWritten = WritesPart request rows scenario left left' contents contents'
 ReportCause request rows scenario left left' contents contents' (fault.Unreported why.Vessels) =
     StopsWith request scenario left contents contents' (answer_of scenario (Err why.Vessels)) ⊎ EndsWith request rows scenario left left' contents contents' (answer_of scenario (Err why.Vessels))
 ReportCause request rows scenario left left' contents contents' (fault.Unreported why.Pairs) =
     StopsWith request scenario left contents contents' (answer_of scenario (Err why.Pairs)) ⊎ EndsWith request rows scenario left left' contents contents' (answer_of scenario (Err why.Pairs))
 ReportCause request rows scenario left left' contents contents' (fault.Unreported why.LogBytes) =
-    (IsTrue (reads_log request.mode) → StopsAt scenario.log.max_bytes 0 left left' read.TooLong)
+    (IsTrue (reads_log (task_mode request.task)) → StopsAt scenario.log.max_bytes 0 left left' read.TooLong)
     × StopsWith request scenario left contents contents' (answer_of scenario (Err why.LogBytes))
 ReportCause request rows scenario left left' contents contents' (fault.Unreported (why.Own lack)) =
     EndsWith request rows scenario left left' contents contents' (answer_of scenario (Err (why.Own lack))) × Keeps contents contents'
@@ -145,7 +146,7 @@ ReportCause request rows scenario left left' contents contents' (fault.Unreporte
     EndsWith request rows scenario left left' contents contents' (answer_of scenario (Err why.Targets)) × Keeps contents contents'
 ReportCause request rows scenario left left' contents contents' (fault.Unreported (why.Entry index)) =
     EndsWith request rows scenario left left' contents contents' (answer_of scenario (Err (why.Entry index))) × Keeps contents contents'
-ReportCause request rows scenario left left' contents contents' (fault.Unreported why.Memory) = IfSome (log_of request scenario left) (λ log. GainsFront request.mode scenario log contents contents')
+ReportCause request rows scenario left left' contents contents' (fault.Unreported why.Memory) = IfSome (log_of request scenario left) (λ log. GainsFront (task_mode request.task) scenario log contents contents')
 
 -- A drill ends with these faults alone.
 abbrev pub is_of_drill : StreamFault → Bool

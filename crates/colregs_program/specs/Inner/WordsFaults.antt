@@ -1,6 +1,6 @@
 -- Why there is no request.
-use Rattle.command_line.specs.declared.request.WordsFault.{WordsFault}
-use Rattle.command_line.specs.declared.request.WordsFault.TheVariants as fault
+use Rattle.command_line.specs.declared.arguments.WordsFault.{WordsFault}
+use Rattle.command_line.specs.declared.arguments.WordsFault.TheVariants as fault
 use Rattle.colregs_program.specs.declared.status.Status.{Status}
 use Rattle.colregs_program.specs.declared.status.Status.TheVariants as status
 

@@ -2,11 +2,11 @@
 use Rattle.std.specs.Prelude.{◌≡◌, ◌≢◌, ◌⊎◌, ◌≤◌, ⊤, ℕ, true, codes, List, Option, Some, None, Result, Ok, Err, is_some}
 use Rattle.clap.specs.Words.{Row, Text, first_of}
 use Rattle.command_line.specs.CommandLine.{Setting, default_of, kind_of, label, mode_text}
-use Rattle.command_line.specs.Requests.{HoldsValue, IsNumber, IsTaken, said, value_of}
-use Rattle.command_line.specs.declared.mode.Mode.{Mode}
-use Rattle.command_line.specs.declared.request.Options.{Options}
-use Rattle.command_line.specs.declared.request.WordsFault.{WordsFault}
-use Rattle.command_line.specs.declared.request.WordsFault.TheVariants.{Memory, Usage}
+use Rattle.command_line.specs.GivenArguments.{HoldsValue, IsNumber, IsTaken, said, value_of}
+use Rattle.command_line.specs.declared.mode.ModeArgument.{ModeArgument}
+use Rattle.command_line.specs.declared.arguments.Options.{Options}
+use Rattle.command_line.specs.declared.arguments.WordsFault.{WordsFault}
+use Rattle.command_line.specs.declared.arguments.WordsFault.TheVariants.{Memory, Usage}
 
 abbrev pub IsNumberIn : ℕ → ℕ → Text → ℕ → Type 0
 IsNumberIn low high text n = (low ≤ n) × (n ≤ high) × IsNumber text n
@@ -36,7 +36,7 @@ GivesOptions rows (Err Memory) = ⊤
 
 -- the matches hold no mode
 abbrev pub HoldsNoMode : List Row → Type 0
-HoldsNoMode rows = (mode : Mode) → first_of (codes "mode") rows ≢ Some (mode_text mode)
+HoldsNoMode rows = (mode : ModeArgument) → first_of (codes "mode") rows ≢ Some (mode_text mode)
 
 -- the matches hold no request: the mode, the name or a default is missing, or an option does not take its text
 abbrev pub HoldsNone : List Row → Type 0

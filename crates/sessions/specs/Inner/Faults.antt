@@ -7,7 +7,7 @@ use Rattle.plan_situations.specs.declared.preparation.PrepareFault.TheVariants a
 use Rattle.tracks.specs.declared.entry.BookFault.{BookFault}
 use Rattle.tracks.specs.declared.entry.BookFault.TheVariants as book
 use Rattle.scenario_values.specs.declared.values.Scenario.{Scenario}
-use Rattle.command_line.specs.declared.mode.Mode.{Mode}
+use Rattle.tasks.specs.declared.mode.Mode.{Mode}
 use Rattle.sessions.specs.Endings.{IsAnswerOf}
 use Rattle.sessions.specs.Feeding.{UnlessMemory}
 use Rattle.sessions.specs.declared.session_fault.SessionFault.{SessionFault}

@@ -2,7 +2,7 @@
 use Rattle.std.specs.Prelude.{ℕ, ◌≡◌, ◌≤◌, ◌<◌, ◌+◌, List, ◌++◌, length, false, IsSome, IsTrue}
 use Rattle.audit_report.specs.ReportTexts.{HasText}
 use Rattle.audit_report.specs.declared.report_text.ReportText.{ReportText}
-use Rattle.command_line.specs.declared.mode.Mode.{Mode}
+use Rattle.tasks.specs.declared.mode.Mode.{Mode}
 use Rattle.log_lines.specs.GrowingLog.{ended_lines}
 use Rattle.log_lines.specs.JudgedLines.{is_crowded}
 use Rattle.log_lines.specs.LogLines.{lines_of}
@@ -11,7 +11,7 @@ use Rattle.log_lines.specs.Standing.{LinesStandFor, kept_of}
 use Rattle.scenario_values.specs.ValueRanges.{IsInRange}
 use Rattle.scenario_values.specs.declared.values.Scenario.{Scenario}
 use Rattle.sessions.specs.Inner.Working.{IsDone}
-use Rattle.sessions.specs.Modes.{needs_own}
+use Rattle.tasks.specs.Modes.{needs_own}
 use Rattle.sessions.specs.Refusals.{HasManySettled}
 use Rattle.sessions.specs.Standing.{KeepsEnough, StandsFor, mode_by, mode_of, session_scenario}
 use Rattle.sessions.specs.declared.session.Session.{Session}

@@ -1,20 +1,27 @@
-use Rattle.std.proofs.Common.{◌≤◌, length, inl, inr, true, false, IsTrue, Err, refl, subst, sym, ◌∙◌, ap}
+use Rattle.std.proofs.Common.{ℕ, List, ◌≡◌, ◌≤◌, length, inl, inr, true, false, IsTrue, Err, refl, subst, sym, ◌∙◌, ap}
 use Rattle.command_line.proofs.Asked.{asked_or_nothing}
-use Rattle.sessions.specs.Modes.{reads_log}
-use Rattle.colregs_program.specs.Answers.{HoldsUnder, IsOfMigration, IsRefusedBy, greatest_scenario}
+use Rattle.command_line.specs.Requests.{AskFor}
+use Rattle.command_line.specs.declared.request.ReportRequest.{ReportRequest}
+use Rattle.command_line.specs.declared.request.Request.{Request}
+use Rattle.command_line.specs.declared.request.Request.TheVariants as asks
+use Rattle.colregs_program.specs.Answers.{AskForMigration, IsOfMigration}
 use Rattle.colregs_program.specs.declared.status.Status.{Status}
-use Rattle.command_line.specs.declared.mode.Mode.{Mode}
-use Rattle.colregs_program.proofs.Due.{migration_due}
-use Rattle.colregs_program.proofs.Refusals.{asked_once, asked_twice, asked_where_it_fails, bytes_told, calm_told, drill_status, drill_told, drills_too, entry_told, keeps_same, limit_told, log_calm_told, log_decides, memory_failed, memory_front, met_is, migrates, no_migration, no_report, no_rows_migrated, not_asked, not_set_up, nothing_told, only_finished, own_told, pairs_told, put_told, read_told, reported_met, reported_so, rows_too, runs, set_up_alone, set_up_drills, set_up_limit, set_up_unfinished, shelf_calm_told, stream_alone, stream_limit, targets_told, unread_too, vessels_told, words_alone, words_limit}
+use Rattle.colregs_program.proofs.Due.{either_alone, migration_due}
+use Rattle.colregs_program.proofs.Refusals.{asked_once, asked_twice, asked_where_it_fails, bytes_told, calm_told, drill_status, drill_told, entry_told, keeps_same, limit_told, log_calm_told, log_decides, memory_failed, memory_front, met_is, no_report, no_rows_migrated, not_asked, not_set_up, nothing_told, only_finished, own_told, pairs_told, put_told, read_told, reported_met, reported_so, rows_too, runs, set_up_alone, set_up_drills, set_up_limit, set_up_unfinished, shelf_calm_told, stream_alone, stream_limit, targets_told, unread_too, vessels_told, words_alone, words_limit}
+use Rattle.command_line.proofs.ForCallers.{seed_in_range}
 use Rattle.colregs_program.proofs.SettingUp.{options_in_range}
 use Rattle.colregs_program.specs.declared.status.Status.TheVariants as status
 use Rattle.colregs_program.proofs.program.run.Goals as goal
 
+-- what the words ask for, in each arm
+report_is : (words : List (List ℕ)) (request : Request) (report : ReportRequest) → request ≡ asks.Report report → AskFor words request → AskFor words (asks.Report report)
+report_is words request report is asked = subst (AskFor words) is asked
+
+migration_is : (words : List (List ℕ)) (request : Request) (name : List ℕ) → request ≡ asks.Migration name → AskFor words request → AskForMigration words name
+migration_is words request name is asked = subst (AskFor words) is asked
+
 pub set_up-requires : goal.set_up-requires
-set_up-requires g c = record {
-  options = options_in_range c.args.words.now c.in-Ok.request c.in-Ok.ensures.asked;
-  reports = sym c.reports.ensures ∙ c.if-not-reports.false;
-}
+set_up-requires g c = options_in_range c.args.words.now c.in-Report.report (report_is c.args.words.now _ c.in-Report.report c.in-Report.is c.in-Ok.ensures.asked)
 
 -- ---- no request
 
@@ -24,15 +31,15 @@ returns-in-Err-clause-due g c = λ due is shelf source sink.
     not_asked c.args.words.now (Err c.in-Err.fault) c.in-Err.fault _ _ refl told _ _ due c.in-Err.ensures.refused is
 
 pub returns-in-Err-clause-no_usage : goal.returns-in-Err-clause-no_usage
-returns-in-Err-clause-no_usage g c = λ request asks is.
+returns-in-Err-clause-no_usage g c = λ request asked is.
     let told = rw c.into.ensures at c.tell.ensures.same in
-    let memory = memory_failed c.args.words.now (Err c.in-Err.fault) c.in-Err.fault _ _ refl told request (c.in-Err.ensures.accepted request asks) in
+    let memory = memory_failed c.args.words.now (Err c.in-Err.fault) c.in-Err.fault _ _ refl told request (c.in-Err.ensures.accepted request asked) in
     cc (memory, is)
 
 pub returns-in-Err-clause-fetched : goal.returns-in-Err-clause-fetched
-returns-in-Err-clause-fetched g c = λ request asks none.
+returns-in-Err-clause-fetched g c = λ request asked none.
     let told = rw c.into.ensures at c.tell.ensures.same in
-    inr (memory_failed c.args.words.now (Err c.in-Err.fault) c.in-Err.fault _ _ refl told request (c.in-Err.ensures.accepted request asks), refl)
+    inr (memory_failed c.args.words.now (Err c.in-Err.fault) c.in-Err.fault _ _ refl told request (c.in-Err.ensures.accepted request asked), refl)
 
 pub returns-in-Err-clause-limits : goal.returns-in-Err-clause-limits
 returns-in-Err-clause-limits g c =
@@ -40,51 +47,62 @@ returns-in-Err-clause-limits g c =
     limit_told _ _ _ told (words_limit c.in-Err.fault)
 
 pub returns-in-Err-clause-fetched_rows : goal.returns-in-Err-clause-fetched_rows
-returns-in-Err-clause-fetched_rows g c = λ request asks needs.
+returns-in-Err-clause-fetched_rows g c = λ request asked needs.
     let told = rw c.into.ensures at c.tell.ensures.same in
-    inr (inr (memory_failed c.args.words.now (Err c.in-Err.fault) c.in-Err.fault _ _ refl told request (c.in-Err.ensures.accepted request asks), refl))
+    inr (inr (memory_failed c.args.words.now (Err c.in-Err.fault) c.in-Err.fault _ _ refl told request (c.in-Err.ensures.accepted request asked), refl))
 
 -- ---- a migration
 
-pub returns-then-not-reports-clause-rows_limit : goal.returns-then-not-reports-clause-rows_limit
-returns-then-not-reports-clause-rows_limit g c = λ most is.
-    let no = subst (λ (s : Status). IsTrue (IsOfMigration s)) is c.write_migrated.ensures.answers in
+pub returns-in-Migration-clause-rows_limit : goal.returns-in-Migration-clause-rows_limit
+returns-in-Migration-clause-rows_limit g c = λ most is.
+    let no = subst (λ (s : Status). IsTrue (IsOfMigration s)) is c.run_migration.ensures.answers in
     absurd (cc no)
 
-pub returns-then-not-reports-clause-fetched_rows : goal.returns-then-not-reports-clause-fetched_rows
-returns-then-not-reports-clause-fetched_rows g c = λ request asks needs.
-    no_rows_migrated c.args.words.now request c.in-Ok.request _ asks c.in-Ok.ensures.asked (migrates c.in-Ok.request.mode (sym c.reports.ensures ∙ c.if-not-reports.true)) needs
+pub returns-in-Migration-clause-headline : goal.returns-in-Migration-clause-headline
+returns-in-Migration-clause-headline g c = λ finished.
+    let done = c.run_migration.ensures.done finished in
+    inr (done.0, (c.in-Migration.name, (migration_is c.args.words.now _ c.in-Migration.name c.in-Migration.is c.in-Ok.ensures.asked), done.1))
 
-pub write_migrated-requires : goal.write_migrated-requires
-write_migrated-requires g c = migrates c.in-Ok.request.mode (sym c.reports.ensures ∙ c.if-not-reports.true)
+pub returns-in-Migration-clause-fetched_rows : goal.returns-in-Migration-clause-fetched_rows
+returns-in-Migration-clause-fetched_rows g c = λ request asked needs.
+    no_rows_migrated c.args.words.now request c.in-Migration.name _ asked (migration_is c.args.words.now _ c.in-Migration.name c.in-Migration.is c.in-Ok.ensures.asked) needs
 
-pub returns-then-not-reports-clause-due : goal.returns-then-not-reports-clause-due
-returns-then-not-reports-clause-due g c = λ due is shelf source sink.
-    let mode = migrates c.in-Ok.request.mode (sym c.reports.ensures ∙ c.if-not-reports.true) in
-    c.write_migrated.ensures.due due (migration_due c.args.words.now _ _ c.in-Ok.request due c.in-Ok.ensures.asked mode is) shelf sink
+pub returns-in-Migration-clause-due : goal.returns-in-Migration-clause-due
+returns-in-Migration-clause-due g c = λ due is shelf source sink.
+    c.run_migration.ensures.due due (migration_due c.args.words.now _ _ c.in-Migration.name due (migration_is c.args.words.now _ c.in-Migration.name c.in-Migration.is c.in-Ok.ensures.asked) is) shelf sink
 
-pub returns-then-not-reports-clause-usage : goal.returns-then-not-reports-clause-usage
-returns-then-not-reports-clause-usage g c = λ is. absurd (c.write_migrated.ensures.no_usage is)
+pub returns-in-Migration-clause-usage : goal.returns-in-Migration-clause-usage
+returns-in-Migration-clause-usage g c = λ is. absurd (c.run_migration.ensures.no_usage is)
 
-pub returns-then-not-reports-clause-no_usage : goal.returns-then-not-reports-clause-no_usage
-returns-then-not-reports-clause-no_usage g c = λ request asks. c.write_migrated.ensures.no_usage
+pub returns-in-Migration-clause-no_usage : goal.returns-in-Migration-clause-no_usage
+returns-in-Migration-clause-no_usage g c = λ request asked. c.run_migration.ensures.no_usage
 
-pub returns-then-not-reports-clause-scenario_limit : goal.returns-then-not-reports-clause-scenario_limit
-returns-then-not-reports-clause-scenario_limit g c = λ most is.
-    let limit = c.write_migrated.ensures.scenario_limit most is in
-    (limit.0, (c.in-Ok.request, c.in-Ok.ensures.asked, limit.1))
+pub returns-in-Migration-clause-shelf_fault : goal.returns-in-Migration-clause-shelf_fault
+returns-in-Migration-clause-shelf_fault g c = λ is.
+    let either = c.run_migration.ensures.shelf_fault is in
+    (asks.Migration c.in-Migration.name, (migration_is c.args.words.now _ c.in-Migration.name c.in-Migration.is c.in-Ok.ensures.asked), elim either [ inl risen ↦ inl risen | inr missing ↦ inr (inl missing) ])
 
-pub returns-then-not-reports-clause-refused : goal.returns-then-not-reports-clause-refused
-returns-then-not-reports-clause-refused g c = λ key why is.
-    let mode = migrates c.in-Ok.request.mode (sym c.reports.ensures ∙ c.if-not-reports.true) in (
-      c.in-Ok.request,
-      c.in-Ok.ensures.asked,
-      subst (λ (m : Mode). HoldsUnder (g.H.Shelf.files c.args.shelf.now) c.in-Ok.request.name (λ text. (length text ≤ greatest_scenario) × IsRefusedBy m text key why)) (sym mode)
-          (c.write_migrated.ensures.refused key why is),
-    )
+pub returns-in-Migration-clause-scenario_limit : goal.returns-in-Migration-clause-scenario_limit
+returns-in-Migration-clause-scenario_limit g c = λ most is.
+    let limit = c.run_migration.ensures.scenario_limit most is in
+    (limit.0, (asks.Migration c.in-Migration.name, (migration_is c.args.words.now _ c.in-Migration.name c.in-Migration.is c.in-Ok.ensures.asked), limit.1))
 
-pub returns-then-not-reports-clause-unfetched : goal.returns-then-not-reports-clause-unfetched
-returns-then-not-reports-clause-unfetched g c = λ nothing. absurd (asked_or_nothing c.args.words.now c.in-Ok.request c.in-Ok.ensures.asked nothing)
+pub returns-in-Migration-clause-refused : goal.returns-in-Migration-clause-refused
+returns-in-Migration-clause-refused g c = λ key why is. (asks.Migration c.in-Migration.name, (migration_is c.args.words.now _ c.in-Migration.name c.in-Migration.is c.in-Ok.ensures.asked), c.run_migration.ensures.refused key why is)
+
+pub returns-in-Migration-clause-write_fault : goal.returns-in-Migration-clause-write_fault
+returns-in-Migration-clause-write_fault g c = λ is.
+    let part = c.run_migration.ensures.write_fault is in
+    (part.0, inr (c.in-Migration.name, (migration_is c.args.words.now _ c.in-Migration.name c.in-Migration.is c.in-Ok.ensures.asked), part.1))
+
+pub returns-in-Migration-clause-drill : goal.returns-in-Migration-clause-drill
+returns-in-Migration-clause-drill g c = λ request asked makes. either_alone c.args.words.now request c.in-Migration.name _ asked (migration_is c.args.words.now _ c.in-Migration.name c.in-Migration.is c.in-Ok.ensures.asked)
+
+pub returns-in-Migration-clause-migration : goal.returns-in-Migration-clause-migration
+returns-in-Migration-clause-migration g c = λ name asked. c.run_migration.ensures.answers
+
+pub returns-in-Migration-clause-unfetched : goal.returns-in-Migration-clause-unfetched
+returns-in-Migration-clause-unfetched g c = λ nothing. absurd (asked_or_nothing c.args.words.now c.in-Ok.request c.in-Ok.ensures.asked nothing)
 
 -- ---- no scenario
 
@@ -101,7 +119,7 @@ returns-in-Err-set_up-clause-limits g c =
 pub returns-in-Err-set_up-clause-due : goal.returns-in-Err-set_up-clause-due
 returns-in-Err-set_up-clause-due g c = λ due is shelf source sink.
     let told = rw c.into-in-Err-set_up.ensures at c.tell-in-Err-set_up.ensures.same in
-    not_set_up _ _ _ c.in-Ok.request due _ _ _ c.in-Err-set_up.fault _ c.in-Ok.ensures.asked (sym c.reports.ensures ∙ c.if-not-reports.false) is c.in-Err-set_up.ensures.due shelf told
+    not_set_up _ _ _ c.in-Report.report due _ _ _ c.in-Err-set_up.fault _ (report_is c.args.words.now _ c.in-Report.report c.in-Report.is c.in-Ok.ensures.asked) is c.in-Err-set_up.ensures.due shelf told
 
 pub returns-in-Err-set_up-clause-headline : goal.returns-in-Err-set_up-clause-headline
 returns-in-Err-set_up-clause-headline g c = λ done.
@@ -112,21 +130,21 @@ pub returns-in-Err-set_up-clause-memory : goal.returns-in-Err-set_up-clause-memo
 returns-in-Err-set_up-clause-memory g c = λ is. inl (keeps_same _)
 
 pub returns-in-Err-set_up-clause-migration : goal.returns-in-Err-set_up-clause-migration
-returns-in-Err-set_up-clause-migration g c = λ request asks migrates. no_migration c.args.words.now request c.in-Ok.request _ asks c.in-Ok.ensures.asked (sym c.reports.ensures ∙ c.if-not-reports.false) migrates
+returns-in-Err-set_up-clause-migration g c = λ name asked. either_alone c.args.words.now c.in-Report.report name _ (report_is c.args.words.now _ c.in-Report.report c.in-Report.is c.in-Ok.ensures.asked) asked
 
 pub returns-in-Err-set_up-clause-drill : goal.returns-in-Err-set_up-clause-drill
-returns-in-Err-set_up-clause-drill g c = λ request asks drills.
+returns-in-Err-set_up-clause-drill g c = λ request asked makes.
     let told = rw c.into-in-Err-set_up.ensures at c.tell-in-Err-set_up.ensures.same in
-    set_up_drills c.in-Ok.request _ _ _ _ c.in-Err-set_up.fault _ told (drills_too c.args.words.now request c.in-Ok.request asks c.in-Ok.ensures.asked drills) c.in-Err-set_up.ensures.cause
+    set_up_drills c.in-Report.report _ _ _ _ c.in-Err-set_up.fault _ told (unread_too c.args.words.now (asks.Report request) c.in-Report.report asked (report_is c.args.words.now _ c.in-Report.report c.in-Report.is c.in-Ok.ensures.asked) makes) c.in-Err-set_up.ensures.cause
 
 pub returns-in-Err-set_up-clause-fetched : goal.returns-in-Err-set_up-clause-fetched
-returns-in-Err-set_up-clause-fetched g c = λ request asks none.
-    inl (asked_once c.in-Ok.request _ _ _ (rows_too c.args.words.now request c.in-Ok.request false asks c.in-Ok.ensures.asked none) c.in-Err-set_up.ensures.fetched)
+returns-in-Err-set_up-clause-fetched g c = λ request asked none.
+    inl (asked_once c.in-Report.report _ _ _ (rows_too c.args.words.now request c.in-Report.report asked (report_is c.args.words.now _ c.in-Report.report c.in-Report.is c.in-Ok.ensures.asked) false none) c.in-Err-set_up.ensures.fetched)
 
 pub returns-in-Err-set_up-clause-fetched_rows : goal.returns-in-Err-set_up-clause-fetched_rows
-returns-in-Err-set_up-clause-fetched_rows g c = λ request asks needs.
+returns-in-Err-set_up-clause-fetched_rows g c = λ request asked needs.
     let told = rw c.into-in-Err-set_up.ensures at c.tell-in-Err-set_up.ensures.same in
-    asked_where_it_fails c.in-Ok.request _ _ _ c.in-Err-set_up.fault _ told (rows_too c.args.words.now request c.in-Ok.request true asks c.in-Ok.ensures.asked needs) c.in-Err-set_up.ensures.fetched
+    asked_where_it_fails c.in-Report.report _ _ _ c.in-Err-set_up.fault _ told (rows_too c.args.words.now request c.in-Report.report asked (report_is c.args.words.now _ c.in-Report.report c.in-Report.is c.in-Ok.ensures.asked) true needs) c.in-Err-set_up.ensures.fetched
 
 pub returns-in-Err-set_up-clause-unfetched : goal.returns-in-Err-set_up-clause-unfetched
 returns-in-Err-set_up-clause-unfetched g c = λ nothing. absurd (asked_or_nothing c.args.words.now c.in-Ok.request c.in-Ok.ensures.asked nothing)
@@ -136,84 +154,84 @@ returns-in-Err-set_up-clause-unfetched g c = λ nothing. absurd (asked_or_nothin
 pub returns-in-Err-report_on-clause-due : goal.returns-in-Err-report_on-clause-due
 returns-in-Err-report_on-clause-due g c = λ due is shelf source sink.
     let told = rw c.stream_status.ensures at c.tell-in-Err-report_on.ensures.same in
-    let follows = log_decides _ _ _ _ due _ _ (c.in-Ok-set_up.made.scenario, c.in-Ok-set_up.made.rows.items) c.in-Ok.ensures.asked (sym c.reports.ensures ∙ c.if-not-reports.false) is c.in-Ok-set_up.ensures.due shelf in
-    no_report c.in-Ok.request c.in-Ok-set_up.made.rows.items c.in-Ok-set_up.made.scenario _ _ _ _ c.one_answer.ensures c.in-Err-report_on.fault _ due _ _ _ _ _ _ refl follows c.in-Err-report_on.ensures.cause c.in-Err-report_on.ensures.log_faults c.in-Err-report_on.ensures.out_faults source sink told
+    let follows = log_decides _ _ _ _ due _ _ (c.in-Ok-set_up.made.scenario, c.in-Ok-set_up.made.rows.items) (report_is c.args.words.now _ c.in-Report.report c.in-Report.is c.in-Ok.ensures.asked) is c.in-Ok-set_up.ensures.due shelf in
+    no_report c.in-Report.report c.in-Ok-set_up.made.rows.items c.in-Ok-set_up.made.scenario _ _ _ _ c.one_answer.ensures c.in-Err-report_on.fault _ due _ _ _ _ _ _ refl follows c.in-Err-report_on.ensures.cause c.in-Err-report_on.ensures.log_faults c.in-Err-report_on.ensures.out_faults source sink told
 
 pub returns-in-Err-report_on-clause-fetched : goal.returns-in-Err-report_on-clause-fetched
-returns-in-Err-report_on-clause-fetched g c = λ request asks none.
-    inl (asked_once c.in-Ok.request _ _ _ (rows_too c.args.words.now request c.in-Ok.request false asks c.in-Ok.ensures.asked none) c.in-Ok-set_up.ensures.fetched)
+returns-in-Err-report_on-clause-fetched g c = λ request asked none.
+    inl (asked_once c.in-Report.report _ _ _ (rows_too c.args.words.now request c.in-Report.report asked (report_is c.args.words.now _ c.in-Report.report c.in-Report.is c.in-Ok.ensures.asked) false none) c.in-Ok-set_up.ensures.fetched)
 
 pub returns-in-Err-report_on-clause-fetched_rows : goal.returns-in-Err-report_on-clause-fetched_rows
-returns-in-Err-report_on-clause-fetched_rows g c = λ request asks needs.
-    inl (asked_twice c.in-Ok.request _ _ c.in-Ok-set_up.made (rows_too c.args.words.now request c.in-Ok.request true asks c.in-Ok.ensures.asked needs) c.in-Ok-set_up.ensures.fetched)
+returns-in-Err-report_on-clause-fetched_rows g c = λ request asked needs.
+    inl (asked_twice c.in-Report.report _ _ c.in-Ok-set_up.made (rows_too c.args.words.now request c.in-Report.report asked (report_is c.args.words.now _ c.in-Report.report c.in-Report.is c.in-Ok.ensures.asked) true needs) c.in-Ok-set_up.ensures.fetched)
 
 pub returns-in-Err-report_on-clause-bad_entry : goal.returns-in-Err-report_on-clause-bad_entry
 returns-in-Err-report_on-clause-bad_entry g c = λ index is.
     let told = rw c.stream_status.ensures at c.tell-in-Err-report_on.ensures.same in
-    runs c.args.words.now (g.H.Shelf.files c.args.shelf.now) c.in-Ok.request c.in-Ok-set_up.made.rows.items c.in-Ok-set_up.made.scenario _ _ c.in-Ok.ensures.asked (sym c.reports.ensures ∙ c.if-not-reports.false) tt c.in-Ok-set_up.ensures.scenario c.in-Ok-set_up.ensures.rows (entry_told c.in-Ok.request c.in-Ok-set_up.made.rows.items c.in-Ok-set_up.made.scenario _ _ _ _ c.in-Err-report_on.fault index _ _ _ told is c.in-Err-report_on.ensures.cause)
+    runs c.args.words.now (g.H.Shelf.files c.args.shelf.now) c.in-Report.report c.in-Ok-set_up.made.rows.items c.in-Ok-set_up.made.scenario _ _ (report_is c.args.words.now _ c.in-Report.report c.in-Report.is c.in-Ok.ensures.asked) tt c.in-Ok-set_up.ensures.scenario c.in-Ok-set_up.ensures.rows (entry_told c.in-Report.report c.in-Ok-set_up.made.rows.items c.in-Ok-set_up.made.scenario _ _ _ _ c.in-Err-report_on.fault index _ _ _ told is c.in-Err-report_on.ensures.cause)
 
 pub returns-in-Err-report_on-clause-unfetched : goal.returns-in-Err-report_on-clause-unfetched
 returns-in-Err-report_on-clause-unfetched g c = λ nothing. absurd (asked_or_nothing c.args.words.now c.in-Ok.request c.in-Ok.ensures.asked nothing)
 
 pub returns-in-Err-report_on-clause-unread : goal.returns-in-Err-report_on-clause-unread
-returns-in-Err-report_on-clause-unread g c = λ request asks not. c.report_on.ensures.untouched (unread_too c.args.words.now request c.in-Ok.request asks c.in-Ok.ensures.asked not)
+returns-in-Err-report_on-clause-unread g c = λ request asked not. c.report_on.ensures.untouched (unread_too c.args.words.now request c.in-Report.report asked (report_is c.args.words.now _ c.in-Report.report c.in-Report.is c.in-Ok.ensures.asked) not)
 
 pub returns-in-Err-report_on-clause-migration : goal.returns-in-Err-report_on-clause-migration
-returns-in-Err-report_on-clause-migration g c = λ request asks migrates. no_migration c.args.words.now request c.in-Ok.request _ asks c.in-Ok.ensures.asked (sym c.reports.ensures ∙ c.if-not-reports.false) migrates
+returns-in-Err-report_on-clause-migration g c = λ name asked. either_alone c.args.words.now c.in-Report.report name _ (report_is c.args.words.now _ c.in-Report.report c.in-Report.is c.in-Ok.ensures.asked) asked
 
 pub returns-in-Err-report_on-clause-drill : goal.returns-in-Err-report_on-clause-drill
-returns-in-Err-report_on-clause-drill g c = λ request asks drills.
+returns-in-Err-report_on-clause-drill g c = λ request asked makes.
     let told = rw c.stream_status.ensures at c.tell-in-Err-report_on.ensures.same in
-    let here = drills_too c.args.words.now request c.in-Ok.request asks c.in-Ok.ensures.asked drills in
-    drill_told _ _ _ told (drill_status c.in-Err-report_on.fault _ (c.in-Err-report_on.ensures.drill (ap reads_log here)))
+    let here = unread_too c.args.words.now (asks.Report request) c.in-Report.report asked (report_is c.args.words.now _ c.in-Report.report c.in-Report.is c.in-Ok.ensures.asked) makes in
+    drill_told _ _ _ told (drill_status c.in-Err-report_on.fault _ (c.in-Err-report_on.ensures.drill here))
 
 pub returns-in-Err-report_on-clause-read_fault : goal.returns-in-Err-report_on-clause-read_fault
 returns-in-Err-report_on-clause-read_fault g c = λ is.
     let told = rw c.stream_status.ensures at c.tell-in-Err-report_on.ensures.same in
-    let left = read_told c.in-Ok.request c.in-Ok-set_up.made.rows.items c.in-Ok-set_up.made.scenario _ _ _ _ c.in-Err-report_on.fault _ _ _ _ _ told is c.in-Err-report_on.ensures.cause c.in-Err-report_on.ensures.log_faults in
-    (left.0, runs c.args.words.now (g.H.Shelf.files c.args.shelf.now) c.in-Ok.request c.in-Ok-set_up.made.rows.items c.in-Ok-set_up.made.scenario _ _ c.in-Ok.ensures.asked (sym c.reports.ensures ∙ c.if-not-reports.false) left.1 c.in-Ok-set_up.ensures.scenario c.in-Ok-set_up.ensures.rows left.2)
+    let left = read_told c.in-Report.report c.in-Ok-set_up.made.rows.items c.in-Ok-set_up.made.scenario _ _ _ _ c.in-Err-report_on.fault _ _ _ _ _ told is c.in-Err-report_on.ensures.cause c.in-Err-report_on.ensures.log_faults in
+    (left.0, runs c.args.words.now (g.H.Shelf.files c.args.shelf.now) c.in-Report.report c.in-Ok-set_up.made.rows.items c.in-Ok-set_up.made.scenario _ _ (report_is c.args.words.now _ c.in-Report.report c.in-Report.is c.in-Ok.ensures.asked) left.1 c.in-Ok-set_up.ensures.scenario c.in-Ok-set_up.ensures.rows left.2)
 
 pub returns-in-Err-report_on-clause-log_limit : goal.returns-in-Err-report_on-clause-log_limit
 returns-in-Err-report_on-clause-log_limit g c = λ most is.
     let told = rw c.stream_status.ensures at c.tell-in-Err-report_on.ensures.same in
-    let long = bytes_told c.in-Ok.request c.in-Ok-set_up.made.rows.items c.in-Ok-set_up.made.scenario _ _ _ _ c.in-Err-report_on.fault most _ _ _ refl told is c.in-Err-report_on.ensures.cause in
-    runs c.args.words.now (g.H.Shelf.files c.args.shelf.now) c.in-Ok.request c.in-Ok-set_up.made.rows.items c.in-Ok-set_up.made.scenario _ _ c.in-Ok.ensures.asked (sym c.reports.ensures ∙ c.if-not-reports.false) long.stops c.in-Ok-set_up.ensures.scenario c.in-Ok-set_up.ensures.rows (long.limit, long.met)
+    let long = bytes_told c.in-Report.report c.in-Ok-set_up.made.rows.items c.in-Ok-set_up.made.scenario _ _ _ _ c.in-Err-report_on.fault most _ _ _ refl told is c.in-Err-report_on.ensures.cause in
+    runs c.args.words.now (g.H.Shelf.files c.args.shelf.now) c.in-Report.report c.in-Ok-set_up.made.rows.items c.in-Ok-set_up.made.scenario _ _ (report_is c.args.words.now _ c.in-Report.report c.in-Report.is c.in-Ok.ensures.asked) long.stops c.in-Ok-set_up.ensures.scenario c.in-Ok-set_up.ensures.rows (long.limit, long.met)
 
 pub returns-in-Err-report_on-clause-vessel_limit : goal.returns-in-Err-report_on-clause-vessel_limit
 returns-in-Err-report_on-clause-vessel_limit g c = λ most is.
     let told = rw c.stream_status.ensures at c.tell-in-Err-report_on.ensures.same in
-    runs c.args.words.now (g.H.Shelf.files c.args.shelf.now) c.in-Ok.request c.in-Ok-set_up.made.rows.items c.in-Ok-set_up.made.scenario _ _ c.in-Ok.ensures.asked (sym c.reports.ensures ∙ c.if-not-reports.false) tt c.in-Ok-set_up.ensures.scenario c.in-Ok-set_up.ensures.rows (vessels_told c.in-Ok.request c.in-Ok-set_up.made.rows.items c.in-Ok-set_up.made.scenario _ _ _ _ c.in-Err-report_on.fault most _ _ _ told is c.in-Err-report_on.ensures.cause)
+    runs c.args.words.now (g.H.Shelf.files c.args.shelf.now) c.in-Report.report c.in-Ok-set_up.made.rows.items c.in-Ok-set_up.made.scenario _ _ (report_is c.args.words.now _ c.in-Report.report c.in-Report.is c.in-Ok.ensures.asked) tt c.in-Ok-set_up.ensures.scenario c.in-Ok-set_up.ensures.rows (vessels_told c.in-Report.report c.in-Ok-set_up.made.rows.items c.in-Ok-set_up.made.scenario _ _ _ _ c.in-Err-report_on.fault most _ _ _ told is c.in-Err-report_on.ensures.cause)
 
 pub returns-in-Err-report_on-clause-pair_limit : goal.returns-in-Err-report_on-clause-pair_limit
 returns-in-Err-report_on-clause-pair_limit g c = λ most is.
     let told = rw c.stream_status.ensures at c.tell-in-Err-report_on.ensures.same in
-    runs c.args.words.now (g.H.Shelf.files c.args.shelf.now) c.in-Ok.request c.in-Ok-set_up.made.rows.items c.in-Ok-set_up.made.scenario _ _ c.in-Ok.ensures.asked (sym c.reports.ensures ∙ c.if-not-reports.false) tt c.in-Ok-set_up.ensures.scenario c.in-Ok-set_up.ensures.rows (pairs_told c.in-Ok.request c.in-Ok-set_up.made.rows.items c.in-Ok-set_up.made.scenario _ _ _ _ c.in-Err-report_on.fault most _ _ _ told is c.in-Err-report_on.ensures.cause)
+    runs c.args.words.now (g.H.Shelf.files c.args.shelf.now) c.in-Report.report c.in-Ok-set_up.made.rows.items c.in-Ok-set_up.made.scenario _ _ (report_is c.args.words.now _ c.in-Report.report c.in-Report.is c.in-Ok.ensures.asked) tt c.in-Ok-set_up.ensures.scenario c.in-Ok-set_up.ensures.rows (pairs_told c.in-Report.report c.in-Ok-set_up.made.rows.items c.in-Ok-set_up.made.scenario _ _ _ _ c.in-Err-report_on.fault most _ _ _ told is c.in-Err-report_on.ensures.cause)
 
 pub returns-in-Err-report_on-clause-target_limit : goal.returns-in-Err-report_on-clause-target_limit
 returns-in-Err-report_on-clause-target_limit g c = λ most is.
     let told = rw c.stream_status.ensures at c.tell-in-Err-report_on.ensures.same in
-    runs c.args.words.now (g.H.Shelf.files c.args.shelf.now) c.in-Ok.request c.in-Ok-set_up.made.rows.items c.in-Ok-set_up.made.scenario _ _ c.in-Ok.ensures.asked (sym c.reports.ensures ∙ c.if-not-reports.false) tt c.in-Ok-set_up.ensures.scenario c.in-Ok-set_up.ensures.rows (targets_told c.in-Ok.request c.in-Ok-set_up.made.rows.items c.in-Ok-set_up.made.scenario _ _ _ _ c.in-Err-report_on.fault most _ _ _ told is c.in-Err-report_on.ensures.cause)
+    runs c.args.words.now (g.H.Shelf.files c.args.shelf.now) c.in-Report.report c.in-Ok-set_up.made.rows.items c.in-Ok-set_up.made.scenario _ _ (report_is c.args.words.now _ c.in-Report.report c.in-Report.is c.in-Ok.ensures.asked) tt c.in-Ok-set_up.ensures.scenario c.in-Ok-set_up.ensures.rows (targets_told c.in-Report.report c.in-Ok-set_up.made.rows.items c.in-Ok-set_up.made.scenario _ _ _ _ c.in-Err-report_on.fault most _ _ _ told is c.in-Err-report_on.ensures.cause)
 
 pub returns-in-Err-report_on-clause-own_unready : goal.returns-in-Err-report_on-clause-own_unready
 returns-in-Err-report_on-clause-own_unready g c = λ why is.
     let told = rw c.stream_status.ensures at c.tell-in-Err-report_on.ensures.same in
-    runs c.args.words.now (g.H.Shelf.files c.args.shelf.now) c.in-Ok.request c.in-Ok-set_up.made.rows.items c.in-Ok-set_up.made.scenario _ _ c.in-Ok.ensures.asked (sym c.reports.ensures ∙ c.if-not-reports.false) tt c.in-Ok-set_up.ensures.scenario c.in-Ok-set_up.ensures.rows (own_told c.in-Ok.request c.in-Ok-set_up.made.rows.items c.in-Ok-set_up.made.scenario _ _ _ _ c.in-Err-report_on.fault why _ _ _ told is c.in-Err-report_on.ensures.cause)
+    runs c.args.words.now (g.H.Shelf.files c.args.shelf.now) c.in-Report.report c.in-Ok-set_up.made.rows.items c.in-Ok-set_up.made.scenario _ _ (report_is c.args.words.now _ c.in-Report.report c.in-Report.is c.in-Ok.ensures.asked) tt c.in-Ok-set_up.ensures.scenario c.in-Ok-set_up.ensures.rows (own_told c.in-Report.report c.in-Ok-set_up.made.rows.items c.in-Ok-set_up.made.scenario _ _ _ _ c.in-Err-report_on.fault why _ _ _ told is c.in-Err-report_on.ensures.cause)
 
 pub returns-in-Err-report_on-clause-write_fault : goal.returns-in-Err-report_on-clause-write_fault
 returns-in-Err-report_on-clause-write_fault g c = λ is.
     let told = rw c.stream_status.ensures at c.tell-in-Err-report_on.ensures.same in
-    let left = put_told c.in-Ok.request c.in-Ok-set_up.made.rows.items c.in-Ok-set_up.made.scenario _ _ _ _ c.in-Err-report_on.fault _ _ _ _ _ told is c.in-Err-report_on.ensures.cause c.in-Err-report_on.ensures.out_faults in
-    (left.0, inl (runs c.args.words.now (g.H.Shelf.files c.args.shelf.now) c.in-Ok.request c.in-Ok-set_up.made.rows.items c.in-Ok-set_up.made.scenario _ _ c.in-Ok.ensures.asked (sym c.reports.ensures ∙ c.if-not-reports.false) tt c.in-Ok-set_up.ensures.scenario c.in-Ok-set_up.ensures.rows left.1))
+    let left = put_told c.in-Report.report c.in-Ok-set_up.made.rows.items c.in-Ok-set_up.made.scenario _ _ _ _ c.in-Err-report_on.fault _ _ _ _ _ told is c.in-Err-report_on.ensures.cause c.in-Err-report_on.ensures.out_faults in
+    (left.0, inl (runs c.args.words.now (g.H.Shelf.files c.args.shelf.now) c.in-Report.report c.in-Ok-set_up.made.rows.items c.in-Ok-set_up.made.scenario _ _ (report_is c.args.words.now _ c.in-Report.report c.in-Report.is c.in-Ok.ensures.asked) tt c.in-Ok-set_up.ensures.scenario c.in-Ok-set_up.ensures.rows left.1))
 
 pub returns-in-Err-report_on-clause-memory : goal.returns-in-Err-report_on-clause-memory
 returns-in-Err-report_on-clause-memory g c = λ is.
     let told = rw c.stream_status.ensures at c.tell-in-Err-report_on.ensures.same in
-    inr (runs c.args.words.now (g.H.Shelf.files c.args.shelf.now) c.in-Ok.request c.in-Ok-set_up.made.rows.items c.in-Ok-set_up.made.scenario _ _ c.in-Ok.ensures.asked (sym c.reports.ensures ∙ c.if-not-reports.false) tt c.in-Ok-set_up.ensures.scenario c.in-Ok-set_up.ensures.rows (memory_front c.in-Ok.request c.in-Ok-set_up.made.rows.items c.in-Ok-set_up.made.scenario _ _ _ _ c.in-Err-report_on.fault _ _ _ told is (λ made. made) c.in-Err-report_on.ensures.cause))
+    inr (runs c.args.words.now (g.H.Shelf.files c.args.shelf.now) c.in-Report.report c.in-Ok-set_up.made.rows.items c.in-Ok-set_up.made.scenario _ _ (report_is c.args.words.now _ c.in-Report.report c.in-Report.is c.in-Ok.ensures.asked) tt c.in-Ok-set_up.ensures.scenario c.in-Ok-set_up.ensures.rows (memory_front c.in-Report.report c.in-Ok-set_up.made.rows.items c.in-Ok-set_up.made.scenario _ _ _ _ c.in-Err-report_on.fault _ _ _ told is (λ made. made) c.in-Err-report_on.ensures.cause))
 
 pub returns-in-Err-report_on-clause-unwritten : goal.returns-in-Err-report_on-clause-unwritten
 returns-in-Err-report_on-clause-unwritten g c = λ nothing.
     let told = rw c.stream_status.ensures at c.tell-in-Err-report_on.ensures.same in
-    nothing_told c.in-Ok.request c.in-Ok-set_up.made.rows.items c.in-Ok-set_up.made.scenario _ _ _ _ c.in-Err-report_on.fault _ _ _ told nothing c.in-Err-report_on.ensures.cause
+    nothing_told c.in-Report.report c.in-Ok-set_up.made.rows.items c.in-Ok-set_up.made.scenario _ _ _ _ c.in-Err-report_on.fault _ _ _ told nothing c.in-Err-report_on.ensures.cause
 
 pub returns-in-Err-report_on-clause-calm : goal.returns-in-Err-report_on-clause-calm
 returns-in-Err-report_on-clause-calm g c = λ not.
@@ -243,60 +261,60 @@ returns-clause-shelf_calm g c = λ not. c.in-Ok-set_up.ensures.calm (λ is. cc i
 
 pub returns-then-none-clause-headline : goal.returns-then-none-clause-headline
 returns-then-none-clause-headline g c = λ finished.
-    inl (runs c.args.words.now (g.H.Shelf.files c.args.shelf.now) c.in-Ok.request c.in-Ok-set_up.made.rows.items c.in-Ok-set_up.made.scenario _ _ c.in-Ok.ensures.asked (sym c.reports.ensures ∙ c.if-not-reports.false) c.in-Ok-report_on.ensures.end c.in-Ok-set_up.ensures.scenario c.in-Ok-set_up.ensures.rows
-    (reported_so c.in-Ok.request c.in-Ok-set_up.made.rows.items c.in-Ok-set_up.made.scenario _ (g.S.Source.left c.report_on.new.log) _ _ true status.NoManoeuvre refl (rw c.if-none.true at c.in-Ok-report_on.ensures.report)))
+    inl (runs c.args.words.now (g.H.Shelf.files c.args.shelf.now) c.in-Report.report c.in-Ok-set_up.made.rows.items c.in-Ok-set_up.made.scenario _ _ (report_is c.args.words.now _ c.in-Report.report c.in-Report.is c.in-Ok.ensures.asked) c.in-Ok-report_on.ensures.end c.in-Ok-set_up.ensures.scenario c.in-Ok-set_up.ensures.rows
+    (reported_so c.in-Report.report c.in-Ok-set_up.made.rows.items c.in-Ok-set_up.made.scenario _ (g.S.Source.left c.report_on.new.log) _ _ true status.NoManoeuvre refl (rw c.if-none.true at c.in-Ok-report_on.ensures.report)))
 
 pub returns-then-none-clause-due : goal.returns-then-none-clause-due
 returns-then-none-clause-due g c = λ due is shelf source sink.
-    let follows = log_decides _ _ _ _ due _ _ (c.in-Ok-set_up.made.scenario, c.in-Ok-set_up.made.rows.items) c.in-Ok.ensures.asked (sym c.reports.ensures ∙ c.if-not-reports.false) is c.in-Ok-set_up.ensures.due shelf in
-    inl (met_is c.one_answer.ensures _ c.in-Ok.request c.in-Ok-set_up.made.rows.items c.in-Ok-set_up.made.scenario due status.NoManoeuvre (reported_met c.in-Ok.request c.in-Ok-set_up.made.rows.items c.in-Ok-set_up.made.scenario _ (g.S.Source.left c.report_on.new.log) _ _ true (rw c.if-none.true at c.in-Ok-report_on.ensures.report)) follows)
+    let follows = log_decides _ _ _ _ due _ _ (c.in-Ok-set_up.made.scenario, c.in-Ok-set_up.made.rows.items) (report_is c.args.words.now _ c.in-Report.report c.in-Report.is c.in-Ok.ensures.asked) is c.in-Ok-set_up.ensures.due shelf in
+    inl (met_is c.one_answer.ensures _ c.in-Report.report c.in-Ok-set_up.made.rows.items c.in-Ok-set_up.made.scenario due status.NoManoeuvre (reported_met c.in-Report.report c.in-Ok-set_up.made.rows.items c.in-Ok-set_up.made.scenario _ (g.S.Source.left c.report_on.new.log) _ _ true (rw c.if-none.true at c.in-Ok-report_on.ensures.report)) follows)
 
 pub returns-then-none-clause-fetched : goal.returns-then-none-clause-fetched
-returns-then-none-clause-fetched g c = λ request asks none.
-    inl (asked_once c.in-Ok.request _ _ _ (rows_too c.args.words.now request c.in-Ok.request false asks c.in-Ok.ensures.asked none) c.in-Ok-set_up.ensures.fetched)
+returns-then-none-clause-fetched g c = λ request asked none.
+    inl (asked_once c.in-Report.report _ _ _ (rows_too c.args.words.now request c.in-Report.report asked (report_is c.args.words.now _ c.in-Report.report c.in-Report.is c.in-Ok.ensures.asked) false none) c.in-Ok-set_up.ensures.fetched)
 
 pub returns-then-none-clause-fetched_rows : goal.returns-then-none-clause-fetched_rows
-returns-then-none-clause-fetched_rows g c = λ request asks needs.
-    inl (asked_twice c.in-Ok.request _ _ c.in-Ok-set_up.made (rows_too c.args.words.now request c.in-Ok.request true asks c.in-Ok.ensures.asked needs) c.in-Ok-set_up.ensures.fetched)
+returns-then-none-clause-fetched_rows g c = λ request asked needs.
+    inl (asked_twice c.in-Report.report _ _ c.in-Ok-set_up.made (rows_too c.args.words.now request c.in-Report.report asked (report_is c.args.words.now _ c.in-Report.report c.in-Report.is c.in-Ok.ensures.asked) true needs) c.in-Ok-set_up.ensures.fetched)
 
 pub returns-then-none-clause-unfetched : goal.returns-then-none-clause-unfetched
 returns-then-none-clause-unfetched g c = λ nothing. absurd (asked_or_nothing c.args.words.now c.in-Ok.request c.in-Ok.ensures.asked nothing)
 
 pub returns-then-none-clause-unread : goal.returns-then-none-clause-unread
-returns-then-none-clause-unread g c = λ request asks not. c.report_on.ensures.untouched (unread_too c.args.words.now request c.in-Ok.request asks c.in-Ok.ensures.asked not)
+returns-then-none-clause-unread g c = λ request asked not. c.report_on.ensures.untouched (unread_too c.args.words.now request c.in-Report.report asked (report_is c.args.words.now _ c.in-Report.report c.in-Report.is c.in-Ok.ensures.asked) not)
 
 pub returns-then-none-clause-migration : goal.returns-then-none-clause-migration
-returns-then-none-clause-migration g c = λ request asks migrates. no_migration c.args.words.now request c.in-Ok.request _ asks c.in-Ok.ensures.asked (sym c.reports.ensures ∙ c.if-not-reports.false) migrates
+returns-then-none-clause-migration g c = λ name asked. either_alone c.args.words.now c.in-Report.report name _ (report_is c.args.words.now _ c.in-Report.report c.in-Report.is c.in-Ok.ensures.asked) asked
 
 pub returns-then-none-clause-drill : goal.returns-then-none-clause-drill
-returns-then-none-clause-drill g c = λ request asks drills.
-    let here = drills_too c.args.words.now request c.in-Ok.request asks c.in-Ok.ensures.asked drills in
-    let none = c.in-Ok-report_on.ensures.drill (ap reads_log here) in
+returns-then-none-clause-drill g c = λ request asked makes.
+    let here = unread_too c.args.words.now (asks.Report request) c.in-Report.report asked (report_is c.args.words.now _ c.in-Report.report c.in-Report.is c.in-Ok.ensures.asked) makes in
+    let none = c.in-Ok-report_on.ensures.drill here in
     cc (none, c.if-none.true)
 
 pub returns-clause-headline : goal.returns-clause-headline
 returns-clause-headline g c = λ finished.
-    inl (runs c.args.words.now (g.H.Shelf.files c.args.shelf.now) c.in-Ok.request c.in-Ok-set_up.made.rows.items c.in-Ok-set_up.made.scenario _ _ c.in-Ok.ensures.asked (sym c.reports.ensures ∙ c.if-not-reports.false) c.in-Ok-report_on.ensures.end c.in-Ok-set_up.ensures.scenario c.in-Ok-set_up.ensures.rows
-    (reported_so c.in-Ok.request c.in-Ok-set_up.made.rows.items c.in-Ok-set_up.made.scenario _ (g.S.Source.left c.report_on.new.log) _ _ false status.Done refl (rw c.if-none.false at c.in-Ok-report_on.ensures.report)))
+    inl (runs c.args.words.now (g.H.Shelf.files c.args.shelf.now) c.in-Report.report c.in-Ok-set_up.made.rows.items c.in-Ok-set_up.made.scenario _ _ (report_is c.args.words.now _ c.in-Report.report c.in-Report.is c.in-Ok.ensures.asked) c.in-Ok-report_on.ensures.end c.in-Ok-set_up.ensures.scenario c.in-Ok-set_up.ensures.rows
+    (reported_so c.in-Report.report c.in-Ok-set_up.made.rows.items c.in-Ok-set_up.made.scenario _ (g.S.Source.left c.report_on.new.log) _ _ false status.Done refl (rw c.if-none.false at c.in-Ok-report_on.ensures.report)))
 
 pub returns-clause-due : goal.returns-clause-due
 returns-clause-due g c = λ due is shelf source sink.
-    let follows = log_decides _ _ _ _ due _ _ (c.in-Ok-set_up.made.scenario, c.in-Ok-set_up.made.rows.items) c.in-Ok.ensures.asked (sym c.reports.ensures ∙ c.if-not-reports.false) is c.in-Ok-set_up.ensures.due shelf in
-    inl (met_is c.one_answer.ensures _ c.in-Ok.request c.in-Ok-set_up.made.rows.items c.in-Ok-set_up.made.scenario due status.Done (reported_met c.in-Ok.request c.in-Ok-set_up.made.rows.items c.in-Ok-set_up.made.scenario _ (g.S.Source.left c.report_on.new.log) _ _ false (rw c.if-none.false at c.in-Ok-report_on.ensures.report)) follows)
+    let follows = log_decides _ _ _ _ due _ _ (c.in-Ok-set_up.made.scenario, c.in-Ok-set_up.made.rows.items) (report_is c.args.words.now _ c.in-Report.report c.in-Report.is c.in-Ok.ensures.asked) is c.in-Ok-set_up.ensures.due shelf in
+    inl (met_is c.one_answer.ensures _ c.in-Report.report c.in-Ok-set_up.made.rows.items c.in-Ok-set_up.made.scenario due status.Done (reported_met c.in-Report.report c.in-Ok-set_up.made.rows.items c.in-Ok-set_up.made.scenario _ (g.S.Source.left c.report_on.new.log) _ _ false (rw c.if-none.false at c.in-Ok-report_on.ensures.report)) follows)
 
 pub returns-clause-fetched : goal.returns-clause-fetched
-returns-clause-fetched g c = λ request asks none.
-    inl (asked_once c.in-Ok.request _ _ _ (rows_too c.args.words.now request c.in-Ok.request false asks c.in-Ok.ensures.asked none) c.in-Ok-set_up.ensures.fetched)
+returns-clause-fetched g c = λ request asked none.
+    inl (asked_once c.in-Report.report _ _ _ (rows_too c.args.words.now request c.in-Report.report asked (report_is c.args.words.now _ c.in-Report.report c.in-Report.is c.in-Ok.ensures.asked) false none) c.in-Ok-set_up.ensures.fetched)
 
 pub returns-clause-fetched_rows : goal.returns-clause-fetched_rows
-returns-clause-fetched_rows g c = λ request asks needs.
-    inl (asked_twice c.in-Ok.request _ _ c.in-Ok-set_up.made (rows_too c.args.words.now request c.in-Ok.request true asks c.in-Ok.ensures.asked needs) c.in-Ok-set_up.ensures.fetched)
+returns-clause-fetched_rows g c = λ request asked needs.
+    inl (asked_twice c.in-Report.report _ _ c.in-Ok-set_up.made (rows_too c.args.words.now request c.in-Report.report asked (report_is c.args.words.now _ c.in-Report.report c.in-Report.is c.in-Ok.ensures.asked) true needs) c.in-Ok-set_up.ensures.fetched)
 
 pub returns-clause-unfetched : goal.returns-clause-unfetched
 returns-clause-unfetched g c = λ nothing. absurd (asked_or_nothing c.args.words.now c.in-Ok.request c.in-Ok.ensures.asked nothing)
 
 pub returns-clause-unread : goal.returns-clause-unread
-returns-clause-unread g c = λ request asks not. c.report_on.ensures.untouched (unread_too c.args.words.now request c.in-Ok.request asks c.in-Ok.ensures.asked not)
+returns-clause-unread g c = λ request asked not. c.report_on.ensures.untouched (unread_too c.args.words.now request c.in-Report.report asked (report_is c.args.words.now _ c.in-Report.report c.in-Report.is c.in-Ok.ensures.asked) not)
 
 -- ---- a finished run has none of the other answers
 
@@ -304,7 +322,7 @@ pub returns-then-none-clause-usage : goal.returns-then-none-clause-usage
 returns-then-none-clause-usage g c = λ is. only_finished _ _ is refl refl
 
 pub returns-then-none-clause-no_usage : goal.returns-then-none-clause-no_usage
-returns-then-none-clause-no_usage g c = λ request asks is. only_finished _ _ is refl refl
+returns-then-none-clause-no_usage g c = λ request asked is. only_finished _ _ is refl refl
 
 pub returns-then-none-clause-shelf_fault : goal.returns-then-none-clause-shelf_fault
 returns-then-none-clause-shelf_fault g c = λ is. only_finished _ _ is refl refl
@@ -349,7 +367,7 @@ pub returns-clause-usage : goal.returns-clause-usage
 returns-clause-usage g c = λ is. only_finished _ _ is refl refl
 
 pub returns-clause-no_usage : goal.returns-clause-no_usage
-returns-clause-no_usage g c = λ request asks is. only_finished _ _ is refl refl
+returns-clause-no_usage g c = λ request asked is. only_finished _ _ is refl refl
 
 pub returns-clause-shelf_fault : goal.returns-clause-shelf_fault
 returns-clause-shelf_fault g c = λ is. only_finished _ _ is refl refl
@@ -393,7 +411,7 @@ returns-clause-memory g c = λ is. only_finished _ _ is refl refl
 -- ---- the seed of a drill
 
 pub report_on-requires-clause-seed : goal.report_on-requires-clause-seed
-report_on-requires-clause-seed g c = (options_in_range c.args.words.now c.in-Ok.request c.in-Ok.ensures.asked).seed
+report_on-requires-clause-seed g c = seed_in_range c.args.words.now c.in-Report.report (report_is c.args.words.now _ c.in-Report.report c.in-Report.is c.in-Ok.ensures.asked)
 
 -- ---- a run that stops at one stage has none of the answers of the others
 
@@ -437,7 +455,7 @@ pub returns-in-Err-set_up-clause-usage : goal.returns-in-Err-set_up-clause-usage
 returns-in-Err-set_up-clause-usage g c = λ is. set_up_alone c.in-Err-set_up.fault _ _ _ (rw c.into-in-Err-set_up.ensures at c.tell-in-Err-set_up.ensures.same) is refl
 
 pub returns-in-Err-set_up-clause-no_usage : goal.returns-in-Err-set_up-clause-no_usage
-returns-in-Err-set_up-clause-no_usage g c = λ request asks is. set_up_alone c.in-Err-set_up.fault _ _ _ (rw c.into-in-Err-set_up.ensures at c.tell-in-Err-set_up.ensures.same) is refl
+returns-in-Err-set_up-clause-no_usage g c = λ request asked is. set_up_alone c.in-Err-set_up.fault _ _ _ (rw c.into-in-Err-set_up.ensures at c.tell-in-Err-set_up.ensures.same) is refl
 
 pub returns-in-Err-set_up-clause-read_fault : goal.returns-in-Err-set_up-clause-read_fault
 returns-in-Err-set_up-clause-read_fault g c = λ is. set_up_alone c.in-Err-set_up.fault _ _ _ (rw c.into-in-Err-set_up.ensures at c.tell-in-Err-set_up.ensures.same) is refl
@@ -467,7 +485,7 @@ pub returns-in-Err-report_on-clause-usage : goal.returns-in-Err-report_on-clause
 returns-in-Err-report_on-clause-usage g c = λ is. stream_alone c.in-Err-report_on.fault _ _ _ _ (rw c.stream_status.ensures at c.tell-in-Err-report_on.ensures.same) is refl
 
 pub returns-in-Err-report_on-clause-no_usage : goal.returns-in-Err-report_on-clause-no_usage
-returns-in-Err-report_on-clause-no_usage g c = λ request asks is. stream_alone c.in-Err-report_on.fault _ _ _ _ (rw c.stream_status.ensures at c.tell-in-Err-report_on.ensures.same) is refl
+returns-in-Err-report_on-clause-no_usage g c = λ request asked is. stream_alone c.in-Err-report_on.fault _ _ _ _ (rw c.stream_status.ensures at c.tell-in-Err-report_on.ensures.same) is refl
 
 pub returns-in-Err-report_on-clause-shelf_fault : goal.returns-in-Err-report_on-clause-shelf_fault
 returns-in-Err-report_on-clause-shelf_fault g c = λ is. stream_alone c.in-Err-report_on.fault _ _ _ _ (rw c.stream_status.ensures at c.tell-in-Err-report_on.ensures.same) is refl
@@ -481,45 +499,45 @@ returns-in-Err-report_on-clause-rows_limit g c = λ most is. stream_alone c.in-E
 pub returns-in-Err-report_on-clause-refused : goal.returns-in-Err-report_on-clause-refused
 returns-in-Err-report_on-clause-refused g c = λ key cause is. stream_alone c.in-Err-report_on.fault _ _ _ _ (rw c.stream_status.ensures at c.tell-in-Err-report_on.ensures.same) is refl
 
-pub returns-then-not-reports-clause-read_fault : goal.returns-then-not-reports-clause-read_fault
-returns-then-not-reports-clause-read_fault g c = λ is.
-    let no = subst (λ (s : Status). IsTrue (IsOfMigration s)) is c.write_migrated.ensures.answers in
+pub returns-in-Migration-clause-read_fault : goal.returns-in-Migration-clause-read_fault
+returns-in-Migration-clause-read_fault g c = λ is.
+    let no = subst (λ (s : Status). IsTrue (IsOfMigration s)) is c.run_migration.ensures.answers in
     absurd (cc no)
 
-pub returns-then-not-reports-clause-log_limit : goal.returns-then-not-reports-clause-log_limit
-returns-then-not-reports-clause-log_limit g c = λ most is.
-    let no = subst (λ (s : Status). IsTrue (IsOfMigration s)) is c.write_migrated.ensures.answers in
+pub returns-in-Migration-clause-log_limit : goal.returns-in-Migration-clause-log_limit
+returns-in-Migration-clause-log_limit g c = λ most is.
+    let no = subst (λ (s : Status). IsTrue (IsOfMigration s)) is c.run_migration.ensures.answers in
     absurd (cc no)
 
-pub returns-then-not-reports-clause-vessel_limit : goal.returns-then-not-reports-clause-vessel_limit
-returns-then-not-reports-clause-vessel_limit g c = λ most is.
-    let no = subst (λ (s : Status). IsTrue (IsOfMigration s)) is c.write_migrated.ensures.answers in
+pub returns-in-Migration-clause-vessel_limit : goal.returns-in-Migration-clause-vessel_limit
+returns-in-Migration-clause-vessel_limit g c = λ most is.
+    let no = subst (λ (s : Status). IsTrue (IsOfMigration s)) is c.run_migration.ensures.answers in
     absurd (cc no)
 
-pub returns-then-not-reports-clause-pair_limit : goal.returns-then-not-reports-clause-pair_limit
-returns-then-not-reports-clause-pair_limit g c = λ most is.
-    let no = subst (λ (s : Status). IsTrue (IsOfMigration s)) is c.write_migrated.ensures.answers in
+pub returns-in-Migration-clause-pair_limit : goal.returns-in-Migration-clause-pair_limit
+returns-in-Migration-clause-pair_limit g c = λ most is.
+    let no = subst (λ (s : Status). IsTrue (IsOfMigration s)) is c.run_migration.ensures.answers in
     absurd (cc no)
 
-pub returns-then-not-reports-clause-own_unready : goal.returns-then-not-reports-clause-own_unready
-returns-then-not-reports-clause-own_unready g c = λ why is.
-    let no = subst (λ (s : Status). IsTrue (IsOfMigration s)) is c.write_migrated.ensures.answers in
+pub returns-in-Migration-clause-own_unready : goal.returns-in-Migration-clause-own_unready
+returns-in-Migration-clause-own_unready g c = λ why is.
+    let no = subst (λ (s : Status). IsTrue (IsOfMigration s)) is c.run_migration.ensures.answers in
     absurd (cc no)
 
-pub returns-then-not-reports-clause-target_limit : goal.returns-then-not-reports-clause-target_limit
-returns-then-not-reports-clause-target_limit g c = λ most is.
-    let no = subst (λ (s : Status). IsTrue (IsOfMigration s)) is c.write_migrated.ensures.answers in
+pub returns-in-Migration-clause-target_limit : goal.returns-in-Migration-clause-target_limit
+returns-in-Migration-clause-target_limit g c = λ most is.
+    let no = subst (λ (s : Status). IsTrue (IsOfMigration s)) is c.run_migration.ensures.answers in
     absurd (cc no)
 
-pub returns-then-not-reports-clause-bad_entry : goal.returns-then-not-reports-clause-bad_entry
-returns-then-not-reports-clause-bad_entry g c = λ index is.
-    let no = subst (λ (s : Status). IsTrue (IsOfMigration s)) is c.write_migrated.ensures.answers in
+pub returns-in-Migration-clause-bad_entry : goal.returns-in-Migration-clause-bad_entry
+returns-in-Migration-clause-bad_entry g c = λ index is.
+    let no = subst (λ (s : Status). IsTrue (IsOfMigration s)) is c.run_migration.ensures.answers in
     absurd (cc no)
 
 -- ---- what a stage leaves as it was
 
 pub returns-in-Err-clause-unread : goal.returns-in-Err-clause-unread
-returns-in-Err-clause-unread g c = λ request asks not. (keeps_same _, refl)
+returns-in-Err-clause-unread g c = λ request asked not. (keeps_same _, refl)
 
 pub returns-in-Err-clause-untouched : goal.returns-in-Err-clause-untouched
 returns-in-Err-clause-untouched g c = λ before. (keeps_same _, refl)
@@ -528,7 +546,7 @@ pub returns-in-Err-clause-log_calm : goal.returns-in-Err-clause-log_calm
 returns-in-Err-clause-log_calm g c = λ not. refl
 
 pub returns-in-Err-set_up-clause-unread : goal.returns-in-Err-set_up-clause-unread
-returns-in-Err-set_up-clause-unread g c = λ request asks not. (keeps_same _, refl)
+returns-in-Err-set_up-clause-unread g c = λ request asked not. (keeps_same _, refl)
 
 pub returns-in-Err-set_up-clause-untouched : goal.returns-in-Err-set_up-clause-untouched
 returns-in-Err-set_up-clause-untouched g c = λ before. (keeps_same _, refl)
@@ -536,14 +554,14 @@ returns-in-Err-set_up-clause-untouched g c = λ before. (keeps_same _, refl)
 pub returns-in-Err-set_up-clause-log_calm : goal.returns-in-Err-set_up-clause-log_calm
 returns-in-Err-set_up-clause-log_calm g c = λ not. refl
 
-pub returns-then-not-reports-clause-unread : goal.returns-then-not-reports-clause-unread
-returns-then-not-reports-clause-unread g c = λ request asks not. (keeps_same _, refl)
+pub returns-in-Migration-clause-unread : goal.returns-in-Migration-clause-unread
+returns-in-Migration-clause-unread g c = λ request asked not. (keeps_same _, refl)
 
-pub returns-then-not-reports-clause-untouched : goal.returns-then-not-reports-clause-untouched
-returns-then-not-reports-clause-untouched g c = λ before. (keeps_same _, refl)
+pub returns-in-Migration-clause-untouched : goal.returns-in-Migration-clause-untouched
+returns-in-Migration-clause-untouched g c = λ before. (keeps_same _, refl)
 
-pub returns-then-not-reports-clause-log_calm : goal.returns-then-not-reports-clause-log_calm
-returns-then-not-reports-clause-log_calm g c = λ not. refl
+pub returns-in-Migration-clause-log_calm : goal.returns-in-Migration-clause-log_calm
+returns-in-Migration-clause-log_calm g c = λ not. refl
 
 pub returns-in-Err-clause-unwritten : goal.returns-in-Err-clause-unwritten
 returns-in-Err-clause-unwritten g c = λ nothing. keeps_same _
@@ -575,14 +593,14 @@ returns-in-Err-set_up-clause-line g c = c.tell-in-Err-set_up.ensures.line
 pub returns-in-Err-report_on-clause-line : goal.returns-in-Err-report_on-clause-line
 returns-in-Err-report_on-clause-line g c = c.tell-in-Err-report_on.ensures.line
 
-pub returns-then-not-reports-clause-line : goal.returns-then-not-reports-clause-line
-returns-then-not-reports-clause-line g c = c.write_migrated.ensures.line
+pub returns-in-Migration-clause-line : goal.returns-in-Migration-clause-line
+returns-in-Migration-clause-line g c = c.run_migration.ensures.line
 
-pub returns-then-not-reports-clause-calm : goal.returns-then-not-reports-clause-calm
-returns-then-not-reports-clause-calm g c = c.write_migrated.ensures.calm
+pub returns-in-Migration-clause-calm : goal.returns-in-Migration-clause-calm
+returns-in-Migration-clause-calm g c = c.run_migration.ensures.calm
 
-pub returns-then-not-reports-clause-shelf_calm : goal.returns-then-not-reports-clause-shelf_calm
-returns-then-not-reports-clause-shelf_calm g c = c.write_migrated.ensures.shelf_calm
+pub returns-in-Migration-clause-shelf_calm : goal.returns-in-Migration-clause-shelf_calm
+returns-in-Migration-clause-shelf_calm g c = c.run_migration.ensures.shelf_calm
 
-pub returns-then-not-reports-clause-limits : goal.returns-then-not-reports-clause-limits
-returns-then-not-reports-clause-limits g c = c.write_migrated.ensures.limits
+pub returns-in-Migration-clause-limits : goal.returns-in-Migration-clause-limits
+returns-in-Migration-clause-limits g c = c.run_migration.ensures.limits

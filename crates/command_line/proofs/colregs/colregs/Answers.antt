@@ -5,7 +5,7 @@ use Rattle.clap.specs.Words.{App, Rule, app_of, rule_of, with_rule}
 use Rattle.clap.specs.declared.builder.arg.Arg.{Arg}
 use Rattle.clap.specs.declared.builder.command.Command.{Command}
 use Rattle.command_line.specs.CommandLine.{colregs, mode_rule, scenario_rule, setting_rule, settings}
-use Rattle.command_line.proofs.Arguments.{local}
+use Rattle.command_line.proofs.RuledArguments.{local}
 use Rattle.command_line.proofs.colregs.colregs.Goals as goal
 
 -- the rules of the arguments, each of which is simple

@@ -1,6 +1,6 @@
 use Rattle.std.proofs.Common.{Bool, [], Ok, refl, subst, sym}
 use Rattle.std.proofs.lemmas.Result.{IfErr-weaker, IfOk-weaker}
-use Rattle.command_line.specs.declared.mode.Mode.TheVariants as mode
+use Rattle.tasks.specs.declared.mode.Mode.TheVariants as mode
 use Rattle.log_lines.specs.LogLines.{lines_of}
 use Rattle.log_lines.specs.SentLines.{sent}
 use Rattle.sessions.specs.Endings.{IsAnswerOf}

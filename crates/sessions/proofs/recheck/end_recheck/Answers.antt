@@ -1,7 +1,7 @@
 use Rattle.std.proofs.Common.{Bool, Ok, refl, subst, sym}
 use Rattle.std.proofs.lemmas.Result.{IfErr-weaker, IfOk-weaker}
 use Rattle.outside.proofs.ForCallers.{err_cause}
-use Rattle.command_line.specs.declared.mode.Mode.TheVariants as mode
+use Rattle.tasks.specs.declared.mode.Mode.TheVariants as mode
 use Rattle.lattice.specs.Grids.{plans_of}
 use Rattle.refutation_check.proofs.ForCallers.{not_both}
 use Rattle.refutation_check.specs.CheckedRows.{why_rows}

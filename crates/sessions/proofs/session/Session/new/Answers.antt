@@ -1,6 +1,6 @@
 use Rattle.std.proofs.Common.{◌∙◌, refl, subst, sym, IsTrue}
-use Rattle.command_line.specs.declared.mode.Mode.{Mode}
-use Rattle.sessions.specs.Modes.{needs_own}
+use Rattle.tasks.specs.declared.mode.Mode.{Mode}
+use Rattle.tasks.specs.Modes.{needs_own}
 use Rattle.sessions.specs.Standing.{KeepsEnough, mode_by}
 use Rattle.sessions.proofs.Working.{begun_ended, keeps_begun, nothing_refused}
 use Rattle.sessions.proofs.session.Session.new.Goals as goal

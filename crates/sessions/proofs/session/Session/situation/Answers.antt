@@ -1,12 +1,12 @@
 use Rattle.std.proofs.Common.{List, ℕ, ◌≡◌, ◌++◌, IsTrue, sym, subst}
 use Rattle.std.proofs.lemmas.Result.{IfErr-weaker, IfOk-weaker}
 use Rattle.outside.proofs.ForCallers.{err_cause}
-use Rattle.command_line.specs.declared.mode.Mode.{Mode}
+use Rattle.tasks.specs.declared.mode.Mode.{Mode}
 use Rattle.scenario_values.specs.declared.values.Scenario.{Scenario}
 use Rattle.log_lines.specs.LogLines.{lines_of}
 use Rattle.log_lines.specs.Standing.{StandsFor as JudgeStandsFor}
 use Rattle.sessions.specs.Inner.Faults.{EndCause}
-use Rattle.sessions.specs.Modes.{look_of, needs_own, own_ship}
+use Rattle.tasks.specs.Modes.{focus_of, needs_own, own_ship}
 use Rattle.sessions.specs.PlanReport.{IsSituationOn}
 use Rattle.sessions.proofs.EndedSessions.{all_kept_at_end, judged_at_end, no_situation}
 use Rattle.sessions.proofs.session.Session.situation.Goals as goal
@@ -33,7 +33,7 @@ returns-in-Ok-clause-refused c =
     (λ fed given stands. subst (λ (s : Scenario). JudgeStandsFor judge s (lines_of fed)) c.end_line.ensures.scenario
     (judged_at_end c.end_line.new.self judge c.judge.ensures.stands fed (given ++ ended.more) (ended.ended fed given stands)))
     c.requires.own why
-    (subst (λ (s : Scenario). (log : List ℕ) → JudgeStandsFor judge s (lines_of log) → (mode : Mode) (rows : List ℕ) → look_of mode ≡ own_ship → EndCause mode rows s log why) c.end_line.ensures.scenario cause))
+    (subst (λ (s : Scenario). (log : List ℕ) → JudgeStandsFor judge s (lines_of log) → (mode : Mode) (rows : List ℕ) → focus_of mode ≡ own_ship → EndCause mode rows s log why) c.end_line.ensures.scenario cause))
     c.situation_at_end-found.ensures.cause
 
 pub returns-in-Ok-clause-situation : goal.returns-in-Ok-clause-situation

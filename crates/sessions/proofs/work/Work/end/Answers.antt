@@ -3,7 +3,7 @@ use Rattle.std.proofs.lemmas.Result.{IfOk-weaker, IfErr-weaker}
 use Rattle.std.specs.Prelude.{IsTrue, IfOk, IfErr}
 use Rattle.log_lines.specs.Standing.{keeping_of}
 use Rattle.sessions.specs.Inner.AtEnd.{EndsWithAnswer, EndsWithCause, EndsWithReport}
-use Rattle.sessions.specs.Modes.{needs_own}
+use Rattle.tasks.specs.Modes.{needs_own}
 use Rattle.sessions.specs.Standing.{KeepsEnough, mode_by}
 use Rattle.sessions.specs.declared.work.Work.{Work}
 use Rattle.sessions.proofs.EndedWork.{AtSomeEnd, audit_here, audit_reports, audit_of, drill_here, drill_reports, drill_of, judged_there, plan_reports, points_reports, recheck_reports, watch_here, watch_reports, watch_of}

@@ -1,5 +1,5 @@
 use Rattle.colregs_program.proofs.Refusals.{limit_told, migration_done, migration_told, set_up_limit, shelf_calm_told}
-use Rattle.colregs_program.proofs.migrate.write_migrated.Goals as goal
+use Rattle.colregs_program.proofs.migrate.run_migration.Goals as goal
 
 pub returns-in-Err-clause-shelf_calm : goal.returns-in-Err-clause-shelf_calm
 returns-in-Err-clause-shelf_calm g c = λ not.

@@ -2,12 +2,12 @@ use Rattle.std.proofs.Common.{◌≡◌, ◌∙◌, ℕ, inl, inr, refl, sym, ap
 use Rattle.std.specs.Prelude.{Err, IfSome, IsErrAnd, Ok, Result, option_map}
 use Rattle.clap.specs.Words.{Row, Text, first_of, found_of, rows_of}
 use Rattle.command_line.specs.CommandLine.{Setting, a_flag, a_number, a_text, flag, kind_of, label, rows_file, seed, start, takes_number, takes_text, ticks, why}
-use Rattle.command_line.specs.Requests.{HoldsValue, IsTaken, said, value_of}
+use Rattle.command_line.specs.GivenArguments.{HoldsValue, IsTaken, said, value_of}
 use Rattle.command_line.specs.Inner.Reading.{GivesNumber, GivesOptions}
-use Rattle.command_line.specs.declared.request.Options.{Options}
-use Rattle.command_line.specs.declared.request.WordsFault.{WordsFault}
-use Rattle.command_line.specs.declared.request.WordsFault.TheVariants.{Memory, Usage}
-use Rattle.command_line.proofs.request.options_in.Goals as goal
+use Rattle.command_line.specs.declared.arguments.Options.{Options}
+use Rattle.command_line.specs.declared.arguments.WordsFault.{WordsFault}
+use Rattle.command_line.specs.declared.arguments.WordsFault.TheVariants.{Memory, Usage}
+use Rattle.command_line.proofs.arguments.options_in.Goals as goal
 
 -- where a number is not given as the option takes it, the options are not
 number_fails : (rows : List Row) (s : Setting) (low high : ℕ) (default : Option ℕ) (r : Result Options WordsFault) (fault : WordsFault)

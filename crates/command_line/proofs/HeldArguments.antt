@@ -1,4 +1,4 @@
--- The request that matches hold: there is one at most, and words of the plain form have theirs.
+-- The arguments that matches hold: they are one list at most, and words of the plain form have theirs.
 use Rattle.std.proofs.Common.{◌≡◌, ◌∙◌, ◌⊎◌, inl, inr, Bool, true, false, cond, refl, sym, ap, ap₂, subst, is_some, codes, List, [], ◌∷◌, ◌++◌, map, Some, None, Option, if◌then◌else◌}
 use Rattle.std.specs.Prelude.{Err, IfOk, IfSome, Ok, Result, option_and_then, option_map, slice_get, unwrap_or}
 use Rattle.std.specs.List.{find, flat_map, list_any}
@@ -13,13 +13,14 @@ use Rattle.clap.specs.declared.error.kind.ErrorKind.TheVariants.{OutOfMemory}
 use Rattle.clap.specs.declared.parser.matches.ArgMatches.{ArgMatches}
 use Rattle.clap.proofs.WalkLemmas.{find-map, first_value-rows}
 use Rattle.command_line.specs.CommandLine.{AreModes, Setting, Value, colregs, default_of, default_texts, kind_of, label, mode_text, modes, settings, written}
-use Rattle.command_line.specs.Requests.{HoldsRequest, HoldsValue, IsAccepted, IsPlain, IsTaken, MayAllBeGiven, setting_words, value_among}
+use Rattle.command_line.specs.GivenArguments.{HoldsArguments, HoldsValue, IsAccepted, ArePlain, IsTaken, MayAllBeGiven, setting_words, value_among}
 use Rattle.command_line.specs.Inner.Reading.{HoldsNoMode, HoldsNone}
-use Rattle.command_line.specs.declared.mode.Mode.{Mode}
-use Rattle.command_line.specs.declared.mode.Mode.TheVariants as mode
-use Rattle.command_line.specs.declared.request.Request.{Request}
-use Rattle.command_line.specs.declared.request.WordsFault.{WordsFault}
-use Rattle.command_line.specs.declared.request.WordsFault.TheVariants.{Memory, Usage}
+use Rattle.command_line.specs.declared.mode.ModeArgument.{ModeArgument}
+use Rattle.command_line.specs.declared.mode.ModeArgument.TheVariants as argument
+use Rattle.tasks.specs.declared.mode.Mode.TheVariants as mode
+use Rattle.command_line.specs.declared.arguments.Arguments.{Arguments}
+use Rattle.command_line.specs.declared.arguments.WordsFault.{WordsFault}
+use Rattle.command_line.specs.declared.arguments.WordsFault.TheVariants.{Memory, Usage}
 use Rattle.command_line.proofs.ByKind.{IsRight, TakesValue, has_value, held_by, lacks, left_out, right_default, right_given, same_options, sound}
 use Rattle.command_line.proofs.Finished.{default_row, find_row, mode_found, name_found, setting_found, walked_faultless, walked_matches, with_settings}
 use Rattle.command_line.proofs.Parsed.{mode_filled, mode_passed, scenario_filled, setting_filled, setting_taken}
@@ -29,44 +30,44 @@ use Rattle.command_line.proofs.Walking.{row}
 
 -- ---- names tell modes and options apart
 
-abbrev mode_of : Text → Mode
-mode_of text = if bytes_eq text (codes "points") then mode.Points
-    else if bytes_eq text (codes "audit") then mode.Audit
-    else if bytes_eq text (codes "plan") then mode.Plan
-    else if bytes_eq text (codes "drill") then mode.Drill
-    else if bytes_eq text (codes "migrate") then mode.Migrate
-    else if bytes_eq text (codes "recheck") then mode.Recheck
-    else mode.Watch
+abbrev mode_of : Text → ModeArgument
+mode_of text = if bytes_eq text (codes "points") then argument.Report mode.Points
+    else if bytes_eq text (codes "audit") then argument.Report mode.Audit
+    else if bytes_eq text (codes "plan") then argument.Report mode.Plan
+    else if bytes_eq text (codes "drill") then argument.Report mode.Drill
+    else if bytes_eq text (codes "migrate") then argument.Migrate
+    else if bytes_eq text (codes "recheck") then argument.Report mode.Recheck
+    else argument.Report mode.Watch
 
-mode_back : (m : Mode) → mode_of (mode_text m) ≡ m
-mode_back mode.Points = refl
-mode_back mode.Audit = refl
-mode_back mode.Plan = refl
-mode_back mode.Drill = refl
-mode_back mode.Migrate = refl
-mode_back mode.Recheck = refl
-mode_back mode.Watch = refl
+mode_back : (m : ModeArgument) → mode_of (mode_text m) ≡ m
+mode_back (argument.Report mode.Points) = refl
+mode_back (argument.Report mode.Audit) = refl
+mode_back (argument.Report mode.Plan) = refl
+mode_back (argument.Report mode.Drill) = refl
+mode_back argument.Migrate = refl
+mode_back (argument.Report mode.Recheck) = refl
+mode_back (argument.Report mode.Watch) = refl
 
 some_is : {X : Type 0} (x y : X) → Some x ≡ Some y → x ≡ y
 some_is x y same = ap (λ o. unwrap_or o x) same
 
--- ---- the matches hold one request at most
+-- ---- the matches hold one arguments at most
 
-pub one_request : (rows : List Row) (a b : Request) → HoldsRequest rows a → HoldsRequest rows b → a ≡ b
-one_request rows a b one two =
+pub one_held : (rows : List Row) (a b : Arguments) → HoldsArguments rows a → HoldsArguments rows b → a ≡ b
+one_held rows a b one two =
     let modes = sym (mode_back a.mode) ∙ ap mode_of (some_is (mode_text a.mode) (mode_text b.mode) (sym one.mode ∙ two.mode)) ∙ mode_back b.mode in
     let names = some_is a.name b.name (sym one.name ∙ two.name) in
     let options = same_options a.options b.options (λ s. (one.options s).1 ∙ sym (two.options s).1) in
     λ i. record { mode = modes i; name = names i; options = options i }
 
--- what holds a request holds no fault
-pub holds_one : (rows : List Row) (request : Request) → HoldsRequest rows request → HoldsNone rows → ⊥
-holds_one rows request holds (inl none) = none request.mode holds.mode
-holds_one rows request holds (inr (inl none)) = let bad : None ≡ Some request.name = sym none ∙ holds.name in cc
-holds_one rows request holds (inr (inr (inl (s, none, some)))) =
-    let bad : false ≡ true = sym (ap is_some ((holds.options s).1 ∙ none)) ∙ has_value s request.options some in
+-- what holds a arguments holds no fault
+pub holds_one : (rows : List Row) (arguments : Arguments) → HoldsArguments rows arguments → HoldsNone rows → ⊥
+holds_one rows arguments holds (inl none) = none arguments.mode holds.mode
+holds_one rows arguments holds (inr (inl none)) = let bad : None ≡ Some arguments.name = sym none ∙ holds.name in cc
+holds_one rows arguments holds (inr (inr (inl (s, none, some)))) =
+    let bad : false ≡ true = sym (ap is_some ((holds.options s).1 ∙ none)) ∙ has_value s arguments.options some in
     cc
-holds_one rows request holds (inr (inr (inr (s, text, found, untaken)))) =
+holds_one rows arguments holds (inr (inr (inr (s, text, found, untaken)))) =
     untaken (subst (λ (o : Option Text). IfSome o (IsTaken (kind_of s))) found (holds.options s).0)
 
 -- ---- what the plain form holds
@@ -118,23 +119,23 @@ options_held values mode name given s may =
     (left_out (option_map (λ (g : Setting × Value). g.1) (found_in s given)) (default_of (kind_of s)))
 
 -- `clap` takes words of the plain form, and its matches hold what they ask for
-pub plain_accepted : (values : Choices) → AreModes values.now → (words : List Text) (request : Request) → IsPlain words request → IsAccepted (colregs values) words request
-plain_accepted values are words request plain =
-    let mode = mode_text request.mode in
-    let name = request.name in
-    let walks = plain_walks values are request.mode name plain.given plain.name plain.once plain.values in
+pub plain_accepted : (values : Choices) → AreModes values.now → (words : List Text) (arguments : Arguments) → ArePlain words arguments → IsAccepted (colregs values) words arguments
+plain_accepted values are words arguments plain =
+    let mode = mode_text arguments.mode in
+    let name = arguments.name in
+    let walks = plain_walks values are arguments.mode name plain.given plain.name plain.once plain.values in
     let form = mode ∷ name ∷ flat_map setting_words plain.given in
     let rest = map setting_row plain.given in
     let rows = with_settings settings (first_rows mode name ++ rest) in
     let faultless = walked_faultless values form mode name rest walks in
     let matches = walked_matches values form mode name rest walks in
-    let held : HoldsRequest rows request = record {
+    let held : HoldsArguments rows arguments = record {
       mode = ap first_text (mode_found values form mode name rest walks);
       name = ap first_text (name_found values form mode name rest walks);
       options = λ s. subst (λ (o : Option Value). HoldsValue rows s o) (sym (plain.options s)) (options_held values mode name plain.given s plain.values);
     } in
-    subst (λ (ws : List Text). IsAccepted (colregs values) ws request) (sym plain.form)
-    (faultless, subst (λ (rs : List Row). HoldsRequest rs request) (sym matches) held)
+    subst (λ (ws : List Text). IsAccepted (colregs values) ws arguments) (sym plain.form)
+    (faultless, subst (λ (rs : List Row). HoldsArguments rs arguments) (sym matches) held)
 
 -- the command is one of which `clap` says which words it takes
 pub colregs_simple : (values : Choices) → is_simple_and_free (colregs values) ≡ true
@@ -145,12 +146,12 @@ pub colregs_is_simple : (values : Choices) → is_simple (colregs values) ≡ tr
 unfolding colregs
 colregs_is_simple values = refl
 
--- what is answered where the matches hold the request
-pub held_answer : (rows : List Row) (request : Request) (answer : Result Request WordsFault) → HoldsRequest rows request → IfOk answer (HoldsRequest rows)
-    → (answer ≡ Err Usage → HoldsNone rows) → (answer ≡ Ok request) ⊎ (answer ≡ Err Memory)
-held_answer rows request (Ok found) holds held unheld = inl (ap (λ r. Ok r) (one_request rows found request held holds))
-held_answer rows request (Err Usage) holds held unheld = absurd (holds_one rows request holds (unheld refl))
-held_answer rows request (Err Memory) holds held unheld = inr refl
+-- what is answered where the matches hold the arguments
+pub held_answer : (rows : List Row) (arguments : Arguments) (answer : Result Arguments WordsFault) → HoldsArguments rows arguments → IfOk answer (HoldsArguments rows)
+    → (answer ≡ Err Usage → HoldsNone rows) → (answer ≡ Ok arguments) ⊎ (answer ≡ Err Memory)
+held_answer rows arguments (Ok found) holds held unheld = inl (ap (λ r. Ok r) (one_held rows found arguments held holds))
+held_answer rows arguments (Err Usage) holds held unheld = absurd (holds_one rows arguments holds (unheld refl))
+held_answer rows arguments (Err Memory) holds held unheld = inr refl
 
 -- an error of a kind that may come, and is not want of memory
 pub some_kind : (k : ErrorKind) (kinds : Kinds) → (k ≡ OutOfMemory → ⊥) → (k ≡ OutOfMemory) ⊎ IsAmong k kinds → kinds ≡ [] → ⊥
@@ -160,12 +161,12 @@ some_kind k (x ∷ xs) other among none = cc
 
 -- ---- what `clap` takes holds a mode, a name and what its options take
 
-named_mode : (ms : List Mode) (text : Text) → list_any (λ m. bytes_eq (mode_text m) text) ms ≡ true → (m : Mode) × (text ≡ mode_text m)
+named_mode : (ms : List ModeArgument) (text : Text) → list_any (λ m. bytes_eq (mode_text m) text) ms ≡ true → (m : ModeArgument) × (text ≡ mode_text m)
 named_mode [] text e = cc
 named_mode (m ∷ ms) text e = go (bytes_eq (mode_text m) text) refl (named_mode ms text)
   where
-    go : (t : Bool) → bytes_eq (mode_text m) text ≡ t → (list_any (λ m. bytes_eq (mode_text m) text) ms ≡ true → (n : Mode) × (text ≡ mode_text n))
-        → (n : Mode) × (text ≡ mode_text n)
+    go : (t : Bool) → bytes_eq (mode_text m) text ≡ t → (list_any (λ m. bytes_eq (mode_text m) text) ms ≡ true → (n : ModeArgument) × (text ≡ mode_text n))
+        → (n : ModeArgument) × (text ≡ mode_text n)
     go true here more = (m, sym ((bytes_eq-Decides (mode_text m) text).0 here))
     go false here more = more (rw here at e)
 

@@ -2,7 +2,7 @@ use Rattle.std.proofs.Common.{◌≡◌, ◌∙◌, ◌+◌, ◌<◌, ◌++◌, 
 use Rattle.std.specs.Borrow.{Bor}
 use Rattle.std.proofs.lemmas.List.{map-append, take_all, take_more}
 use Rattle.clap.specs.Words.{Text}
-use Rattle.command_line.proofs.request.named_words.Goals as goal
+use Rattle.command_line.proofs.arguments.named_words.Goals as goal
 
 abbrev texts_of : List (Bor Text) → List Text
 texts_of texts = map (λ text. text.now) texts

@@ -1,0 +1,30 @@
+-- A task: its kind, and what it needs beside the log.
+use Rattle.std.specs.Prelude.{ℕ, Bool, false, List, []}
+use Rattle.tasks.specs.declared.mode.Mode.{Mode}
+use Rattle.tasks.specs.declared.mode.Mode.TheVariants as mode
+use Rattle.tasks.specs.declared.task.Task.{Task}
+use Rattle.tasks.specs.declared.task.Task.TheVariants as task
+
+-- its kind
+abbrev pub task_mode : Task → Mode
+task_mode task.Points = mode.Points
+task_mode task.Audit = mode.Audit
+task_mode (task.Plan why) = mode.Plan
+task_mode (task.Drill seed) = mode.Drill
+task_mode (task.Recheck rows) = mode.Recheck
+task_mode task.Watch = mode.Watch
+
+-- whether the report says why every plan fails, if every plan does
+abbrev pub says_why : Task → Bool
+says_why (task.Plan why) = why
+says_why _ = false
+
+-- the seed of the log that it makes
+abbrev pub task_seed : Task → ℕ
+task_seed (task.Drill seed) = seed
+task_seed _ = 0
+
+-- the name of the file with the rows that it checks
+abbrev pub task_rows : Task → List ℕ
+task_rows (task.Recheck rows) = rows
+task_rows _ = []
