@@ -8,7 +8,6 @@ use Rattle.tasks.specs.declared.mode.Mode.{Mode}
 use Rattle.command_line.specs.declared.request.ReportRequest.{ReportRequest}
 use Rattle.command_line.specs.declared.request.Request.{Request}
 use Rattle.command_line.specs.declared.request.Request.TheVariants as asked
-use Rattle.log_lines.specs.JudgedLines.{greatest_held}
 use Rattle.scenario.specs.Migration.{IsMigrated, IsNotMigrated}
 use Rattle.scenario.specs.ScenarioReading.{IsRefused, Means}
 use Rattle.scenario_keys.specs.declared.key.Key.{Key}
@@ -20,8 +19,6 @@ use Rattle.colregs_program.specs.AskedScenarios.{OfReport, log_of, scenario_name
 use Rattle.refutation_check.specs.declared.checked_text.TheConstants.{GREATEST_TEXT}
 use Rattle.tasks.specs.Modes.{needs_own, needs_rows, reads_log}
 use Rattle.tasks.specs.Tasks.{task_mode, task_rows}
-use Rattle.traces.specs.declared.all_traces.TheConstants.{MOST_TRACES}
-use Rattle.plan_situations.specs.PlanSituations.{greatest_targets}
 use Rattle.colregs_program.specs.declared.status.Status.{Status}
 use Rattle.colregs_program.specs.declared.status.Status.TheVariants as status
 use Rattle.colregs_program.specs.declared.status.Which.TheVariants as which
@@ -167,13 +164,13 @@ IsDue words files log status.WriteFault = ⊥
 IsDue words files log status.Memory = ⊥
 IsDue words files log met = MeetsAnswer words files log met
 
--- A limit that no scenario sets is told with its number.
+-- A limit that no scenario sets is reported with its number: 2^20 bytes of a scenario, 4096 vessels held, 4096 traces, 64 targets, and 2^24 bytes of rows.
 abbrev pub TellsLimit : Status → Type 0
-TellsLimit (status.Limit which.Scenario most) = most ≡ greatest_scenario
-TellsLimit (status.Limit which.Vessels most) = most ≡ greatest_held
-TellsLimit (status.Limit which.Pairs most) = most ≡ MOST_TRACES
-TellsLimit (status.Limit which.Targets most) = most ≡ greatest_targets
-TellsLimit (status.Limit which.Rows most) = most ≡ GREATEST_TEXT
+TellsLimit (status.Limit which.Scenario most) = most ≡ 2 ^ 20
+TellsLimit (status.Limit which.Vessels most) = most ≡ 4096
+TellsLimit (status.Limit which.Pairs most) = most ≡ 4096
+TellsLimit (status.Limit which.Targets most) = most ≡ 64
+TellsLimit (status.Limit which.Rows most) = most ≡ 2 ^ 24
 TellsLimit answer = Unit {0}
 
 -- ---- how far a run has come

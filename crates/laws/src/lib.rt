@@ -1,5 +1,6 @@
 //! Laws over the definitions. Each is a function whose contract is the law, and nothing of the program depends on them.
 //!
+//! - `checks`: rows that say rightly why there is no plan have no first bad row.
 //! - `reports`: a request has at most one report on a log, further lines never change bytes that are already settled, and at most one
 //!   answer of a run is due.
 //! - `inert`: removing a line of noise without a time stamp changes the report by one count only.
@@ -10,6 +11,7 @@
 //! The one law that `run` itself needs, that a log has at most one outcome, is `sessions::laws::one_answer`.
 #![tactic(auto)]
 
+pub mod checks;
 pub mod inert;
 pub mod reports;
 pub mod shares;

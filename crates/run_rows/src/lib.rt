@@ -1,9 +1,13 @@
-//! Worked rows of whole runs of the program, in memory: the report of each mode, what a recheck says of rows, and runs that end in a fault: each fault by
-//! its number, lines that strangers wrote, and devices that fail.
+//! Worked rows of whole runs of the program, in memory: the report of each mode, what a recheck says of rows, runs that a slow program would not
+//! finish, and runs that end in a fault: each fault by its number, limits that many vessels meet, hostile lines, and devices that fail.
 #![tactic(auto)]
 
 #[cfg(test)]
 mod checked_rows;
+#[cfg(test)]
+mod crowds;
+#[cfg(test)]
+mod demanding;
 #[cfg(test)]
 mod failing_devices;
 #[cfg(test)]

@@ -11,7 +11,8 @@ ghost use Rattle.sessions.specs.Refusals.{IsStopped};
 ghost use Rattle.sessions.specs.PlanReport.{IsSituationOn};
 ghost use Rattle.sessions.specs.Standing.{IsInUse, StandsFor, mode_of, session_scenario, taken_of};
 ghost use Rattle.sessions.specs.Tasks.{Task, task_by};
-ghost use Rattle.log_lines.specs.LogLines.{is_line_feed};
+ghost use Rattle.log_lines.specs.JudgedLines.{is_crowded};
+ghost use Rattle.log_lines.specs.LogLines.{is_line_feed, lines_of};
 ghost use Rattle.refutation_check.specs.declared.checked_text.TheConstants.{GREATEST_TEXT};
 ghost use Rattle.plan_situations.specs.Situations.{IsSituation};
 
@@ -280,7 +281,11 @@ impl Session {
         requires in_use { IsInUse self }
         requires own { IsTrue (needs_own (mode_of self)) }
         ensures sound { IfOk result IsSituation }
-        ensures situation { IfOk result (λ situation. (fed given : List ℕ) → StandsFor self fed given → IsSituationOn (session_scenario self) fed situation) }
+        ensures situation { IfOk result (λ situation. (fed given : List ℕ) → StandsFor self fed given
+            → IsSituationOn (session_scenario self) fed situation) }
+        // No 4097th vessel is held, also by a last line that no line feed ended.
+        ensures calm { IfOk result (λ _. (fed given : List ℕ) → StandsFor self fed given
+            → is_crowded (session_scenario self) (lines_of fed) ≡ false) }
         ensures refused { IfErr result (λ why. UnlessMemory why ((fed given : List ℕ) → StandsFor self fed given
             → (task : Task) → task.mode ≡ mode_of self → IsAnswerTo task (session_scenario self) fed (Err why))) }
     {

@@ -1,8 +1,9 @@
-use Rattle.std.proofs.Common.{List, ℕ, ◌≡◌, ◌++◌, IsTrue, sym, subst}
+use Rattle.std.proofs.Common.{List, ℕ, ◌≡◌, ◌++◌, false, IsTrue, sym, subst}
 use Rattle.std.proofs.lemmas.Result.{IfErr-weaker, IfOk-weaker}
 use Rattle.outside.proofs.ForCallers.{err_cause}
 use Rattle.tasks.specs.declared.mode.Mode.{Mode}
 use Rattle.scenario_values.specs.declared.values.Scenario.{Scenario}
+use Rattle.log_lines.specs.JudgedLines.{is_crowded}
 use Rattle.log_lines.specs.LogLines.{lines_of}
 use Rattle.log_lines.specs.Standing.{StandsFor as JudgeStandsFor}
 use Rattle.sessions.specs.Inner.Faults.{EndCause}
@@ -42,4 +43,12 @@ returns-in-Ok-clause-situation c =
     IfOk-weaker c.situation_at_end-found.result _ _ (λ situation on fed given stands.
     subst (λ (s : Scenario). IsSituationOn s fed situation) c.end_line.ensures.scenario
     (on fed (judged_at_end c.end_line.new.self c.judge.result.now c.judge.ensures.stands fed (given ++ ended.more) (ended.ended fed given stands))))
+    c.situation_at_end-found.ensures.situation
+
+pub returns-in-Ok-clause-calm : goal.returns-in-Ok-clause-calm
+returns-in-Ok-clause-calm c =
+    let ended = c.in-Ok.ensures.ended in
+    IfOk-weaker c.situation_at_end-found.result _ _ (λ situation on fed given stands.
+    subst (λ (s : Scenario). is_crowded s (lines_of fed) ≡ false) c.end_line.ensures.scenario
+    ((judged_at_end c.end_line.new.self c.judge.result.now c.judge.ensures.stands fed (given ++ ended.more) (ended.ended fed given stands)).calm))
     c.situation_at_end-found.ensures.situation
