@@ -17,9 +17,9 @@ from colregs.cli.arguments import add_program, at_least, parser_of
 from colregs.errors import Fault, end, report
 from colregs.io.files import replace as replace_file
 from colregs.pilot.route import track_of_words
+from colregs.pilot.runner import runner_of
 from colregs.pilot.scenario import PilotScenario
 from colregs.pilot.states import Track
-from colregs.run.program import found
 from colregs.trials.batch import Job, run_all, with_progress
 from colregs.trials.geometries import crossing_jobs, geometry_jobs
 from colregs.trials.meetings import ANY, KINDS
@@ -113,11 +113,11 @@ def about(given: argparse.Namespace, setting: Setting, count: int) -> str:
             f"{', with ' + ' and '.join(more) if more else ''}, a plan each {setting.every} s, track {setting.track.course:05.1f} at {setting.track.speed:g} knots.")
 
 
-def made_again(given: argparse.Namespace, program: str, jobs: list[Job], results: list[Result]) -> list[Result]:
+def made_again(given: argparse.Namespace, jobs: list[Job], results: list[Result]) -> list[Result]:
     """Returns the worst runs, made again for their tracks and logs."""
     by_key = {(job.seed, job.setting.label): job for job in jobs}
     again = [replace(by_key[result.seed, result.kind if result.kind.startswith(FIXED) else ""], pictured=True) for result in worst(results, given.worst)]
-    return list(run_all(given.scenario, program, again, 1))
+    return list(run_all(given.scenario, given.program, again, 1))
 
 
 def write_page(given: argparse.Namespace, scenario: PilotScenario, setting: Setting, results: list[Result], pictured: list[Result]) -> None:
@@ -138,10 +138,11 @@ def write_logs(folder: str, pictured: list[Result]) -> None:
 def main(arguments: Sequence[str] | None = None) -> int:
     """Makes the runs, and writes what they show."""
     given = parser().parse_args(arguments)
-    scenario, program = PilotScenario.read(given.scenario), found(given.program)
+    scenario = PilotScenario.read(given.scenario)
+    runner_of(given.program).close()       # says now, and not in each process, that there is none
     setting = setting_of(given, scenario)
     jobs = jobs_of(given, scenario, setting)
-    results = list(with_progress(run_all(given.scenario, program, jobs, given.jobs), len(jobs), "trials"))
+    results = list(with_progress(run_all(given.scenario, given.program, jobs, given.jobs), len(jobs), "trials"))
     faults = [result for result in results if result.fault]
     if faults:
         report("trials", f"{len(faults)} runs had an answer that is neither a plan nor none; first, seed {faults[0].seed}: {faults[0].fault}")
@@ -153,7 +154,7 @@ def main(arguments: Sequence[str] | None = None) -> int:
     if given.json:
         replace_file(given.json, (json.dumps(report_json(os.path.basename(given.scenario), setting, results), indent=1) + "\n").encode())
     if given.page or given.logs:
-        pictured = made_again(given, program, jobs, results)
+        pictured = made_again(given, jobs, results)
         if given.page:
             write_page(given, scenario, setting, results, pictured)
         if given.logs:

@@ -11,6 +11,7 @@ from colregs.run.program import TOP
 
 PAGES = os.path.join(TOP, "docs", "SCENARIO.md"), os.path.join(os.path.dirname(os.path.abspath(__file__)), "SCENARIO.md")     # the latter of a wheel
 NO_KEYS = {"document", "formulas"}      # what the table tells of the text as a whole, and of all formulas together
+PILOT = "pilot."      # the table that colregs-pilot and colregs-trials read (docs/BUILDER.md); the program ignores it
 
 
 @functools.cache
@@ -62,7 +63,7 @@ def nearest(name: str) -> str | None:
 
 def doubt(name: str) -> tuple[str, str] | None:
     """Returns what is wrong with a key, as the name of the finding and its words; or None."""
-    if name in units() or name in tables():
+    if name in units() or name in tables() or name.startswith(PILOT):
         return None
     head, _, tail = name.rpartition(".")
     table = max(sorted(tables()), key=lambda known: likeness(head, known))

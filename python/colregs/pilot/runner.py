@@ -41,6 +41,14 @@ class Runner(Protocol):
         ...
 
 
+class ClosingRunner(Runner, Protocol):
+    """A runner that holds something until it is closed."""
+
+    def close(self) -> None:
+        """Gives back what it holds."""
+        ...
+
+
 class ProcessRunner:
     """Runs the program as a process, with the scenario in a file of a folder of its own."""
 
@@ -102,7 +110,7 @@ class LibraryRunner:
         return replace(made[0], seconds=taken) if made else Report(NO_ANSWER, "", "the library gave no answer in %.1f s" % timeout, taken)
 
 
-def runner_of(program: str | None) -> ProcessRunner | LibraryRunner:
+def runner_of(program: str | None) -> ClosingRunner:
     """Returns a runner of the program that is given; of the library if none is given and it is installed; otherwise of the program that is found."""
     if program is None:
         try:

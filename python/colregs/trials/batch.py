@@ -7,7 +7,7 @@ from collections.abc import Iterable, Iterator, Sequence
 from concurrent.futures import ProcessPoolExecutor
 from dataclasses import dataclass
 
-from colregs.pilot.runner import ProcessRunner
+from colregs.pilot.runner import ClosingRunner, runner_of
 from colregs.pilot.scenario import PilotScenario
 from colregs.trials.trial import Result, Setting, Trial
 
@@ -28,12 +28,12 @@ class Worker:
     """What each process of a batch has: the scenario, and a runner of the program."""
 
     scenario: PilotScenario
-    runner: ProcessRunner
+    runner: ClosingRunner
 
 
-def begin_worker(path: str, program: str) -> None:
+def begin_worker(path: str, program: str | None) -> None:
     """Reads the scenario and makes the runner, once in each process."""
-    Worker.scenario, Worker.runner = PilotScenario.read(path), ProcessRunner(program)
+    Worker.scenario, Worker.runner = PilotScenario.read(path), runner_of(program)
 
 
 def run_job(job: Job) -> Result:
@@ -41,8 +41,8 @@ def run_job(job: Job) -> Result:
     return Trial(Worker.scenario, Worker.runner, job.setting, job.seed, job.pictured).run()
 
 
-def run_all(path: str, program: str, jobs: Sequence[Job], processes: int) -> Iterator[Result]:
-    """Yields the result of each job, in their order."""
+def run_all(path: str, program: str | None, jobs: Sequence[Job], processes: int) -> Iterator[Result]:
+    """Yields the result of each job, in their order. Without a program the library runs, if it is installed."""
     if processes == 1:
         begin_worker(path, program)
         yield from map(run_job, jobs)
