@@ -145,7 +145,7 @@ def add_jobs(words: argparse.ArgumentParser, kind: str) -> None:
     elif kind == "one":
         words.add_argument("number", type=at_least(1), metavar="NUMBER", help="the number of a job, from 1 on")
     elif kind == "slurm":
-        words.add_argument("--memory", default="2G", help="of each job (default: 2G)")
+        words.add_argument("--memory", default="512M", help="of each job (default: 512M)")
         words.add_argument("--hours", type=at_least(1), default=4, metavar="N", help="of each job at most (default: 4)")
 
 

@@ -86,7 +86,7 @@ class Reader:
         return found
 
     def chain(self, sign: str) -> Sight:
-        """Reads what stands between `|` signs, each part of which is what stands between `&` signs."""
+        """Reads operands with this sign between them: those of `|` are chains of `&`."""
         part = self.chain_of_and if sign == "|" else self.linked
         found = part()
         while self.peek() == sign:

@@ -3,6 +3,7 @@ from collections.abc import Callable, Sequence
 from dataclasses import dataclass
 
 FIELDS = 7              # fields of every row
+MARKED, MARKS = ("meeting", "verdict"), ("cut", "doubt")        # rows of a joined report may have a further field (docs/TRAFFIC_SERVICE.md)
 OUTCOMES = 21           # a whole report counts the lines of its log by this many outcomes
 METRE = 10000           # units of a length in a row
 
@@ -141,6 +142,8 @@ READERS: dict[str, Callable[[Sequence[str]], Row]] = {
 
 def row_of(fields: Sequence[str]) -> Row:
     """Returns the row of seven fields; raises ValueError if they are no row of a report."""
+    if len(fields) == FIELDS + 1 and fields[0] in MARKED and fields[FIELDS] in MARKS:
+        fields = fields[:FIELDS]
     if len(fields) != FIELDS or fields[0] not in READERS:
         raise ValueError(f"a row has {FIELDS} fields, of which the first is its kind")
     return READERS[fields[0]](fields)

@@ -23,8 +23,8 @@ class Job:
     """One share, as its line says. `plan` makes the second half of the keys; they tie a window to the whole of which it is one.
 
     `sums` are the SHA-256 of the files. `whole` is the first and the last second of the whole audit's window of lines. `before` is the last stamp
-    before the files and the greatest that counts. `heads` are stretches of time of which the accepted reports are kept, for the join. `types` are
-    ship types that were reported before, and `unsure` the vessels of whom that is not certain.
+    before the files and the greatest that counts. The accepted reports in the stretches of time `heads` are stored for the join. `types` are ship
+    types that were reported before, and `unsure` the vessels whose type is not certain.
     """
 
     files: list[str]

@@ -154,7 +154,7 @@ class Plan:
         return at - self.scenario.gap, at + length * self.scenario.tick + self.scenario.gap
 
     def head(self, begin: int) -> list[int]:
-        """Returns the stretch about a window's beginning of which the accepted reports are kept."""
+        """Returns the stretch of time about a window's beginning whose accepted reports are stored."""
         first = self.lines(begin, 0)[0]
         return [first, first + 2 * max(self.scenario.gap, STRADDLE) + HEAD]
 

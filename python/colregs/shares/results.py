@@ -113,7 +113,7 @@ def vessels_of(report: str) -> list[int]:
 
 
 def is_of_group(row: Stretch, group: set[int], own: bool, covered: set[int]) -> bool:
-    """Returns whether a row is a group's to tell: its subject is in it, or is no subject at all and the other is."""
+    """Returns whether a row belongs to a group: its subject is in it, or is no subject at all and the other is."""
     subject, other = row.pair
     return subject in group or own and subject not in covered and other in group
 

@@ -42,7 +42,7 @@ class Stretch:
 
 @dataclass
 class Before:
-    """What is known before a window: ship types, and the vessels of whom the window may read another type than the whole log."""
+    """What is known before a window: ship types, and the vessels whose type the window may read differently than the whole log."""
 
     types: dict[int, int] = field(default_factory=dict)
     unsure: set[int] = field(default_factory=set)

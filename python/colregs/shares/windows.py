@@ -16,7 +16,7 @@ from colregs.shares.results import Pair, Rows, Stretch
 CUT, DOUBT = "cut", "doubt"
 ALWAYS = -1                                             # the sync of what agrees from a window's beginning on
 OF_A_RULE = Sight(0, 0, frozenset((YES,)), True)        # a rule of the program looks back within its meeting alone
-LONG = "its meeting began before the window that tells of it, and no window has it whole"
+LONG = "its meeting began before the window that reports it, and no window has it whole"
 LATE = "its formula looks back to before its meeting, or the two vessels, are known in the window"
 OTHER = "the window and the one before it accept other reports of hers, as of two vessels with one MMSI"
 
@@ -234,10 +234,10 @@ class Joining:
         return True
 
     def is_common(self, row: Stretch, sync: int, border: int) -> bool:
-        """Returns whether two windows have to tell the beginning of a row alike."""
+        """Returns whether two windows have to report the beginning of a row alike."""
         sight = self.sight(row)
         return sight.values == {YES} and sight.no_edge and sync + self.back(row) < row.first <= border
 
     def common(self, row: Stretch, border: int) -> tuple[str, ...]:
-        """Returns what of a row two windows have to tell alike: all of it, or its beginning if it goes on over the settled step."""
+        """Returns what of a row two windows have to report alike: all of it, or its beginning if it goes on over the settled step."""
         return (*row.track, str(row.first), *row.fields[row.at + 1:]) if row.last <= border else (*row.track, str(row.first), "..")

@@ -33,7 +33,7 @@ class Beginnings:
         return before
 
     def carry(self, start: int, next_start: int) -> None:
-        """Ends a window: pairs of whom it has no meeting that ended stay open."""
+        """Ends a window: a pair stays open if none of its meetings ended there."""
         left = {pair for pair in self.open.get(start, set()) if (start, pair) not in self.syncs}
         if left:
             self.open.setdefault(next_start, set()).update(left)
