@@ -19,6 +19,7 @@ from dev.repository import TOP, Fault, files_of, listed_crates, path_of, read
 # What the last lines of a job say of its tests, by what ran them: `rt try`, unittest, and ours.
 COUNTS = [re.compile(it, re.M) for it in (r"^test result: \w+\. (\d+) passed; (\d+) failed", r"^(?:callers: )?(\d+) passed, (\d+) failed\b")]
 RAN, FAILED = re.compile(r"^Ran (\d+) tests? in", re.M), re.compile(r"^FAILED \((.*)\)$", re.M)
+SECONDS = 900      # the longest run of the tests of a crate, on a busy machine
 SHOWN = 60      # the most last lines that are shown of a job that fails
 
 
@@ -66,7 +67,7 @@ def crate_jobs() -> Iterator[Job]:
     for crate in listed_crates():
         if _has_tests(crate):
             # A program of tests is compiled with all crates below it.
-            yield Job("crate: " + crate, ("rt", "try", "--test"), path_of("crates", crate), False, 60 + 90 * crate.startswith(("run", "session")))
+            yield Job("crate: " + crate, ("rt", "try", "--test", "--seconds", str(SECONDS)), path_of("crates", crate), False, 60 + 90 * crate.startswith(("run", "session")))
 
 
 def modules_of(*folder: str) -> list[str]:
