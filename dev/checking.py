@@ -49,7 +49,7 @@ def names() -> list[str]:
 
 def module(name: str) -> Check:
     """Returns a check by its name."""
-    loaded: Check = importlib.import_module("dev.checks." + name)  # type: ignore[assignment]
+    loaded: Check = importlib.import_module("dev.checks." + name)
     return loaded
 
 

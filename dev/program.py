@@ -14,13 +14,13 @@ from .repository import Fault, PROGRAM, TOP, path_of, say
 from .sums import Record, as_text, sum_of, sums
 
 PROVED = path_of("crates", PROGRAM, "out", PROGRAM)
-CACHED_PROGRAMS = 4      # the number of programs that the cache holds, the oldest of which goes first
+CACHED_PROGRAMS = 4      # the most programs that the cache holds; the oldest goes first
 CLOCK_STEP = 50 * 10**6      # nanoseconds by which a file's time may lag behind the clock
 NOT_PROVED = "not proved yet; ./colregs --prove proves it"
 
 
 class Choice(NamedTuple):
-    """A program to run, and what to tell its user first, if anything."""
+    """A program to run, and what its user has to know first, if anything."""
 
     program: str
     notice: str
@@ -62,7 +62,7 @@ def _changed_since(changed: List[str]) -> str:
 
 
 def _is_proved(begun: int) -> Optional[str]:
-    """Returns nothing if the proved program is there and of these sources, otherwise what to tell."""
+    """Returns nothing if the proved program is there and of these sources, otherwise what its user has to know."""
     if not os.access(PROVED, os.X_OK):
         return NOT_PROVED
     changed = Record(PROVED).changed()

@@ -193,7 +193,7 @@ def prove(each: float) -> None:
         room = tempfile.mkdtemp(prefix="at-work-", dir=PLACE)
         work = Work(kit, line)
         try:
-            say("proving %d crates side by side, of which %d are cached; finished proofs are cached" % (len(work.crates), len(work.proved)))
+            say("proving %d crates side by side; the proofs of %d others are cached, as each will be that is finished" % (len(work.crates) - len(work.proved), len(work.proved)))
             work.finish(room, each)
             put(kit, os.path.join(room, PROGRAM + ".o"), work.sources, begun)
             say("all %d crates are proved, and the program is built" % len(work.crates))

@@ -40,12 +40,12 @@ def read_if_there(path: str) -> str:
 
 
 def listed_crates() -> Dict[str, List[str]]:
-    """Reads crates.txt: each crate with the crates that its line names, in the order of the file."""
+    """Reads crates.txt: each crate with the crates that its line names, in the order of the file. A line may have more words before its colon, as `staticlib`."""
     listed: Dict[str, List[str]] = {}
     for line in read("crates.txt").splitlines():
-        words = line.partition("#")[0].replace(":", " ").split()
-        if words:
-            listed[words[0]] = words[1:]
+        head, _, below = line.partition("#")[0].partition(":")
+        if head.split():
+            listed[head.split()[0]] = below.split()
     return listed
 
 

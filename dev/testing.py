@@ -11,14 +11,15 @@ from collections.abc import Iterator
 from dataclasses import dataclass
 from typing import IO
 
+from dev import checking
 from dev.children import EACH, Child, end_as_interrupted, processors
 from dev.kit import SETTINGS
 from dev.repository import TOP, Fault, files_of, listed_crates, path_of, read
 
-TESTS_OF_TOOLS = path_of("python", "tests")
 # What the last lines of a job say of its tests, by what ran them: `rt try`, unittest, and ours.
-COUNTS = [re.compile(it, re.M) for it in (r"^test result: \w+\. (\d+) passed; (\d+) failed", r"^(\d+) passed, (\d+) failed$")]
+COUNTS = [re.compile(it, re.M) for it in (r"^test result: \w+\. (\d+) passed; (\d+) failed", r"^(?:callers: )?(\d+) passed, (\d+) failed\b")]
 RAN, FAILED = re.compile(r"^Ran (\d+) tests? in", re.M), re.compile(r"^FAILED \((.*)\)$", re.M)
+SECONDS = 900      # the longest run of the tests of a crate, on a busy machine
 SHOWN = 60      # the most last lines that are shown of a job that fails
 
 
@@ -66,26 +67,28 @@ def crate_jobs() -> Iterator[Job]:
     for crate in listed_crates():
         if _has_tests(crate):
             # A program of tests is compiled with all crates below it.
-            yield Job("crate: " + crate, ("rt", "try", "--test"), path_of("crates", crate), False, 60 + 90 * crate.startswith(("run", "session")))
+            yield Job("crate: " + crate, ("rt", "try", "--test", "--seconds", str(SECONDS)), path_of("crates", crate), False, 60 + 90 * crate.startswith(("run", "session")))
 
 
-def program_jobs(program: str) -> Iterator[Job]:
-    """Yields the jobs that run the program, or the tools with it."""
+def modules_of(*folder: str) -> list[str]:
+    """Returns the names of the modules of tests in a folder."""
+    return sorted(name[:-3] for name in os.listdir(path_of(*folder)) if name.startswith("test_") and name.endswith(".py"))
+
+
+def program_jobs(program: str, library: str | None = None) -> Iterator[Job]:
+    """Yields the jobs that run the program, or the tools with it, or the library for C, and the checks."""
     here = sys.executable
     yield Job("cases", (here, "-m", "dev.cases", program), seconds=5)
-    for name in sorted(os.listdir(TESTS_OF_TOOLS)):
-        if name.startswith("test_") and name.endswith(".py"):
-            yield Job("tools: " + name[5:-3], (here, os.path.join(TESTS_OF_TOOLS, "run"), program, name[:-3]))
-    for name in sorted(os.listdir(path_of("dev", "tests"))):
-        if name.startswith("test_") and name.endswith(".py"):
-            yield Job("dev: " + name[5:-3], (here, "-m", "unittest", "dev.tests." + name[:-3]), seconds=15)
+    for name in modules_of("python", "tests"):
+        yield Job("tools: " + name[5:], (here, path_of("python", "tests", "run"), program, name))
+    yield Job("tools: types and style", (path_of("python", "check"),), seconds=30)
+    for name in modules_of("dev", "tests"):
+        yield Job("dev: " + name[5:], (here, "-m", "unittest", "dev.tests." + name), seconds=15)
     yield Job("examples", (here, path_of("examples", "check"), program))
-    yield Job("pages", (here, path_of(".ci", "shown"), program), seconds=20)
-    for name in ("limits", "manual", "rules"):
-        yield Job("check: " + name, (here, path_of(".ci", name), program))
-    yield Job("check: checks", (path_of(".ci", "checks"), program))
-    for name in ("crates", "reading"):
-        yield Job("check: " + name, (here, path_of(".ci", name)), seconds=1)
+    for name in checking.names():
+        yield Job("check: " + name, (here, path_of("dev", "check"), "--program", program, name))
+    if library:
+        yield Job("callers", (here, path_of("examples", "callers", "run"), library, program), seconds=60)
 
 
 class Running:
@@ -111,8 +114,8 @@ class Tests:
 
     BUILD = Job("program", (path_of("colregs"), "--path"), needs_program=False, seconds=1000)
 
-    def __init__(self, program: str | None, names: list[str]):
-        self._names, self._program, self._settings = names, program, dict(SETTINGS)
+    def __init__(self, program: str | None, library: str | None, names: list[str]):
+        self._names, self._library, self._settings = names, library, dict(SETTINGS)
         self._waiting: list[Job] = []
         self._running: list[Running] = []
         self._count = Count(0, 0)
@@ -126,7 +129,7 @@ class Tests:
 
     def _take_program(self, program: str) -> None:
         self._settings["COLREGS_PROGRAM"] = program
-        self._waiting += filter(self._is_wanted, program_jobs(program))
+        self._waiting += filter(self._is_wanted, program_jobs(program, self._library))
 
     def _begin(self, places: int) -> None:
         self._waiting.sort(key=lambda it: -it.seconds)
@@ -171,22 +174,23 @@ def main(description: str | None) -> int:
     """Runs `./test` with the arguments of the command line, and returns its exit status."""
     parser = argparse.ArgumentParser(prog="test", description=description, formatter_class=argparse.RawDescriptionHelpFormatter)
     parser.add_argument("--program", metavar="P", help="take this program, and leave out the crates of tests")
+    parser.add_argument("--library", metavar="L", help="also run the callers of the library for C, a folder that .ci/library made")
     parser.add_argument("--list", action="store_true", help="list the names of the jobs, and run none")
     parser.add_argument("names", metavar="NAME", nargs="*", help="take only the jobs whose names begin so")
     given = parser.parse_args()
-    jobs = [*([] if given.program else crate_jobs()), *program_jobs(given.program or "")]
+    program, library = (os.path.abspath(it) if it else None for it in (given.program, given.library))
+    jobs = [*([] if program else crate_jobs()), *program_jobs(program or "", library)]
     if given.list:
         print("\n".join(job.name for job in jobs))
         return 0
     unknown = [name for name in given.names if not any(job.name.startswith(name) for job in jobs)]
     if unknown:
         parser.error(f"no job's name begins with {unknown[0]}; --list lists them")
-    program = os.path.abspath(given.program) if given.program else None
     if program and not os.access(program, os.X_OK):
         parser.error(f"{given.program} is not a program that can be run")
     end_as_interrupted()
     try:
-        return 1 if Tests(program, given.names).run() else 0
+        return 1 if Tests(program, library, given.names).run() else 0
     except Fault as fault:
         print(f"test: {fault}", file=sys.stderr)
         return 1

@@ -2,8 +2,8 @@
 
 A command is in a fenced block of the kind `console`, in a line that begins with `$ `; a line after it that begins with `> ` continues it. What it writes follows, on
 standard output and standard error; a line `..` stands for any lines. The blocks of a page run in order, in one empty folder that has the program as ./colregs, and
-`examples` and `tools`. No other fenced block may show a command. A block is skipped, with a note, if it needs sqlite3, jq, parallel or GDAL and they are
-not installed. `python3 -m dev.checks.commands PROGRAM` writes what the commands print that show nothing yet into the pages.
+`examples`, `tools`, `python` and `bench`. No other fenced block may show a command. A block is skipped, with a note, if it needs sqlite3, jq, parallel, GDAL or a C
+compiler, or the library for C, and the machine lacks it. `python3 -m dev.checks.commands PROGRAM` writes what the commands print that show nothing yet into the pages.
 """
 from __future__ import annotations
 
@@ -20,9 +20,10 @@ from dev.repository import path_of, read
 
 NEEDS_PROGRAM = True
 END = "\x01end of a command\x01"
-TOOLS = ["sqlite3", "jq", "parallel", "ogr2ogr", "ogrinfo"]      # what a machine may lack
+TOOLS = ["sqlite3", "jq", "parallel", "ogr2ogr", "ogrinfo", "cc", "pkg-config"]      # what a machine may lack
+LIBRARY = path_of("crates", "colregs_c", "out", "library", "lib")      # what .ci/library made
 SECONDS = 600      # the longest run of a block
-FOLDERS = ("examples", "tools")
+FOLDERS = ("examples", "tools", "python", "bench")
 LINES = 30      # the most lines that a fault shows
 
 
@@ -39,7 +40,9 @@ class Command:
         return re.fullmatch(pattern, "".join(line + "\n" for line in lines)) is not None
 
     def lacks(self) -> str | None:
-        """Returns a program that the command needs and that is not installed, or None."""
+        """Returns what the command needs and the machine lacks, or None."""
+        if "--libs colregs" in self.text and not os.path.isdir(LIBRARY):
+            return "the library for C"
         return next((word for word in TOOLS if re.search(rf"(?<![\w./-]){word}(?![\w.-])", self.text) and not shutil.which(word)), None)
 
 
@@ -65,7 +68,7 @@ def blocks(lines: list[str]) -> Iterator[list[Command]]:
 def run(block: list[Command], folder: str) -> list[list[str]]:
     """Returns the lines that each command of a block writes, as far as they ran."""
     script = "".join(f"{command.text}\n__status=$?; printf '\\n%s\\n' '{END}'; (exit $__status)\n" for command in block)
-    settings = {**os.environ, "COLREGS_PROGRAM": os.path.join(folder, "colregs")}
+    settings = {**os.environ, "COLREGS_PROGRAM": os.path.join(folder, "colregs"), "PKG_CONFIG_PATH": os.path.join(LIBRARY, "pkgconfig"), "LD_LIBRARY_PATH": LIBRARY}
     done = subprocess.run(["bash", "-c", script], cwd=folder, stdin=subprocess.DEVNULL, stdout=subprocess.PIPE, stderr=subprocess.STDOUT, env=settings, timeout=SECONDS)
     pieces = done.stdout.decode(errors="replace").split(f"\n{END}\n")
     return [piece[:-1].split("\n") if piece.endswith("\n") else piece.split("\n") if piece else [] for piece in pieces[:len(block)]]
@@ -88,7 +91,7 @@ def results(program: str, page: str, found: Findings) -> list[tuple[Command, lis
         for block in blocks(read(page).split("\n")):
             lacks = next((it for it in map(Command.lacks, block) if it), None)
             if lacks:
-                found.note(f"{page}, line {block[0].line + 1}: not run, for {lacks} is not installed")
+                found.note(f"{page}, line {block[0].line + 1}: not run, for {lacks} is not here")
                 continue
             wrote = run(block, folder)
             ran += zip(block, wrote)

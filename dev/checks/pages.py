@@ -1,7 +1,7 @@
 """The pages: their links, their sizes, the crates that docs/MAP.md names, and the form of the decisions.
 
 Each link within the repository leads to a file, and to a heading of it if it names one. README.md has at most 6 KB. The size of all pages in docs/ is reported,
-with its aim of 160 KB. Each crate of tests in crates.txt has one row in docs/MAP.md, whose drawing names each crate of the program. The decisions of
+with its aim of 160 KB. Each crate of tests in crates.txt has one row in docs/MAP.md, whose drawing names each crate of the program and of the library. The decisions of
 docs/DECISIONS.md have their numbers in order, and each says what it rules out.
 """
 from __future__ import annotations
@@ -12,10 +12,11 @@ from collections.abc import Iterator
 
 from dev.checking import Findings
 from dev.pages import pages, without_blocks
-from dev.repository import PROGRAM, TOP, crates_of, listed_crates, read
+from dev.repository import TOP, crates_of, listed_crates, read
 
 NEEDS_PROGRAM = False
 README_BYTES = 6 * 1024
+PRODUCTS = ("colregs", "colregs_c")      # the program, and the library for callers in C
 DOCS_BYTES = 160 * 1000      # an aim: it is reported, and fails nothing
 
 
@@ -40,13 +41,13 @@ def broken_links(page: str, text: str) -> Iterator[str]:
 
 def crates_in_map(page: str, listed: dict[str, list[str]]) -> Iterator[str]:
     """Yields each crate that lacks its one row, or its place in the drawing."""
-    program = crates_of(PROGRAM, listed)
+    program = {name for product in PRODUCTS for name in crates_of(product, listed)}
     tests = [name for name in listed if name not in program]
     drawing = re.search(r"^```\n(.*?)^```$", page, re.M | re.S)
     rows = re.findall(r"^\| `(\w+)` \|", page, re.M)
     for name in sorted(set(rows) ^ set(tests)) + sorted({row for row in rows if rows.count(row) > 1}):
         yield f"docs/MAP.md: {name} has {rows.count(name)} rows"
-    for name in program:
+    for name in sorted(program):
         if not drawing or not re.search(rf"\b{name}\b", drawing[1]):
             yield f"docs/MAP.md: the drawing lacks {name}"
 

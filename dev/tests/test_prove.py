@@ -17,7 +17,7 @@ class Prove(InRepository):
     def test_it_proves_and_builds_and_from_then_on_the_program_runs_silently(self) -> None:
         status, out, err = self.run_of(*PROVE)
         self.assertEqual((status, out), (0, ""), err)
-        self.assertIn("colregs: proving 5 crates side by side, of which 0 are cached", err)
+        self.assertIn("colregs: proving 5 crates side by side; the proofs of 0 others are cached", err)
         self.assertIn("all 5 crates are proved, and the program is built", err)
         self.assertRegex(text_of(self.calls), r"middle jobs=\d of_kit=2\n")
         proved = self.proved()
@@ -30,7 +30,7 @@ class Prove(InRepository):
         self.run_of(*PROVE)
         self.proved()
         self.source("crates/middle/src/lib.rt", "// other sources")
-        self.assertIn("of which 2 are cached", self.run_of(*PROVE)[2])
+        self.assertIn("the proofs of 2 others are cached", self.run_of(*PROVE)[2])
         self.assertEqual(self.proved(), ["middle", "high", "colregs"])
         self.assertEqual(self.run_of("./colregs", "points", "a.toml"), RAN)
 
@@ -93,7 +93,7 @@ class Prove(InRepository):
                 time.sleep(0.1)
         self.assertEqual(self.running(), [])
         self.proved()
-        self.assertIn("of which 2 are cached", self.run_of(*PROVE)[2])
+        self.assertIn("the proofs of 2 others are cached", self.run_of(*PROVE)[2])
         self.assertEqual(sorted(self.proved()), ["beside", "colregs", "high"])
         self.assertEqual([it for it in os.listdir(os.path.join(self.top, "crates/colregs/out/rlib")) if it.startswith("at-work")], [])
 

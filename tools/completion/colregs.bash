@@ -1,4 +1,4 @@
-# Completion of colregs in bash: `. tools/completion/colregs.bash`. `.ci/manual` compares its modes and options with `--help`.
+# Completion of colregs in bash: `. tools/completion/colregs.bash`. `dev/check manual` compares its modes and options with `--help`.
 _colregs() {
   local modes="points audit plan drill migrate recheck watch"
   local options="--start --ticks --seed --why --rows --help --version"

@@ -1,48 +1,52 @@
-#!/usr/bin/env python3
-"""Draws the pictures of docs/RULES.md: draw-rules FOLDER
+"""Draws the pictures of docs/RULES.md: PYTHONPATH=python python3 -m dev.draw_rules FOLDER
 
 rules_risk.svg, rules_engaged.svg, rules_classes.svg and rules_ranks.svg, with the numbers of examples/crossing.toml. What is at risk, engaged, past and clear is
-reckoned as docs/RULES.md says it. The same script makes the same pictures. It needs Python 3.11 or later, and no package.
+computed as docs/RULES.md states it. The same script makes the same pictures.
 """
+from __future__ import annotations
+
 import math
 import os
 import sys
 import tomllib
+from typing import Any
 
-sys.dont_write_bytecode = True
-HERE = os.path.dirname(os.path.abspath(__file__))
-sys.path.insert(0, os.path.join(HERE, "..", "python"))
-from colregs.page.svg import Picture  # noqa: E402
+from colregs.page.svg import Picture
+from dev.repository import read
+
+Point = tuple[float, float]      # a place or a way on the plane, or a place in a picture
+Numbers = dict[str, Any]      # of a scenario, by table and key
+Meeting = tuple[str, Point, float, Point, Point]      # its kind, both speeds, the course of B, her place from A, and that of A in the picture
 
 INK, GREY, PALE, BLUE, RED, GREEN, AMBER = "#222222", "#777777", "#dddddd", "#0072b2", "#c0392b", "#3f7d20", "#c77700"
 
 
-def numbers():
-    with open(os.path.join(HERE, "..", "examples", "crossing.toml"), "rb") as source:
-        return tomllib.load(source)
+def numbers() -> Numbers:
+    """Returns the scenario whose numbers the pictures show."""
+    return tomllib.loads(read("examples", "crossing.toml"))
 
 
-def nearest(place, way, seconds):
+def nearest(place: Point, way: Point, seconds: float) -> float:
     """When two vessels are nearest up to so many seconds ahead: B's place from A, and her way each second."""
     dot, square = place[0] * way[0] + place[1] * way[1], way[0] ** 2 + way[1] ** 2
     return min(seconds, max(0.0, -dot / square)) if square else 0.0
 
 
-def moved(place, way, seconds):
+def moved(place: Point, way: Point, seconds: float) -> Point:
     return place[0] + way[0] * seconds, place[1] + way[1] * seconds
 
 
-def at_risk(place, way, detect):
+def at_risk(place: Point, way: Point, detect: dict[str, int]) -> bool:
     ahead = moved(place, way, nearest(place, way, detect["horizon"]))
     return math.hypot(*place) <= detect["watch"] and math.hypot(*ahead) < detect["risk"]
 
 
-def past_and_clear(place, way, detect):
+def past_and_clear(place: Point, way: Point, detect: dict[str, int]) -> bool:
     opening = place[0] * way[0] + place[1] * way[1] >= 0
     return opening and not at_risk(place, way, detect) and math.hypot(*place) >= detect["clear"]
 
 
-def hull(picture, at, course, fill, size=9):
+def hull(picture: Picture, at: Point, course: float, fill: str, size: float = 9) -> None:
     """A vessel from above, with her bow along the course."""
     angle = math.radians(course)
     points = []
@@ -52,28 +56,28 @@ def hull(picture, at, course, fill, size=9):
     picture.add("polygon", points=" ".join("%.1f,%.1f" % point for point in points), fill=fill, stroke=INK, stroke_width="0.8")
 
 
-def arrow(picture, begin, end, stroke, width=1.6, **more):
-    picture.line(begin, end, stroke, width, **more)
+def arrow(picture: Picture, begin: Point, end: Point, stroke: str, width: float = 1.6) -> None:
+    picture.line(begin, end, stroke, width)
     angle = math.atan2(end[1] - begin[1], end[0] - begin[0])
     for turn in (2.65, -2.65):
         picture.line(end, (end[0] + 8 * math.cos(angle + turn), end[1] + 8 * math.sin(angle + turn)), stroke, width)
 
 
-def ring(picture, at, radius, stroke, **more):
+def ring(picture: Picture, at: Point, radius: float, stroke: str, **more: str) -> None:
     picture.add("circle", cx=float(at[0]), cy=float(at[1]), r=float(radius), fill="none", stroke=stroke, stroke_width="1.2", **more)
 
 
-def arc(at, radius, first, last):
+def arc(at: Point, radius: float, first: float, last: float) -> list[Point]:
     """Points of an arc; degrees clockwise from north."""
     return [(at[0] + radius * math.sin(math.radians(d)), at[1] - radius * math.cos(math.radians(d)))
             for d in (first + (last - first) * k / 60 for k in range(61))]
 
 
-def risk(given):
+def risk(given: Numbers) -> str:
     detect, scale, origin = given["detect"], 8.0, (110.0, 190.0)
     picture = Picture(760, 380, "Risk: where both go on as they do, they come nearer than the risk's distance")
 
-    def on(place):
+    def on(place: Point) -> Point:
         return origin[0] + place[0] / scale, origin[1] - place[1] / scale
 
     ring(picture, origin, detect["risk"] / scale, RED, stroke_dasharray="5 4")
@@ -88,7 +92,7 @@ def risk(given):
     for place, way, words in cases:
         held = at_risk(place, way, detect)
         if held == words[0].startswith("not"):
-            raise SystemExit("draw-rules: a case of risk is drawn otherwise than it is")
+            raise SystemExit("draw_rules: a case of risk is drawn otherwise than it is")
         stroke = RED if held else GREEN
         end = moved(place, way, detect["horizon"])
         end = end if end[0] > -600 else moved(place, way, (place[0] + 600) / -way[0])
@@ -104,7 +108,7 @@ def risk(given):
     return picture.text()
 
 
-def engaged(given):
+def engaged(given: Numbers) -> str:
     detect, tick, scale, origin = given["detect"], given["window"]["tick"], 9.6, (250.0, 170.0)
     picture = Picture(720, 400, "Engaged: from risk on, until past and clear")
     place, states, begun = (4250.0, 150.0), [], False
@@ -115,7 +119,7 @@ def engaged(given):
         states.append((place, risky, begun, clear))
         place = moved(place, way, tick)
 
-    def on(there):
+    def on(there: Point) -> Point:
         return origin[0] + there[0] / scale, origin[1] - there[1] / scale
 
     ring(picture, origin, detect["risk"] / scale, RED, stroke_dasharray="5 4")
@@ -132,27 +136,27 @@ def engaged(given):
     for k, line, down, side in ((first, "risk begins", 24, "end"), (calm, "no risk, still engaged", -14, "start"), (last, "past and clear", -14, "end")):
         at = on(states[k][0])
         picture.words(at[0] + (20 if k == first else 4), at[1] + down, "step %d: %s" % (k, line), 12, INK, side, halo=True)
-    for row, (name, held, stroke) in enumerate((("risk", 1, RED), ("engaged", 2, AMBER), ("past and clear", 3, GREEN))):
+    for row, (name, field, stroke) in enumerate((("risk", 1, RED), ("engaged", 2, AMBER), ("past and clear", 3, GREEN))):
         y = 326 + 18 * row
         picture.words(112, y + 10, name, 12, INK, "end")
         for k, state in enumerate(states):
-            picture.box(120 + 9 * k, y, 8, 12, stroke if state[held] else PALE)
+            picture.box(120 + 9 * k, y, 8, 12, stroke if state[field] else PALE)
     picture.words(120, 392, "steps 0 to %d, of %d s each" % (len(states) - 1, tick), 11, GREY)
     picture.words(12, 22, "As seen from A: B comes from the right, and from step 18 on they pass wider. A dot is the first tick of a step.", 12)
     return picture.text()
 
 
-def sector(picture, at, radius, first, last, fill):
+def sector(picture: Picture, at: Point, radius: float, first: float, last: float, fill: str) -> None:
     points = [at] + arc(at, radius, first, last)
     picture.add("polygon", points=" ".join("%.1f,%.1f" % point for point in points), fill=fill, stroke="#ffffff", stroke_width="1")
 
 
-def seen(head, place):
+def seen(head: float, place: Point) -> float:
     """At what bearing from her head a vessel sees a place, in degrees."""
     return (math.degrees(math.atan2(place[0], place[1])) - head) % 360
 
 
-def kind(speeds, course, place, given):
+def kind(speeds: Point, course: float, place: Point, given: Numbers) -> str:
     """The kind of a meeting of A, who heads north, and B, by the table of docs/RULES.md."""
     detect, angle = given["detect"], math.radians(course)
     way = speeds[1] * math.sin(angle), speeds[1] * math.cos(angle) - speeds[0]
@@ -172,11 +176,11 @@ def kind(speeds, course, place, given):
     return "passing"
 
 
-def meeting(picture, left, top, case, given):
+def meeting(picture: Picture, left: float, top: float, case: Meeting, given: Numbers) -> None:
     """A, in blue with her bow up, and B, in grey, on a course and in a place."""
     words, speeds, course, place, first = case
     if kind(speeds, course, place, given) != words:
-        raise SystemExit("draw-rules: a kind is drawn otherwise than it is")
+        raise SystemExit("draw_rules: a kind is drawn otherwise than it is")
     at = left + 75 + first[0], top + 85 + first[1]
     picture.box(left, top, 150, 168, "#f7f7f7")
     b, angle = (at[0] + place[0], at[1] - place[1]), math.radians(course)
@@ -191,7 +195,7 @@ def meeting(picture, left, top, case, given):
     picture.words(left + 75, top + 160, words, 13, INK, "middle", "bold")
 
 
-def classes(given):
+def classes(given: Numbers) -> str:
     ahead = given["detect"]["ahead"] / 10
     picture = Picture(830, 384, "Where a vessel sees another, and the kinds of a meeting")
     at, radius = (175, 200), 120
@@ -215,7 +219,7 @@ def classes(given):
     return picture.text()
 
 
-def ranks(given):
+def ranks(given: Numbers) -> str:
     names = ["power-driven", "sailing", "fishing", "restricted", "not under command"]
     picture = Picture(736, 250, "Who gives way by rank")
     picture.words(12, 22, "A row says what A is, a column what B is. Restricted: in her ability to manoeuvre.", 12)
@@ -233,13 +237,20 @@ def ranks(given):
 DRAWINGS = {"rules_risk.svg": risk, "rules_engaged.svg": engaged, "rules_classes.svg": classes, "rules_ranks.svg": ranks}
 
 
-def main():
+def drawings() -> dict[str, str]:
+    """Returns each drawing by the name of its file in docs/."""
+    given = numbers()
+    return {name: draw(given) for name, draw in DRAWINGS.items()}
+
+
+def main() -> None:
+    """Writes the drawings into the folder that the command line names."""
     if len(sys.argv) != 2 or sys.argv[1].startswith("-"):
         sys.exit(__doc__)
-    given = numbers()
-    for name, draw in DRAWINGS.items():
+    for name, text in drawings().items():
         with open(os.path.join(sys.argv[1], name), "w", encoding="utf-8", newline="") as out:
-            out.write(draw(given))
+            out.write(text)
 
 
-main()
+if __name__ == "__main__":
+    main()
