@@ -48,7 +48,7 @@ def about_files(table: dict[str, Any]) -> dict[str, str]:
     """Returns the files about the package: metadata, the kind of wheel, and the commands."""
     metadata = [f"Metadata-Version: 2.1\nName: {table['name']}\nVersion: {table['version']}\nSummary: {table['description']}\n"
                 f"License: {table['license']['text']}\nRequires-Python: {table['requires-python']}\n"]
-    commands = "".join(f"{name} = {target}\n" for name, target in sorted(table["scripts"].items()))
+    commands = "".join(f"colregs-{name} = colregs.cli.{name}:command\n" for name in pages().names())
     return {"METADATA": metadata[0], "WHEEL": f"Wheel-Version: 1.0\nGenerator: build_offline\nRoot-Is-Purelib: true\nTag: {TAG}\n",
             "entry_points.txt": f"[console_scripts]\n{commands}"}
 
@@ -78,11 +78,16 @@ class Wheel:
         self.zip.close()
 
 
+def pages() -> Any:
+    """Returns the module that lists the commands and writes their pages."""
+    if HERE not in sys.path:
+        sys.path.insert(0, HERE)
+    return importlib.import_module("colregs.cli.pages")
+
+
 def shared_files(table: dict[str, Any]) -> Iterator[tuple[str, bytes]]:
     """Yields the manual pages and completions, by where a wheel has them."""
-    sys.path.insert(0, HERE)
-    pages = importlib.import_module("colregs.cli.pages").pages()
-    for path, text in sorted(pages.items()):
+    for path, text in sorted(pages().pages().items()):
         kind, _, name = path.partition("/")
         yield f"{base_name(table)}.data/data/{SHARED[kind]}/{name}", text.encode()
 

@@ -3,7 +3,6 @@ import os
 import re
 import subprocess
 import sys
-import tomllib
 import unittest
 
 from given import InFolder, TOOLS, TOP, needs, text_of
@@ -54,10 +53,8 @@ class Pages(InFolder):
             self.assertEqual((status, out, error.count("\n")), (2, "", 1), error)
             self.assertTrue(error.startswith(name.removeprefix("colregs-") + ": "), error)
 
-    def test_the_package_installs_each_command(self) -> None:
-        with open(os.path.join(TOP, "python", "pyproject.toml"), "rb") as source:
-            scripts = tomllib.load(source)["project"]["scripts"]
-        self.assertEqual(scripts, {name: f"colregs.cli.{name.removeprefix('colregs-')}:command" for name in COMMANDS})
+    def test_each_command_has_its_tool_in_the_clone(self) -> None:
+        self.assertEqual(COMMANDS, [f"colregs-{name}" for name in pages.names()])
 
     def test_an_older_python_ends_with_one_sentence(self) -> None:
         script = ("import sys; sys.version_info = (3, 9, 2); sys.path.insert(0, sys.argv[1]); from colregs.start import start; start('case')")
