@@ -6,7 +6,7 @@
 
 ghost use Rattle.std.specs.Prelude.{◌≡◌, MatchOption};
 ghost use Rattle.colregs_c.specs.Arguments.{asked_mode};
-ghost use Rattle.colregs_c.specs.Calls.{Leaves, Refuses, call_of};
+ghost use Rattle.colregs_c.specs.Calls.{Leaves, Left, Refuses, call_of};
 ghost use Rattle.colregs_c.specs.Rooms.{Fills};
 
 mod arguments;
@@ -15,10 +15,9 @@ pub mod laws;
 mod numbers;
 mod running;
 
-pub use numbers::{OWN_START, OWN_TICKS, OptionNumbers};
-
 use crate::running::end_of_call;
 use colregs_program::Status;
+pub use numbers::{OWN_START, OWN_TICKS, OptionNumbers};
 use out_of_memory::Memory;
 use std::alloc::Global;
 
@@ -60,12 +59,16 @@ pub extern "C" fn colregs_report(
     fault: &mut [u8],
     fault_length: &mut usize,
 ) -> u8
-    ensures { let left = record {
-            result = result;
-            room = out.old; room' = out.new; length = length.new;
-            line_room = fault.old; line_room' = fault.new; line_length = fault_length.new;
-        } in MatchOption (asked_mode mode options.now) (Refuses left)
-            (λ asked. Leaves (call_of asked options.now scenario.now log.now rows.now) left) }
+    ensures { let left : Left = record {
+      result = result;
+      room = out.old;
+      room' = out.new;
+      length = length.new;
+      line_room = fault.old;
+      line_room' = fault.new;
+      line_length = fault_length.new;
+    } in MatchOption (asked_mode mode options.now) (Refuses left)
+        (λ asked. Leaves (call_of asked options.now scenario.now log.now rows.now) left) }
 {
     match end_of_call(alloc, mode, options, scenario, log, rows) {
         Ok(end) => {

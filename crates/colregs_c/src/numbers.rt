@@ -11,8 +11,11 @@ pub const OWN_START: u64 = 18446744073709551615;
 pub const OWN_TICKS: u32 = 0;
 
 const GREATEST_START: u64 = 9_999_999_999;
+
 const MOST_TICKS: u32 = 20_000;
+
 const GREATEST_SEED: u32 = 999_999;
+
 const GREATEST_FLAGS: u32 = 1;
 
 /// The options of a call.

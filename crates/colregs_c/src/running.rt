@@ -63,20 +63,17 @@ fn run_with(
     rows: &[u8],
 ) -> Result<Ended, Memory>
     ensures { IfOk result (IsEndOf (record {
-        arguments = words.now; scenario = scenario.now; rows = rows.now; log = log.now })) }
+      arguments = words.now;
+      scenario = scenario.now;
+      rows = rows.now;
+      log = log.now;
+    })) }
 {
     let mut shelf = shelf_of(alloc, scenario, rows)?;
     let mut source = LentLog { rest: log };
     let mut out = GatheredText::new(alloc);
     let mut err = GatheredText::new(alloc);
-    let status = run(
-        alloc,
-        words,
-        &mut shelf,
-        &mut source,
-        &mut out,
-        &mut err,
-    );
+    let status = run(alloc, words, &mut shelf, &mut source, &mut out, &mut err);
     end_of(status, out, err)
 }
 
