@@ -1,5 +1,5 @@
 -- What the clauses of `run` say if the shelf, the log and the sinks are in memory.
-use Rattle.std.proofs.Common.{¬◌, Vec, ◌∙◌, ℕ, ◌≡◌, ◌≢◌, ◌≤◌, ◌+◌, ◌⊎◌, inl, inr, IsTrue, Bool, true, false, List, [], ◌++◌, length, Option, Some, None, refl, sym, subst, ap, arith}
+use Rattle.std.proofs.Common.{Vec, ◌∙◌, ℕ, ◌≡◌, ◌≢◌, ◌≤◌, ◌+◌, ◌⊎◌, inl, inr, IsTrue, Bool, true, false, List, [], ◌++◌, length, Option, Some, None, refl, sym, subst, ap, arith}
 use Rattle.std.specs.Prelude.{IfSome, IfOk, Result, Ok, Err}
 use Rattle.std.specs.declared.alloc.Global.{Global}
 use Rattle.out_of_memory.specs.declared.Memory.{Memory}
