@@ -28,7 +28,7 @@ class Release(InFolder):
 
     def test_both_hold_the_program_the_tools_and_what_they_were_made_of(self) -> None:
         self.assertEqual(self.made("--untested"), (0, ""))
-        tar, deb = (next(os.path.join(self.path("out"), name) for name in os.listdir(self.path("out")) if name.endswith(end)) for end in (".gz", ".deb"))
+        tar, deb = (next(os.path.join(self.path("out"), name) for name in os.listdir(self.path("out")) if name.startswith(begin)) for begin in ("colregs-", "colregs_"))
         os.makedirs(self.path("unpacked"))
         subprocess.run(["tar", "-xzf", tar, "-C", self.path("unpacked")], check=True)
         subprocess.run(["dpkg-deb", "-x", deb, self.path("root")], check=True)

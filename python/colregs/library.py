@@ -21,7 +21,7 @@ from colregs.typed_rows import Alarm, Meeting, PlanLeg, Point, Reason, Row, Rows
 INTERFACE = 1                       # the interface that include/colregs.h describes
 MODES = ("points", "audit", "plan", "drill", "migrate", "recheck", "watch")     # by the library's numbers, from 0
 VARIABLE = "COLREGS_LIBRARY"        # names a library to use
-BUILT = os.path.join(TOP, "crates", "colregs_c", "out", "library", "lib", f"libcolregs.so.{INTERFACE}")      # the library of this clone, as .ci/library makes it
+BUILT = os.path.join(TOP, ".cache", "library", "lib", f"libcolregs.so.{INTERFACE}")      # the library of this clone, as .ci/library makes it
 INSTALLED = f"libcolregs.so.{INTERFACE}"    # the system's loader finds it
 
 DONE, NO_MANOEUVRE, OUT_OF_MEMORY = 0, 1, 8
