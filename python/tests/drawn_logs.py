@@ -30,6 +30,7 @@ from colregs.shares.jobs import Job, job_of  # noqa: E402
 
 START, TICK = 1700006400, 10
 FIRST_MMSI = 200000001
+PROGRESS = 100                      # logs between two lines on standard error
 METRE = 1 / 0.1852                  # units of 1/10000 minute at the equator, where the scenarios lie
 KNOT = 1852 / 3600                  # m/s
 FORMULAS = ("engaged -> clear(150)", "begin -> !O[60,900] begin", "O[0,300] risk -> G[0,60] clear(60)", "risk -> H[0,120] seen", "seen", "close(2000) -> F[0,60] engaged",
@@ -360,6 +361,8 @@ def main() -> int:
         if outcome.faults:
             failed += 1
             print(f"{number}: {outcome.word}: " + "; ".join(outcome.faults[:4]), flush=True)
+        if (number + 1 - given.first) % PROGRESS == 0:
+            print(f"{number + 1 - given.first} of {given.count} logs, {failed} failed", file=sys.stderr, flush=True)
     print(f"{given.count} logs, {rows} rows, {marked} of them marked, {failed} failed, {time.time() - begin:.0f} s: {dict(counts)}")
     return 1 if failed else 0
 

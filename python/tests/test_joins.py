@@ -19,6 +19,7 @@ from colregs.io import sentences
 from colregs.io.lines import Joiner, Sentence, Stamps, bits_of, line_of, sentence_of, stamp_of_block
 from colregs.model.formulas import YES, sight_of
 from colregs.model.scenario import Scenario
+from colregs.run.limits import next_step
 from colregs.shares.jobs import whole_result
 from colregs.shares.spans import Span, believed
 
@@ -275,3 +276,12 @@ class Parts(InFolder):
     def test_a_scenario_of_ranks_says_so(self) -> None:
         self.assertTrue(Scenario(self.write("s.toml", RANKS)).ranks)
         self.assertFalse(Scenario(self.write("s.toml", SCENARIO)).ranks)
+
+    def test_each_limit_has_its_number_and_a_next_step(self) -> None:
+        # the words of docs/REPORT.md
+        for words, number, step in (("limit: log 1073741824", "1 GiB", "split the log"), ("limit: vessels 4096", "4096", "--tiles"),
+                                    ("limit: pairs 4096", "4096", "subjects"), ("limit: targets 64", "64", "own.range"), ("limit: scenario 1048576", "1 MiB", "shorten"),
+                                    ("limit: rows 16777216", "16 MiB", "rows")):
+            self.assertIn(number, next_step(7, words))
+            self.assertIn(step, next_step(7, words))
+        self.assertEqual((next_step(3, "scenario: window.ticks: range"), next_step(7, "")), ("", ""))

@@ -14,10 +14,11 @@ from colregs.io.files import read_bytes
 from colregs.io.logs import sampled
 from colregs.io.sentences import ship_place
 from colregs.model.scenario_checks import Finding, numbers_at
+from colregs.run.limits import next_step
 from colregs.run.program import Columns, Run
 
 REFUSED = {3: "the first key with a fault is told; docs/SCENARIO.md has its range", 4: "is its name right, and may it be read",
-           7: "docs/ROWS.md says what to do at a limit", 9: "own ship must be in the log before the window's end, with course and speed"}
+           9: "own ship must be in the log before the window's end, with course and speed"}
 NO_SENTENCE = ("empty", "long", "tag", "other", "form", "sum", "armour")
 SHOWN = 5                               # of more findings of one name than this the number is told
 STILL = 5                               # 1/10 knot: who never makes this lies still
@@ -83,7 +84,7 @@ def read_scenario(path: str) -> dict[str, Any]:
 
 def refusal(mode: str, run: Run) -> Finding:
     """Returns the finding for a run that the program refused."""
-    more = REFUSED.get(run.status, "docs/ROWS.md has the status")
+    more = next_step(run.status, run.words)[2:] or REFUSED.get(run.status, "docs/ROWS.md has the status")
     return Finding("refused run", f"the program ends `{mode}` with status {run.status}, {run.words}: {more}")
 
 

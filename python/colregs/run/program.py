@@ -8,6 +8,7 @@ from collections.abc import Container, Sequence
 from typing import NamedTuple
 
 from colregs.errors import Fault, reason
+from colregs.run.limits import next_step
 
 TOP = os.path.dirname(os.path.dirname(os.path.dirname(os.path.dirname(os.path.abspath(__file__)))))     # a clone, a tarball, or nothing of ours
 BUILT = os.path.join(TOP, "crates", "colregs", "out", "colregs")      # what the command at the top of a clone runs
@@ -109,7 +110,8 @@ def report_of(program: str, mode: str, scenario: str, log: str, good: Container[
     """Returns the report of the program; raises a Fault with its line on standard error if its status is not a good one."""
     done = Run(program, mode, scenario, log, options)
     if done.status not in good:
-        raise Fault(f"the program ends `{mode}` with status {done.status}, {done.words}; docs/ROWS.md says what to do at each status")
+        step = next_step(done.status, done.words) or "; docs/ROWS.md says what to do at each status"
+        raise Fault(f"the program ends `{mode}` with status {done.status}, {done.words}{step}")
     return done.text.decode()
 
 

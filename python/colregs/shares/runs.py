@@ -12,12 +12,12 @@ from dataclasses import dataclass
 
 from colregs.errors import Fault, reason
 from colregs.io.files import read_bytes
+from colregs.run.limits import STATUS, next_step
 from colregs.run.pipes import TOOL, Ended, module, piped, reader
 from colregs.shares.cutter import Cut
 from colregs.shares.jobs import Job, Kept
 from colregs.shares.results import merged, vessels_of
 
-LIMIT = 7               # status of a run that meets a limit (docs/REPORT.md)
 FIRST_GROUP = 64        # subjects of the first groups into which a share with too many pairs is split
 MOST_TASKS = 1000       # of an array: Slurm's MaxArraySize is 1001 unless it is set
 STALE = 24 * 3600       # s after which the folder of a run that ended without removing it goes
@@ -84,10 +84,10 @@ def run_one(job: Job, kept: Kept, program: str) -> bool:
         room = Room(folder, job, kept, program)
         source = room.source()
         done = room.audited(source, job.subjects)
-        if done.status == LIMIT and "pairs" in done.words:
+        if done.status == STATUS and "pairs" in done.words:
             report = split(room, source, done)
         elif done.status != 0:
-            raise Fault(f"{job.words()} ends with status {done.status}, {done.words}{advice(done)}")
+            raise Fault(f"{job.words()} ends with status {done.status}, {done.words}{next_step(done.status, done.words)}")
         else:
             report = room.report()
         kept.keep(job, report + seen(room, source))
@@ -119,10 +119,10 @@ def split(room: Room, source: str, done: Ended) -> bytes:
     while groups:
         group = groups.pop(0)
         done = room.audited(source, group)
-        if done.status == LIMIT and "pairs" in done.words and len(group) > 1:
+        if done.status == STATUS and "pairs" in done.words and len(group) > 1:
             groups = halves(group) + groups
         elif done.status != 0:
-            raise Fault(f"{job.words()} ends with status {done.status}, {done.words}{advice(done)}")
+            raise Fault(f"{job.words()} ends with status {done.status}, {done.words}{next_step(done.status, done.words)}")
         else:
             reports.append((group, room.report().decode("utf-8", "replace")))
     return merged(reports, bool(own), job.words()).encode()
@@ -138,17 +138,8 @@ def heard(room: Room, source: str) -> list[int]:
     """Returns the vessels of a share's log, from an audit with one subject that is nobody's MMSI."""
     done = room.audited(source, [799999999])
     if done.status != 0:
-        raise Fault(f"{room.job.words()} ends with status {done.status}, {done.words}{advice(done)}")
+        raise Fault(f"{room.job.words()} ends with status {done.status}, {done.words}{next_step(done.status, done.words)}")
     return vessels_of(room.report().decode("utf-8", "replace"))
-
-
-def advice(done: Ended) -> str:
-    """Returns what to do about a limit, by the words of the run that met it."""
-    steps = {"pairs": "one vessel alone meets too many: plan with a smaller `detect.watch`, with shorter --ticks-each, or with --tiles",
-             "vessels": "a run takes 4096 vessels: plan with --tiles, or with more of them, or with shorter --ticks-each",
-             "log": "a run takes 1 GiB of log: plan with shorter --ticks-each, or with --tiles"}
-    found = [step for name, step in steps.items() if name in done.words]
-    return f": {found[0]}" if done.status == LIMIT and found else ""
 
 
 def clear(folder: str) -> None:

@@ -20,6 +20,7 @@ from colregs.io.files import replace
 from colregs.io.sieve import Senders
 from colregs.io.sources import stamped
 from colregs.model.scenario import MOST_SUBJECTS, Scenario
+from colregs.run.limits import next_step
 from colregs.shares.heads import STRADDLE
 from colregs.stream.beginnings import Beginnings
 from colregs.stream.day_files import Clock, DayFiles, Mark, MedianClock, lines_of
@@ -263,7 +264,7 @@ class Follow:
         elif status < 0 and self.restarts.get(run.key(), 0) < MOST_RESTARTS:
             self.begin_again(run)
         elif status != 0:
-            self.fault(f"a run of `{run.mode}` from {run.window.start} ended with status {status}, {words}")
+            self.fault(f"a run of `{run.mode}` from {run.window.start} ended with status {status}, {words}{next_step(status, words)}")
 
     def begin_again(self, run: StreamRun) -> None:
         """Begins a run again that was killed, from the day files; the rows that it wrote are not written again."""
@@ -280,7 +281,7 @@ class Follow:
         """Splits a run with too many pairs into runs of groups, and a group into two."""
         vessels = sorted(run.group or self.vessels(run.window))
         if len(vessels) < 2:
-            self.fault(f"one vessel alone meets too many: {vessels}")
+            self.fault(f"{vessels[0]} alone is in contact with more vessels than 4096 pairs take: take a smaller `detect.watch`, or a shorter --ticks-each")
             return
         before = set(self.runs)
         if run.group is None:
