@@ -1,2 +1,3 @@
 pub mod Answering
 mod Asking
+pub mod Showing

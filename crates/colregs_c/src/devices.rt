@@ -1,5 +1,5 @@
 //! A source and a sink over the memory of a call.
-ghost use Rattle.std.specs.Prelude.{◌≡◌, ◌<◌, length, Some};
+ghost use Rattle.std.specs.Prelude.{◌≡◌, ◌<◌, [], length, Some};
 ghost use Rattle.outside.specs.Streams.{Gives, ReadCause, Takes, WriteCause};
 
 use outside::{Put, Sink, Source, Taken};

@@ -6,7 +6,7 @@
 
 ghost use Rattle.std.specs.Prelude.{◌≡◌, MatchOption};
 ghost use Rattle.colregs_c.specs.Arguments.{asked_mode};
-ghost use Rattle.colregs_c.specs.Calls.{Leaves, Refuses, call_of};
+ghost use Rattle.colregs_c.specs.Calls.{Leaves, Left, Refuses, call_of};
 ghost use Rattle.colregs_c.specs.Rooms.{Fills};
 
 mod arguments;
@@ -59,7 +59,7 @@ pub extern "C" fn colregs_report(
     fault: &mut [u8],
     fault_length: &mut usize,
 ) -> u8
-    ensures { let left = record {
+    ensures { let left : Left = record {
       result = result;
       room = out.old;
       room' = out.new;

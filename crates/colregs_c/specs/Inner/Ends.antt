@@ -9,7 +9,7 @@ use Rattle.colregs_c.specs.declared.running.Ended.{Ended}
 
 -- The end has the answer and all that was written, and memory did not run out.
 pub record AreWhole (answer : Status) (out err : GatheredText) (end : Ended) : Type 0 where
-  pub status : end.status ≡ answer
+  pub same : end.status ≡ answer
   pub report : end.report ≡ out.bytes
   pub line : end.line ≡ err.bytes
   pub remembered : answer ≢ status.Memory
@@ -23,6 +23,6 @@ pub record IsEndOf (call : Call) (end : Ended) : Type 0 where
 
 -- The end is that of a call whose numbers are out of their ranges.
 pub record IsRefusal (end : Ended) : Type 0 where
-  pub status : end.status ≡ status.Usage
+  pub usage : end.status ≡ status.Usage
   pub report : end.report.items ≡ []
   pub line : end.line.items ≡ fault_line end.status
