@@ -7,7 +7,7 @@ use Rattle.command_line.specs.declared.request.ReportRequest.{ReportRequest}
 use Rattle.drill_log.specs.DrillLog.{drill_log_of}
 use Rattle.scenario_values.specs.declared.values.Scenario.{Scenario}
 use Rattle.sessions.specs.Endings.{IsAnswerTo}
-use Rattle.tasks.specs.Modes.{Focus, nothing, reads_log}
+use Rattle.tasks.specs.Modes.{Focus, reads_log}
 use Rattle.tasks.specs.Tasks.{says_why, task_mode, task_seed}
 use Rattle.tasks.proofs.ForCallers.{made_at_end}
 use Rattle.sessions.specs.Refusals.{IsStopped, IsUnrefused}

@@ -1,8 +1,8 @@
 -- The answer that words, shelf and log call for, step by step.
-use Rattle.std.proofs.Common.{ℕ, ◌≡◌, ◌≤◌, ◌<◌, inl, inr, Bool, true, false, IsTrue, List, length, Option, Some, Result, Ok, Err, refl, ap, sym, subst}
+use Rattle.std.proofs.Common.{ℕ, ◌≡◌, ◌≤◌, ◌<◌, inl, inr, Bool, true, false, List, length, Option, Some, Result, Ok, Err, refl, ap, sym, subst}
 use Rattle.outside.specs.Shelves.{Files, IsMissing}
 use Rattle.scenario_values.specs.declared.values.Scenario.{Scenario}
-use Rattle.colregs_program.specs.Answers.{AreRows, AreRowsWhere, AskForMigration, CanMigrate, HasLongRows, HasScenario, IsDue, IsRefusedBy, LiesUnder, MayMigrate, MeetsAnswer, MissesFile, ReportRequested, Requested, greatest_scenario}
+use Rattle.colregs_program.specs.Answers.{AreRows, AreRowsWhere, AskForMigration, CanMigrate, HasLongRows, HasScenario, IsDue, IsRefusedBy, LiesUnder, MeetsAnswer, MissesFile, ReportRequested, Requested, greatest_scenario}
 use Rattle.tasks.specs.Modes.{needs_rows}
 use Rattle.tasks.specs.Tasks.{task_mode, task_rows}
 use Rattle.colregs_program.specs.Inner.Migrating.{IsMigrationDue}
@@ -14,7 +14,7 @@ use Rattle.command_line.specs.declared.request.Request.{Request}
 use Rattle.command_line.specs.declared.request.Request.TheVariants as asks
 use Rattle.command_line.proofs.Asked.{asked_or_nothing, one_asked}
 use Rattle.colregs_program.specs.AskedScenarios.{log_of, scenario_name, task_of}
-use Rattle.colregs_program.specs.Inner.SetUps.{AreRowsDue, AreRowsDueWhere, IsScenarioDue, IsSetUpDue, SetFor, answer_of}
+use Rattle.colregs_program.specs.Inner.SetUps.{AreRowsDue, AreRowsDueWhere, IsSetUpDue, SetFor, answer_of}
 use Rattle.colregs_program.specs.declared.set_up.SetUpFault.{SetUpFault}
 use Rattle.colregs_program.specs.declared.set_up.SetUpFault.TheVariants as fault
 use Rattle.colregs_program.specs.declared.status.Status.{Status}

@@ -1,5 +1,5 @@
 -- Setting up comes to one thing, and so does a run that reports.
-use Rattle.std.proofs.Common.{ℕ, ◌≡◌, ◌≤◌, ◌<◌, ◌∙◌, inl, inr, Bool, true, false, IsTrue, List, length, Option, Some, Result, Ok, Err, refl, ap, sym, subst, arith}
+use Rattle.std.proofs.Common.{ℕ, ◌≡◌, ◌≤◌, ◌<◌, ◌∙◌, inl, inr, Bool, true, false, List, length, Option, Some, Result, Ok, Err, refl, ap, sym, subst, arith}
 use Rattle.outside.specs.Shelves.{Files, content_of}
 use Rattle.command_line.specs.Requests.{AskFor}
 use Rattle.command_line.specs.declared.request.ReportRequest.{ReportRequest}

@@ -8,7 +8,7 @@ use Rattle.drill_log.specs.DrillLog.{drill_log_of}
 use Rattle.scenario_values.specs.declared.values.Scenario.{Scenario}
 use Rattle.scenario_values.specs.declared.values.Window.{Window}
 use Rattle.tasks.specs.Modes.{needs_rows, reads_log}
-use Rattle.tasks.specs.Tasks.{says_why, task_mode, task_rows, task_seed}
+use Rattle.tasks.specs.Tasks.{says_why, task_mode, task_seed}
 use Rattle.sessions.specs.Tasks.{Task}
 
 -- the window, with the start and the length that are given in place of its own

@@ -1,5 +1,5 @@
 -- What a caller may conclude of words and their request.
-use Rattle.std.proofs.Common.{ℕ, ◌≡◌, ◌≤◌, ◌∙◌, Bool, true, false, refl, ap, subst, arith, codes, List, [], ◌∷◌, Option, Some, None}
+use Rattle.std.proofs.Common.{ℕ, ◌≡◌, ◌≤◌, Bool, true, false, refl, subst, arith, codes, List, [], ◌∷◌, Option, Some, None}
 use Rattle.std.specs.Prelude.{IfSome}
 use Rattle.clap.specs.Words.{Text, first_of, matches_of}
 use Rattle.tasks.specs.Tasks.{task_seed}
@@ -13,7 +13,6 @@ use Rattle.command_line.specs.declared.arguments.Options.{Options}
 use Rattle.command_line.specs.declared.mode.ModeArgument.{ModeArgument}
 use Rattle.command_line.specs.declared.mode.ModeArgument.TheVariants as argument
 use Rattle.command_line.specs.declared.request.ReportRequest.{ReportRequest}
-use Rattle.command_line.specs.declared.request.Request.{Request}
 use Rattle.command_line.specs.declared.request.Request.TheVariants as request
 use Rattle.command_line.proofs.ByKind.{number_lies}
 

@@ -1,4 +1,4 @@
-use Rattle.std.proofs.Common.{ℕ, List, ◌≡◌, ◌≤◌, length, inl, inr, true, false, IsTrue, Err, refl, subst, sym, ◌∙◌, ap}
+use Rattle.std.proofs.Common.{ℕ, List, ◌≡◌, inl, inr, true, false, IsTrue, Err, refl, subst}
 use Rattle.command_line.proofs.Asked.{asked_or_nothing}
 use Rattle.command_line.specs.Requests.{AskFor}
 use Rattle.command_line.specs.declared.request.ReportRequest.{ReportRequest}

@@ -1,18 +1,16 @@
-use Rattle.std.proofs.Common.{ℕ, ◌≡◌, ◌∙◌, Option, List, Some, IsTrue, false, None, ap, subst, sym}
-use Rattle.std.specs.Prelude.{IfSome, IsSome}
+use Rattle.std.proofs.Common.{◌≡◌, ◌∙◌, Some, IsTrue, false, None, ap, subst, sym}
+use Rattle.std.specs.Prelude.{IsSome}
 use Rattle.std.proofs.lemmas.Result.{IfErr-weaker, IfOk-weaker}
 use Rattle.outside.proofs.ForCallers.{err_cause}
 use Rattle.drill_laws.specs.Limits.{MeetsNoLimit}
 use Rattle.drill_log.specs.DrillLog.{drill_log_of}
-use Rattle.sessions.specs.Tasks.{Task, task_by}
+use Rattle.sessions.specs.Tasks.{task_by}
 use Rattle.sessions.specs.declared.asked.Asked.{Asked}
 use Rattle.tasks.specs.Modes.{needs_own}
-use Rattle.tasks.specs.Tasks.{says_why, task_mode}
+use Rattle.tasks.specs.Tasks.{task_mode}
 use Rattle.tasks.specs.declared.mode.Mode.{Mode}
 use Rattle.tasks.proofs.ForCallers.{makes_drill}
-use Rattle.colregs_program.specs.AskedScenarios.{log_of, task_of}
-use Rattle.colregs_program.specs.LogAnswers.{Reports}
-use Rattle.colregs_program.specs.Inner.Streaming.{StreamCause}
+use Rattle.colregs_program.specs.AskedScenarios.{log_of}
 use Rattle.colregs_program.proofs.AskedLogs.{cause_alike, cause_of_made, cause_of_read, log_is, log_read, reported_on, same_task}
 use Rattle.colregs_program.proofs.DrillAnswers.{drill_faults, drill_reports}
 use Rattle.colregs_program.proofs.StreamedReports.{none_begun}

@@ -1,8 +1,6 @@
-use Rattle.std.proofs.Common.{◌≡◌, ◌∙◌, ◌⊎◌, inl, inr, ap, sym, refl}
+use Rattle.std.proofs.Common.{◌≡◌, ◌∙◌, ◌⊎◌, inl, inr, ap, sym}
 use Rattle.std.specs.Prelude.{Err, Ok, Result}
-use Rattle.clap.specs.Words.{Text}
-use Rattle.command_line.specs.GivenArguments.{GiveArguments}
-use Rattle.command_line.specs.Requests.{AskFor, request_by}
+use Rattle.command_line.specs.Requests.{request_by}
 use Rattle.command_line.specs.declared.arguments.Arguments.{Arguments}
 use Rattle.command_line.specs.declared.arguments.WordsFault.{WordsFault}
 use Rattle.command_line.specs.declared.arguments.WordsFault.TheVariants.{Memory}
