@@ -73,7 +73,10 @@ def the_program(given: str | None) -> str:
 def run(name: str, program: str) -> bool:
     """Runs a check, prints what it found, and returns whether it passed."""
     found = Findings(program)
-    module(name).check(found)
+    try:
+        module(name).check(found)
+    except OSError as error:
+        found.fault(f"{error.filename}: {error.strerror}")
     for note in found.notes:
         print(f"{name}: note: {note}")
     for fault in found.faults:

@@ -1,7 +1,7 @@
 """Measures the gate: python3 -m dev.gate [--of PID] [CRATE ..]
 
 Runs `rt ci` with these words at the top of the repository, and adds the CPU seconds of each crate's proof, of its tests and of its must-fail edits to the tables in
-bench/data. With --of PID it runs nothing, and watches what that process starts until it ends, or until a signal TERM says that the gate has passed. What a kit's
+dev/bench/data. With --of PID it runs nothing, and watches what that process starts until it ends, or until a signal TERM says that the gate has passed. What a kit's
 gate has cached from an earlier run takes no time and gets no row; a run in which every crate was proved also gets a row of its own. `rt ci --anew` proves everything.
 
 The seconds are those that the kernel counts for each check, read four times a second, so a check may lack a quarter of a second.
@@ -24,7 +24,7 @@ from dataclasses import dataclass, field
 from dev.kit import SETTINGS
 from dev.repository import TOP, listed_crates, path_of, read_if_there
 
-RUNS, CRATES = path_of("bench", "data", "gate.csv"), path_of("bench", "data", "gate_crates.csv")
+RUNS, CRATES = path_of("dev", "bench", "data", "gate.csv"), path_of("dev", "bench", "data", "gate_crates.csv")
 TICKS = os.sysconf("SC_CLK_TCK")      # of the kernel's clock for CPU time, in a second
 EACH = 0.25      # seconds between two looks
 Check = tuple[str, str]      # a crate, and `proof`, `tests` or `edits`
@@ -134,7 +134,7 @@ def edits_of(crate: str) -> int:
 
 
 def crate_rows(table: dict[Check, float], names: list[str], date: str, commit: str) -> list[list[str]]:
-    """Returns the rows of the crates that were checked, as bench/data/gate_crates.csv has them."""
+    """Returns the rows of the crates that were checked, as dev/bench/data/gate_crates.csv has them."""
     rows = []
     for name in names:
         proof, tests, edits = (table.get((name, kind)) for kind in ("proof", "tests", "edits"))

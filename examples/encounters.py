@@ -10,7 +10,7 @@ import sys
 import tomllib
 
 HERE = os.path.dirname(os.path.abspath(__file__))
-sys.path.insert(0, os.path.join(HERE, "..", "bench"))
+sys.path.insert(0, os.path.join(HERE, "..", "dev", "bench"))
 from sentences import armour, position_report, sentence, tagged, voyage  # noqa: E402
 
 METRES = 1852

@@ -2,7 +2,7 @@
 
 A command is in a fenced block of the kind `console`, in a line that begins with `$ `; a line after it that begins with `> ` continues it. What it writes follows, on
 standard output and standard error; a line `..` stands for any lines. The blocks of a page run in order, in one empty folder that has the program as ./colregs, and
-`examples`, `tools`, `python` and `bench`. No other fenced block may show a command. A block is skipped, with a note, if it needs sqlite3, jq, parallel, GDAL or a C
+`examples`, `tools` and `python`. No other fenced block may show a command. A block is skipped, with a note, if it needs sqlite3, jq, parallel, GDAL or a C
 compiler, or the library for C, and the machine lacks it. `python3 -m dev.checks.commands PROGRAM` writes what the commands print that show nothing yet into the pages.
 """
 from __future__ import annotations
@@ -21,9 +21,9 @@ from dev.repository import path_of, read
 NEEDS_PROGRAM = True
 END = "\x01end of a command\x01"
 TOOLS = ["sqlite3", "jq", "parallel", "ogr2ogr", "ogrinfo", "cc", "pkg-config"]      # what a machine may lack
-LIBRARY = path_of("crates", "colregs_c", "out", "library", "lib")      # what .ci/library made
+LIBRARY = path_of(".cache", "library", "lib")      # what .ci/library made
 SECONDS = 600      # the longest run of a block
-FOLDERS = ("examples", "tools", "python", "bench")
+FOLDERS = ("examples", "tools", "python")
 LINES = 30      # the most lines that a fault shows
 
 

@@ -5,8 +5,8 @@ dev/english_allowed has lines `clean PATTERN`, for files in which a finding fail
 """
 from __future__ import annotations
 
-import fnmatch
 import io
+import pathlib
 import re
 import subprocess
 import sys
@@ -20,6 +20,7 @@ from dev.repository import TOP, path_of, read
 
 NEEDS_PROGRAM = False
 ALLOWED = ("dev", "english_allowed")
+NOT_PROSE = ("tests/cases/", "dev/checks/english.py", "dev/tests/test_checks.py")      # data, and these words as data
 FIRST = 20      # the most findings that the check prints
 
 # Each pattern with what to write instead.
@@ -120,7 +121,7 @@ class Allowed:
 
     def is_clean(self, path: str) -> bool:
         """Returns whether a file may have no finding."""
-        return any(fnmatch.fnmatchcase(path, pattern) for pattern in self._clean)
+        return any(pathlib.PurePosixPath(path).match(pattern) for pattern in self._clean)
 
     def allows(self, finding: Finding) -> bool:
         """Returns whether a finding may stay, and notes that it is there."""
@@ -132,7 +133,7 @@ class Allowed:
 def files() -> Iterable[str]:
     """Returns the files of the repository that git knows or would take, but for data."""
     listed = subprocess.run(["git", "-C", TOP, "ls-files", "-z", "--cached", "--others", "--exclude-standard"], stdout=subprocess.PIPE, check=True, text=True).stdout
-    return sorted(path for path in listed.split("\0") if path and not path.startswith(("tests/cases/", "dev/checks/english.py")))
+    return sorted(path for path in listed.split("\0") if path and not path.startswith(NOT_PROSE))
 
 
 def text_of(path: str) -> str:

@@ -1,4 +1,4 @@
-"""The gate takes no more time without a reason: bench/data/gate.csv says why, if a run took over five CPU minutes more than the run before it.
+"""The gate takes no more time without a reason: dev/bench/data/gate.csv says why, if a run took over five CPU minutes more than the run before it.
 
 The table has one line per run of the gate from nothing, the oldest first: `date,commit,elapsed_minutes,cpu_minutes,note,why_longer`. dev/gate.py adds the line; if
 this check fails, write the reason into its last column.
@@ -41,14 +41,14 @@ def grown(crates: list[Row], commit: str, before: str) -> list[str]:
 
 def check(found: Findings) -> None:
     """Adds a fault for each run that took longer without a reason."""
-    lines = csv.reader(read("bench", "data", "gate.csv").splitlines())
+    lines = csv.reader(read("dev", "bench", "data", "gate.csv").splitlines())
     head, *rows = lines
-    found.same("the head of bench/data/gate.csv", head, HEAD)
+    found.same("the head of dev/bench/data/gate.csv", head, HEAD)
     for row in rows:
         if len(row) != len(HEAD):
-            found.fault(f"bench/data/gate.csv: {len(row)} fields, want {len(HEAD)}: {','.join(row)}")
+            found.fault(f"dev/bench/data/gate.csv: {len(row)} fields, want {len(HEAD)}: {','.join(row)}")
     runs = [dict(zip(HEAD, row)) for row in rows if len(row) == len(HEAD)]
-    crates = list(csv.DictReader(read("bench", "data", "gate_crates.csv").splitlines()))
+    crates = list(csv.DictReader(read("dev", "bench", "data", "gate_crates.csv").splitlines()))
     for run, more in longer(runs):
         if not run["why_longer"].strip():
             before = runs[max(0, runs.index(run) - 1)]["commit"]

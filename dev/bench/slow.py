@@ -15,7 +15,7 @@ import time
 from sentences import armour, position_report, sentence
 
 HERE = os.path.dirname(os.path.abspath(__file__))
-SCENARIO = os.path.join(HERE, "..", "examples", "harbour.toml")
+SCENARIO = os.path.join(HERE, "..", "..", "examples", "harbour.toml")
 
 
 def empty_lines(share):
@@ -62,7 +62,7 @@ def main():
     programs = sys.argv[1:]
     with open(SCENARIO) as text:
         plain = text.read()
-    with open(os.path.join(HERE, "..", "examples", "harbour.log"), "rb") as text:
+    with open(os.path.join(HERE, "..", "..", "examples", "harbour.log"), "rb") as text:
         harbour = text.read()
     with tempfile.TemporaryDirectory() as place:
         def row(name, scenario_of, mode, log_of, words_of=lambda share: ()):

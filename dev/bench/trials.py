@@ -11,7 +11,7 @@ import subprocess
 import sys
 
 HERE = os.path.dirname(os.path.abspath(__file__))
-TOP = os.path.dirname(HERE)
+TOP = os.path.dirname(os.path.dirname(HERE))
 KINDS = ("head_on", "crossing_gives", "crossing_stands", "overtaking", "overtaken")
 MANY = ["--targets", "1..4"]
 PARTS = [(kind, ["--kinds", kind]) for kind in KINDS] + [

@@ -15,7 +15,7 @@ import tempfile
 from sentences import armour, position_report, sentence, tagged, total
 
 HERE = os.path.dirname(os.path.abspath(__file__))
-SCENARIO = os.path.join(HERE, "..", "examples", "harbour.toml")
+SCENARIO = os.path.join(HERE, "..", "..", "examples", "harbour.toml")
 START = 1700000000
 PARTS = [
     "!AIVDM,2,1,3,B,55P5TL01VIaAL@7WKO@mBplU@<PDhh000000001S;AJ::4A80?4i@E53,0*3E",

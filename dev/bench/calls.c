@@ -1,7 +1,7 @@
 /* Times a plan N times, and prints the microseconds of each:
  *   calls library N SCENARIO LOG             by calls of the library
  *   calls process N SCENARIO LOG PROGRAM     by processes, which get the log on standard input and write to a file
- * bench/calls.py builds and runs it. */
+ * dev/bench/calls.py builds and runs it. */
 #include <colregs.h>
 #include <fcntl.h>
 #include <spawn.h>

@@ -11,7 +11,7 @@ import sys
 import tempfile
 from pathlib import Path
 
-TOP = Path(__file__).resolve().parent.parent
+TOP = Path(__file__).resolve().parent.parent.parent
 CASES = ("giving_way", "harbour_of_twenty")
 MOST = 0.25     # of a process's time
 
@@ -36,7 +36,7 @@ def main() -> int:
     with tempfile.TemporaryDirectory(prefix="calls-") as folder:
         timer = Path(folder) / "calls"
         library = given.library.resolve()
-        subprocess.run(["cc", "-O2", f"-I{library / 'include'}", TOP / "bench" / "calls.c", library / "lib" / "libcolregs.a", "-o", timer], check=True)
+        subprocess.run(["cc", "-O2", f"-I{library / 'include'}", TOP / "dev" / "bench" / "calls.c", library / "lib" / "libcolregs.a", "-o", timer], check=True)
         slow = False
         print("| Plan of | " + " | ".join(f"{way}, µs" for way in ways) + " | library to process |\n|---|" + "---|" * (len(ways) + 1))
         for case in CASES:

@@ -1,7 +1,7 @@
 #!/usr/bin/env python3
 """Times `colregs points` on a log of position reports, beside other programs, in one run.
 
-    bench/points.py [--program COLREGS] [--reports N] [--vessels N] [--rounds N] [PROGRAM ...]
+    dev/bench/points.py [--program COLREGS] [--reports N] [--vessels N] [--rounds N] [PROGRAM ...]
 
 It writes a log of N position reports of ITU-R M.1371 message 1 (two million by default), each a line of its own with a
 right sum and a tag block that tells its time, and a scenario. The vessels report in turn, once a second, and go on at 11
@@ -22,7 +22,7 @@ import time
 from sentences import armour, position_report, sentence, tagged
 
 HERE = os.path.dirname(os.path.abspath(__file__))
-SCENARIO = os.path.join(HERE, "..", "examples", "harbour.toml")
+SCENARIO = os.path.join(HERE, "..", "..", "examples", "harbour.toml")
 START = 1700000000
 
 
@@ -61,7 +61,7 @@ def main():
     words.add_argument("--reports", type=int, default=2000000)
     words.add_argument("--vessels", type=int, default=4000)
     words.add_argument("--rounds", type=int, default=5)
-    words.add_argument("--program", default=os.path.join(HERE, "..", "crates", "colregs", "out", "colregs"))
+    words.add_argument("--program", default=os.path.join(HERE, "..", "..", "crates", "colregs", "out", "colregs"))
     words.add_argument("programs", nargs="*", metavar="PROGRAM")
     given = words.parse_args()
     with tempfile.TemporaryDirectory() as place:

@@ -1,7 +1,7 @@
 #!/usr/bin/env python3
 """Times `colregs points` or `audit` on a log that comes through a pipe, and tells its greatest memory.
 
-    bench/streams.py PROGRAM [--mode points] [--bytes 1073741824] [--tagged]
+    dev/bench/streams.py PROGRAM [--mode points] [--bytes 1073741824] [--tagged]
 
 The log is never held whole, on disk or in memory: a piece of about a megabyte is made once and written to the program again and again, up
 to so many bytes, first half as many and then all. By default no line tells its time, so that each vessel has one point and each further
@@ -19,7 +19,7 @@ import time
 from sentences import armour, position_report, sentence, tagged
 
 HERE = os.path.dirname(os.path.abspath(__file__))
-SCENARIO = os.path.join(HERE, "..", "examples", "harbour.toml")
+SCENARIO = os.path.join(HERE, "..", "..", "examples", "harbour.toml")
 START = 1700000000
 
 

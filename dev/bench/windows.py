@@ -20,11 +20,11 @@ import time
 from fleets import SCENARIO, START
 
 HERE = os.path.dirname(os.path.abspath(__file__))
-sys.path.insert(0, os.path.join(HERE, "..", "python"))
+sys.path.insert(0, os.path.join(HERE, "..", "..", "python"))
 from colregs.io.sentences import block, class_a, sentence  # noqa: E402
 
 DAY = 86400
-MANY = os.path.join(HERE, "..", "tools", "colregs-many")
+MANY = os.path.join(HERE, "..", "..", "tools", "colregs-many")
 
 
 def vessel(draw, side):

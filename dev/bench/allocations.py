@@ -15,7 +15,7 @@ import sys
 import tempfile
 
 HERE = os.path.dirname(os.path.abspath(__file__))
-EXAMPLES = os.path.join(os.path.dirname(HERE), "examples")
+EXAMPLES = os.path.join(os.path.dirname(os.path.dirname(HERE)), "examples")
 RUNS = {
     "points": ("harbour.toml", "harbour.log"),
     "audit": ("harbour_of_twenty.toml", "harbour_of_twenty.log"),

@@ -1,7 +1,7 @@
 #!/usr/bin/env python3
 """Tells the greatest memory of `colregs audit` or `watch` on logs of moving vessels that come through a pipe, each ten times as long as the one before.
 
-    bench/forgetting.py PROGRAM [--mode audit] [--bytes 107374182] [--rows 3] [--vessels 200]
+    dev/bench/forgetting.py PROGRAM [--mode audit] [--bytes 107374182] [--rows 3] [--vessels 200]
 
 Each vessel goes round in a circle of her own for ever and reports each ten seconds, with a tag block; some circles cut each other, so that their vessels
 meet each hour. The log is never held whole, on disk or in memory. Each row has the bytes, the lines, the seconds, and the greatest memory of the
