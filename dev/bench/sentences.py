@@ -1,68 +1,55 @@
-"""AIS messages as bits (ITU-R M.1371) and as AIVDM sentences (IEC 61162-1) with tag blocks (NMEA 0183 4.10)."""
+"""AIS sentences as text, for benchmarks and examples: the package's one writer, with a message's values as arguments."""
+import os
+import sys
+
+sys.path.insert(0, os.path.join(os.path.dirname(os.path.abspath(__file__)), "..", "python"))
+from colregs.io import sentences as writer  # noqa: E402
+from colregs.io.sentences import Fields  # noqa: E402
 
 
-def bits(value, width):
-    return format(value & ((1 << width) - 1), "0%db" % width)
+def armour(fields: Fields) -> tuple[str, int]:
+    """Returns the payload of a message's fields, and how many bits fill its last letter."""
+    payload, fill = writer.payload_of(fields)
+    return payload.decode(), fill
 
 
-def armour(text):
-    """The payload of bits, six to a byte, and the fill (IEC 61162-1)."""
-    fill = -len(text) % 6
-    text += "0" * fill
-    values = [int(text[at:at + 6], 2) for at in range(0, len(text), 6)]
-    return "".join(chr(value + 48 if value < 40 else value + 56) for value in values), fill
+def total(body: str) -> str:
+    """Returns the checksum of a sentence or of a tag block, as two hexadecimal digits."""
+    return f"{writer.total(body.encode()):02X}"
 
 
-def total(body):
-    answer = 0
-    for byte in body.encode():
-        answer ^= byte
-    return "%02X" % answer
+def sentence(count: int, number: int, sequence: object, channel: str, payload: str, fill: int) -> str:
+    """Returns one sentence, the part `number` of `count`."""
+    return writer.part(payload.encode(), fill, b"AIVDM", channel.encode(), count, number, str(sequence).encode()).decode()
 
 
-def sentence(count, number, sequence, channel, payload, fill):
-    body = "AIVDM,%d,%d,%s,%s,%s,%d" % (count, number, sequence, channel, payload, fill)
-    return "!%s*%s" % (body, total(body))
+def tagged(time: int, text: str) -> str:
+    """Returns a line with a time in its tag block."""
+    return writer.block(time).decode() + text
 
 
-def tagged(time, text):
-    block = "c:%d" % time
-    return "\\%s*%s\\%s" % (block, total(block), text)
+def position_report(kind: int, mmsi: int, latitude: int, longitude: int, sog: int, cog: int, heading: int, second: int, status: int = 0) -> Fields:
+    """Returns the fields of message 1, 2, 3 or 18."""
+    report = latitude, longitude, sog, cog, heading, second
+    return writer.class_b(mmsi, report) if kind == 18 else [(kind, 6)] + writer.class_a(mmsi, report, status)[1:]
 
 
-def position_report(kind, mmsi, latitude, longitude, sog, cog, heading, second, status=0):
-    if kind == 18:
-        fields = [(18, 6), (0, 2), (mmsi, 30), (0, 8), (sog, 10), (0, 1), (longitude, 28), (latitude, 27), (cog, 12),
-                  (heading, 9), (second, 6), (0, 29)]
-    else:
-        fields = [(kind, 6), (0, 2), (mmsi, 30), (status, 4), (128, 8), (sog, 10), (0, 1), (longitude, 28), (latitude, 27),
-                  (cog, 12), (heading, 9), (second, 6), (0, 25)]
-    return "".join(bits(value, width) for value, width in fields)
+def extended(report: Fields, name: str, kind: int, bow: int, stern: int, port: int, starboard: int) -> Fields:
+    """Returns the fields of a message 19, from those of a message 18 without its last."""
+    sides = list(zip((bow, stern, port, starboard), (9, 9, 6, 6)))
+    return [(19, 6)] + report[1:-1] + [(0, 4)] + writer.six_bit_text(name, 20) + [(kind, 8)] + sides + [(0, 11)]
 
 
-def text(words, characters):
-    padded = (words + "@" * characters)[:characters]
-    return "".join(bits(ord(c) - 64 if ord(c) >= 64 else ord(c), 6) for c in padded)
+def name_part(mmsi: int, name: str) -> Fields:
+    """Returns the fields of a message 24, part 0."""
+    return writer.name_part(mmsi, name)
 
 
-def extended(report, name, kind, bow, stern, port, starboard):
-    """The bits of a message 19, out of those of a message 18."""
-    hull = bits(kind, 8) + bits(bow, 9) + bits(stern, 9) + bits(port, 6) + bits(starboard, 6)
-    return bits(19, 6) + report[6:139] + bits(0, 4) + text(name, 20) + hull + bits(0, 11)
+def hull_part(mmsi: int, kind: int, bow: int, stern: int, port: int, starboard: int) -> Fields:
+    """Returns the fields of a message 24, part 1, without a call sign."""
+    return writer.hull_part(mmsi, kind, (bow, stern, port, starboard))
 
 
-def name_part(mmsi, name):
-    """The bits of a message 24, part 0."""
-    return bits(24, 6) + bits(0, 2) + bits(mmsi, 30) + bits(0, 2) + text(name, 20)
-
-
-def hull_part(mmsi, kind, bow, stern, port, starboard):
-    """The bits of a message 24, part 1."""
-    hull = bits(bow, 9) + bits(stern, 9) + bits(port, 6) + bits(starboard, 6)
-    return bits(24, 6) + bits(0, 2) + bits(mmsi, 30) + bits(1, 2) + bits(kind, 8) + bits(0, 42) + text("", 7) + hull + bits(0, 6)
-
-
-def voyage(mmsi, name, kind, bow, stern, port, starboard):
-    head = bits(5, 6) + bits(0, 2) + bits(mmsi, 30) + bits(0, 2) + bits(0, 30) + text("", 7) + text(name, 20)
-    hull = bits(kind, 8) + bits(bow, 9) + bits(stern, 9) + bits(port, 6) + bits(starboard, 6)
-    return head + hull + bits(0, 4) + bits(0, 20) + bits(0, 8) + text("SEATTLE", 20) + bits(0, 2)
+def voyage(mmsi: int, name: str, kind: int, bow: int, stern: int, port: int, starboard: int) -> Fields:
+    """Returns the fields of a message 5."""
+    return writer.voyage(mmsi, name, kind, (bow, stern, port, starboard), "SEATTLE")

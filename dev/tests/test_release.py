@@ -3,6 +3,7 @@ from __future__ import annotations
 
 import hashlib
 import os
+import re
 import shutil
 import subprocess
 import unittest
@@ -28,7 +29,9 @@ class Release(InFolder):
 
     def test_both_hold_the_program_the_tools_and_what_they_were_made_of(self) -> None:
         self.assertEqual(self.made("--untested"), (0, ""))
-        tar, deb = (next(os.path.join(self.path("out"), name) for name in os.listdir(self.path("out")) if name.startswith(begin)) for begin in ("colregs-", "colregs_"))
+        names = sorted(os.listdir(self.path("out")))
+        tar, sources, deb = (os.path.join(self.path("out"), next(name for name in names if re.fullmatch(pattern, name)))
+                             for pattern in (r"colregs-[\d.]+\.tar\.gz", r"colregs-[\d.]+-source\.tar\.gz", r"colregs_.*\.deb"))
         os.makedirs(self.path("unpacked"))
         subprocess.run(["tar", "-xzf", tar, "-C", self.path("unpacked")], check=True)
         subprocess.run(["dpkg-deb", "-x", deb, self.path("root")], check=True)
@@ -46,6 +49,15 @@ class Release(InFolder):
             self.assertEqual((doctor.returncode, doctor.stderr), (0, ""))
         self.assertEqual(self.report(self.path("root/usr/bin/colregs")), wanted)
         self.assertEqual(subprocess.run([self.path("root/usr/bin/colregs-case"), "--help"], capture_output=True).returncode, 0)
+        held = subprocess.run(["tar", "-tzf", sources], capture_output=True, text=True).stdout.splitlines()
+        tracked = subprocess.run(["git", "-C", TOP, "ls-files"], capture_output=True, text=True).stdout.splitlines()
+        self.assertEqual(sorted(name.partition("/")[2] for name in held if not name.endswith("/")), sorted(tracked))
+        for name in sorted(os.listdir(os.path.join(TOP, "tools"))):
+            if name.startswith("colregs-"):
+                self.assertTrue(os.path.exists(self.path(f"root/usr/share/man/man1/{name}.1.gz")), name)
+        if shutil.which("lintian"):
+            done = subprocess.run(["lintian", "--fail-on", "error,warning", deb], capture_output=True, text=True)
+            self.assertEqual(done.returncode, 0, done.stdout)
 
     def test_what_the_gate_has_not_passed_is_refused(self) -> None:
         other = shutil.copy("/bin/true", self.path("other"))

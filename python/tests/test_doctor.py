@@ -66,7 +66,7 @@ class WrongUses(InFolder):
         return [finding.name for finding in self.found(toml, log, report)]
 
     def test_the_shipped_examples_are_silent(self) -> None:
-        for name in sorted(file[:-5] for file in os.listdir(EXAMPLES) if file.endswith(".toml")):
+        for name in sorted(file[:-4] for file in os.listdir(EXAMPLES) if file.endswith(".log")):
             with self.subTest(name):
                 report = [example(name + ".csv")] if os.path.exists(example(name + ".csv")) else []
                 words = ["--program", PROGRAM, example(name + ".toml"), example(name + ".log")]

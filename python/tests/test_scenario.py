@@ -52,7 +52,7 @@ class Suggested(InFolder):
     def test_a_log_without_times_says_so(self) -> None:
         values, reasons = self.values(report(0, 200000001, 600000, 1200000).rpartition(b"\\")[2])
         self.assertEqual(values["window"]["ticks"], 1)
-        self.assertIn("no tag block tells a time", reasons)
+        self.assertIn("no tag block has a time", reasons)
 
     def test_many_vessels_have_a_watch_with_which_the_program_follows_them(self) -> None:
         """A row of 400 ships, each 299 m from the next: within 2000 m they make 4758 ordered pairs, within 1500 m 3970.
@@ -64,7 +64,7 @@ class Suggested(InFolder):
         values, reasons = self.values(log)
         self.assertEqual([sum(2 * (400 - k) for k in range(1, 1 + watch // 299)) for watch in (2000, 1500)], [4758, 3970])
         self.assertEqual(values["detect"]["watch"], 1500)
-        self.assertIn("the watch is 1500 m in place of 5000", reasons)
+        self.assertIn("the watch is 1500 m instead of 5000", reasons)
 
     def test_where_no_watch_does_the_window_is_cut(self) -> None:
         """65 ships in one place, 4160 pairs, of whom the last comes in the second half."""

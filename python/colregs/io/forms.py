@@ -1,7 +1,7 @@
 """The forms in which a line of a log tells its time, before a sentence or behind it.
 
 A time without a zone is taken to be in UTC, less an offset where the reader gives one. A time that can be read in two ways, or that lacks its
-date, is told as what it is and not guessed.
+date, is reported by its name and not guessed.
 """
 import datetime
 import re

@@ -148,7 +148,7 @@ def seekable(path: str) -> Iterator[str]:
     try:
         kind = os.stat(path).st_mode
     except OSError:
-        kind = stat.S_IFREG           # that it is not there is told where it is opened
+        kind = stat.S_IFREG           # whoever opens it reports that it does not exist
     if stat.S_ISCHR(kind) or stat.S_ISBLK(kind) or stat.S_ISSOCK(kind):
         raise Fault(f"{path} is a device, and no log")
     if not stat.S_ISFIFO(kind):

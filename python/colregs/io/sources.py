@@ -1,7 +1,7 @@
 """Makes one log of any logs: `gather` writes sentences with tag blocks, sorted by time, and counts each line by the form in which it was read.
 
 A sentence takes its time from its tag block, else from behind its sum, else from before it. A line without a time has that of the receiver's own
-clock (RMC, ZDA) or of the line before, whichever came last, and where neither is told that of base stations (message 4). A line that gives nothing
+clock (RMC, ZDA) or of the line before, whichever came last, and if there is neither, that of base stations (message 4). A line that gives nothing
 is counted too: `aside` where it is known and of no use here, `unread` with an example where it is not understood.
 """
 import collections
@@ -133,7 +133,7 @@ class Waiting:
         if len(self.held) < SLOTS:
             self.held.append(words)
         else:
-            self.cannot("a sentence too far behind the last time", words)
+            self.cannot("a sentence too far after the last time", words)
 
     def doubt(self) -> None:
         """Notes that the receiver has no fix: what follows has the time before only if a next time comes soon."""
@@ -362,7 +362,7 @@ class Reader:
     def row(self, table: tables.Table, line: bytes) -> None:
         """Reads a row of a table."""
         if line == self.head:
-            self.gathered.aside["head of a table, once more"] += 1
+            self.gathered.aside["head of a table, again"] += 1
             return
         try:
             time, words = table.row(line, self.times)
@@ -418,7 +418,7 @@ def sort(path: str) -> None:
 def gather(paths: Sequence[str], out: str, *, mmsi: int | None = None, offset: int = 0) -> Gathered:
     """Writes the logs as one at the path `out`, and tells what came of them. With an MMSI the receiver's own places become own ship's.
 
-    Times without a zone are UTC, less `offset` seconds. Where no line of any log tells a time, the sentences are written as they stand.
+    Times without a zone are UTC, less `offset` seconds. If no line of any log has a time, the sentences are written as they are.
     """
     if any(os.path.exists(path) and os.path.exists(out) and os.path.samefile(path, out) for path in paths):
         raise Fault(f"{out} is a log that is read, and cannot be written too")
@@ -463,10 +463,10 @@ def ended(out: str, gathered: Gathered, log: Log, mmsi: int | None) -> None:
         gathered.notes.append(f"{count} sentences have times more than a day off nearly all others, as {date}: was a clock not set")
     if gathered.back:
         sort(out)
-        gathered.notes.append(f"{gathered.back} sentences stood behind later ones: the log is sorted by time")
+        gathered.notes.append(f"{gathered.back} sentences were out of order: the log is sorted by time")
     if gathered.untimed and gathered.first is None:
         gathered.forms["sentence without a time"] = gathered.untimed
-        gathered.notes.append("no line tells a time: the log is left without times")
+        gathered.notes.append("no line has a time: the log is left without times")
     fixes = gathered.forms["RMC"] + gathered.forms[jsons.FIX]
     if mmsi is None and fixes:
         gathered.notes.append(f"own ship's places stand in {fixes} lines (RMC or TPV): with her MMSI they become hers")

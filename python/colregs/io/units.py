@@ -1,4 +1,4 @@
-"""Fields of tables and of JSON in knots, degrees and metres, as the numbers of AIS messages. An empty field is one that tells nothing."""
+"""Fields of tables and of JSON in knots, degrees and metres, as the numbers of AIS messages. An empty field has no value."""
 from collections.abc import Sequence
 
 from colregs.io.sentences import (NO_COURSE, NO_HEADING, NO_LATITUDE, NO_LONGITUDE, NO_SPEED, Hull, Report, class_a, class_b, hull_part, name_part,
@@ -86,7 +86,7 @@ def hull(sides: Sequence[float | None], length: float | None, width: float | Non
 
 
 class Ship:
-    """Makes sentences of what a table or JSON tells of ships: her static data when it is told first, or otherwise than before."""
+    """Makes sentences from what a table or JSON says of ships: static data when it is new or has changed."""
 
     def __init__(self) -> None:
         self.known: dict[tuple[int, str], object] = {}

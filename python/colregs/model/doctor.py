@@ -1,4 +1,4 @@
-"""Looks for what is amiss with a scenario, a log and a report, and says it: `findings`. It judges no meeting anew; it counts rows of the program."""
+"""Looks for what is amiss with a scenario, a log and a report, and says it: `findings`. It judges no meeting itself; it counts rows of the program."""
 import collections
 import csv
 import functools
@@ -17,10 +17,10 @@ from colregs.model.scenario_checks import Finding, numbers_at
 from colregs.run.limits import next_step
 from colregs.run.program import Columns, Run
 
-REFUSED = {3: "the first key with a fault is told; docs/SCENARIO.md has its range", 4: "is its name right, and may it be read",
+REFUSED = {3: "this is the first key with a fault; docs/SCENARIO.md has its range", 4: "is its name right, and may it be read",
            9: "own ship must be in the log before the window's end, with course and speed"}
 NO_SENTENCE = ("empty", "long", "tag", "other", "form", "sum", "armour")
-SHOWN = 5                               # of more findings of one name than this the number is told
+SHOWN = 5                               # findings of one name that are shown; the others are counted
 STILL = 5                               # 1/10 knot: who never makes this lies still
 
 
@@ -116,9 +116,10 @@ def no_times(patient: Patient) -> Iterator[Finding]:
     looked, told = log_checks.times_of(patient.log)
     dropped = sum(patient.counts.get(name, 0) for name in ("back", "repeat", "jump"))
     if looked and not told:
-        yield Finding("no times", "no tag block tells a time: of each vessel the first report alone counts. tools/tagged gives times")
+        yield Finding("no times", "no tag block has a time, so only the first report of each vessel counts. Give times by tools/tagged")
     elif looked > 2 * len(told) and dropped > patient.counts.get("point", 0):
-        yield Finding("no times", f"{looked - len(told)} of {looked} lines that were looked at tell no time of their own, and have that of a line before")
+        yield Finding("no times", f"{looked - len(told)} of {looked} lines have no time of their own, and count at the time of a line before. "
+                      "Give times by tools/tagged")
 
 
 def window_misses(patient: Patient) -> Iterator[Finding]:
@@ -172,7 +173,7 @@ def no_reports(patient: Patient) -> Iterator[Finding]:
         most = sorted((name for name, count in patient.counts.items() if count), key=lambda name: patient.counts[name], reverse=True)
         told = ", ".join(f"{patient.counts[name]} `{name}`" for name in most[:3])
         hint = ": tools/tagged reads lines that do not begin with a sentence" if most[:1] == ["other"] else ""
-        yield Finding("no reports", f"no position report is accepted; the lines came to {told}{hint}")
+        yield Finding("no reports", f"no position report is accepted; the lines count as {told}{hint}")
 
 
 def close(one: Sequence[float], two: Sequence[float]) -> bool:
@@ -184,7 +185,7 @@ def unsorted(patient: Patient) -> Iterator[Finding]:
     """Yields a finding if many lines are out of order."""
     late = patient.counts.get("late", 0)
     if 100 * late > patient.sentences:
-        yield Finding("unsorted lines", f"{late} of {patient.sentences} sentences come later than `log.slack` behind others: tools/tagged sorts them")
+        yield Finding("unsorted lines", f"{late} of {patient.sentences} sentences are out of order by more than `log.slack`: sort them by tools/tagged")
 
 
 def damaged(patient: Patient) -> Iterator[Finding]:
@@ -220,7 +221,7 @@ def unseen(patient: Patient) -> Iterator[Finding]:
         yield Finding("gap shorter than reports are apart", f"{follow - legs} of {follow} reports follow the one before by more than `log.gap`: "
                       "such vessels are not seen")
     if patient.speeds and 2 * sum(not speed or not course for speed, course in zip(patient.speeds, patient.courses)) > len(patient.speeds):
-        yield Finding("no course or no speed", "most reports tell no course or no speed: rules that need them stay open")
+        yield Finding("no course or no speed", "most reports have no course or no speed: rules that need them stay open")
     totals = patient.rows("total")
     if len(patient.vessels) > 1 and totals and all(fields[2] == "0" for fields in totals) and legs:
         watch = (numbers_at(patient.values, "detect.watch") or [""])[0]

@@ -27,7 +27,7 @@ act = {{ steady_turn = 0, apparent_turn = 1, steady_speed = 0, apparent_speed = 
 rules = {{ safe = 1, overtake = 1, close = 1, t8 = 0, ta = 0, tl = 0, tw = 0, te = 0 }}
 """
 TEXT = """# A scenario to start from, by tools/scenario. The window, the tick and the reference are guessed from the log; every other number is
-# that of the worked encounters, whatever the log: go through them. Each key is told in docs/SCENARIO.md.
+# that of the worked encounters, whatever the log: go through them. docs/SCENARIO.md describes each key.
 version = 1
 
 [window]
@@ -35,7 +35,7 @@ start = {start}    # seconds since the Unix epoch: {clock}
 tick = {tick}             # s; {interval}
 ticks = {ticks}           # steps of a tick each: {length}
 
-[reference]           # where the plane begins, in 1/10000 minute, north and east positive: the middle of the places told
+[reference]           # where the plane begins, in 1/10000 minute, north and east positive: the middle of the places
 lat = {lat}
 lon = {lon}
 
@@ -78,7 +78,7 @@ def ends(times: Sequence[int], reasons: list[str], what: str | None) -> tuple[in
     begin, end = bisect.bisect_left(times, times[few] - 86400), bisect.bisect_right(times, times[-1 - few] + 86400)
     lost = len(times) - (end - begin)
     if lost and what:
-        reasons.append(f"{lost} {what} lie more than a day before or behind nearly all others, and are passed over")
+        reasons.append(f"{lost} {what} lie more than a day before or after nearly all others, and are skipped")
     return times[begin], times[end - 1]
 
 
@@ -150,7 +150,7 @@ def look(log: str, program: str, reasons: list[str]) -> tuple[Found, bool]:
 def window(found: Found, timed: bool, reasons: list[str]) -> tuple[int, int, int, float | None]:
     """Returns start, tick, ticks and the interval between reports, from which the tick is guessed."""
     if not timed:
-        reasons.append("no tag block tells a time: every line counts as of the window's start, and a vessel gives one point. Give times first"
+        reasons.append("no tag block has a time: every line counts as of the window's start, and a vessel gives one point. Give times first"
                        " (docs/SOURCES.md)")
         return 0, 10, 1, None
     interval = statistics.median(found.apart) if found.apart else 10
@@ -202,7 +202,7 @@ def fitted(guess: Guess, vessels: int, log: str, program: str, reasons: list[str
         reasons.append(f"the window is cut to {guess.ticks} of {whole} ticks: more than {MOST_PAIRS} pairs come into contact. "
                        "tools/colregs-many audits such a log by subjects and windows")
     if guess.watch != WATCHES[0]:
-        reasons.append(f"the watch is {guess.watch} m in place of {WATCHES[0]}: more than {MOST_PAIRS} pairs would come into contact")
+        reasons.append(f"the watch is {guess.watch} m instead of {WATCHES[0]}: more than {MOST_PAIRS} pairs would come into contact")
     return guess
 
 

@@ -19,7 +19,7 @@ STATIONS = {4: "a base station's time", 9: "an aircraft's report", 11: "a base s
 FLOATS = re.compile(r"\bBUOY|\bBEACON|\bNETS?\b|\bNETMARK|\d+ ?%|\d\d?\.\d ?V\b")
 STEADY = 3                               # so many reports of either of two tracks make two ships
 CLOCKS = 4, 11                           # messages that tell the UTC of their sender
-OFF = 60                                 # s: a log's clock that is farther off than this is told
+OFF = 60                                 # s: a log's clock that is farther off than this is reported
 MOVED = 600                              # s: a track without a report for so long has gone over into the other
 
 

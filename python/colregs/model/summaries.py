@@ -37,7 +37,7 @@ def read_words(case: Case, gathered: Gathered) -> Iterator[str]:
     """Yields what was read of the logs."""
     files = count(len(gathered.files), "file")
     if gathered.first is None:
-        yield f"Read: {files} with {count(gathered.lines(), 'line')}, none of which tells a time."
+        yield f"Read: {files} with {count(gathered.lines(), 'line')}, and none of the lines has a time."
     else:
         latest = gathered.first if gathered.last is None else gathered.last
         yield (f"Read: {files} with {count(gathered.lines(), 'line')}; {count(gathered.sentences, 'sentence')} "

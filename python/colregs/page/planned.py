@@ -224,7 +224,7 @@ def draw_legend(chart: Chart[Planned], minutes: int) -> None:
              f"Dashed lines: the targets as they are predicted{'' if case.legs else '; in blue own ship as she goes'}."]
     if case.targets:
         lines += [f"Circles: the domains of the targets at the moments of the marks, with radii of {radii_words(case)}.",
-                  "Dotted, between two rings: where own ship is nearest to a target, and when (minutes:seconds), as the picture reckons it."]
+                  "Dotted, between two rings: where own ship is nearest to a target, and when (minutes:seconds), as the picture computes it."]
     for k, words in enumerate(lines):
         chart.picture.words(chart.left, y + 17 * k, words, 11)
 
