@@ -42,10 +42,10 @@ class Kit:
         """Returns the path of the kit's compiler."""
         return self.tool("toolchain", "bin", "clang")
 
-    def link(self, made: str, program: str) -> List[str]:
-        """Returns the command that links an object file into a program."""
+    def link(self, made: List[str], program: str) -> List[str]:
+        """Returns the command that links object files into a program."""
         toolchain = os.path.join(self.folder, "toolchain")
-        return [self.tool("bin", "rattle-link"), "--target", TARGET, "--toolchain", toolchain, "-o", program, made,
+        return [self.tool("bin", "rattle-link"), "--target", TARGET, "--toolchain", toolchain, "-o", program, *made,
                 self.tool("c", "libos_c.a"), self.tool("c", "liblibc_c.a")]
 
     def crate_folder(self, name: str) -> str:

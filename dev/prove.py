@@ -172,7 +172,7 @@ class Work:
 def put(kit: Kit, made: str, sources: Dict[str, str], begun: int) -> None:
     """Links the program and puts it in its place, where no other run meets half of it. Raises Fault if it cannot be linked, or a source changed meanwhile."""
     new = PROVED + ".new"
-    linked = subprocess.run(kit.link(made, new), stdin=subprocess.DEVNULL, stdout=subprocess.PIPE, stderr=subprocess.STDOUT, errors="replace", universal_newlines=True)
+    linked = subprocess.run(kit.link([made], new), stdin=subprocess.DEVNULL, stdout=subprocess.PIPE, stderr=subprocess.STDOUT, errors="replace", universal_newlines=True)
     if linked.returncode:
         sys.stderr.write(linked.stdout)
         raise Fault("the program is proved and could not be linked")
