@@ -5,7 +5,7 @@ import subprocess
 import sys
 import unittest
 
-from given import InFolder, TOOLS, TOP, needs, text_of
+from given import InFolder, PROGRAM, TOOLS, TOP, needs, text_of, with_program
 from colregs.cli import pages
 
 COMMANDS = sorted(name for name in os.listdir(TOOLS) if name.startswith("colregs-"))
@@ -55,6 +55,16 @@ class Pages(InFolder):
 
     def test_each_command_has_its_tool_in_the_clone(self) -> None:
         self.assertEqual(COMMANDS, [f"colregs-{name}" for name in pages.names()])
+
+    @with_program
+    def test_zsh_and_fish_complete_the_program_by_its_help(self) -> None:
+        text = subprocess.run([PROGRAM, "--help"], capture_output=True, text=True).stdout
+        command = pages.program_of(text)
+        usage = subprocess.run([PROGRAM], capture_output=True, text=True).stderr
+        self.assertEqual([part.name for part in command.parts], usage.removeprefix("usage: ").split()[0].split("|"))
+        self.assertEqual({name for option in command.options for name in option.names if name.startswith("--")}, options_of(text))
+        self.assertIn(f"complete -c colregs -n __fish_use_subcommand -a {command.parts[0].name} ", pages.fish(command))
+        self.assertIn("'--rows[The file of the rows that a recheck checks]:file:_files'", pages.zsh(command))
 
     def test_an_older_python_ends_with_one_sentence(self) -> None:
         script = ("import sys; sys.version_info = (3, 9, 2); sys.path.insert(0, sys.argv[1]); from colregs.start import start; start('case')")

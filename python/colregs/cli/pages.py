@@ -1,13 +1,15 @@
 """Writes the manual pages of all commands, and their completions for bash, zsh and fish, from the commands' own parsers.
 
-    python3 -m colregs.cli.pages FOLDER
+    python3 -m colregs.cli.pages FOLDER [PROGRAM]
 
-FOLDER gets man1/, bash/, zsh/ and fish/. The package's build and `.ci/release` put these where each shell looks for them.
+FOLDER gets man1/, bash/, zsh/ and fish/. The package's build and `.ci/release` put these where each shell looks for them. With PROGRAM, the program
+`colregs` gets completions for zsh and fish too, from its own `--help`; its manual page and its completion for bash are written by hand.
 """
 import argparse
 import importlib
 import os
 import re
+import subprocess
 import sys
 from collections.abc import Iterator
 from dataclasses import dataclass
@@ -81,6 +83,14 @@ def command_of(name: str, parser: argparse.ArgumentParser, line: str = "") -> Co
 def commands() -> list[Command]:
     """Returns all commands."""
     return [command_of(f"colregs-{name}", importlib.import_module(f"colregs.cli.{name}").parser()) for name in names()]
+
+
+def program_of(text: str) -> Command:
+    """Returns what the program `colregs` says of its modes and options in the text of its `--help`."""
+    modes = tuple(Command(name, line, "", "", (), ()) for name, line in re.findall(r"(?m)^ +- (\w+): +(.+)$", text))
+    options = tuple(Option(tuple(re.findall(r"-[\w-]+", flags)), value or "", words, ())
+                    for flags, value, words in re.findall(r"(?m)^ +((?:-\w, )? *--\w+)(?: <(\w+)>)?\n +(.+)$", text))
+    return Command("colregs", text.partition("\n")[0], "", "", options, modes)
 
 
 def roff(text: str) -> str:
@@ -186,9 +196,13 @@ def pages() -> dict[str, str]:
     return found
 
 
-def main(folder: str) -> int:
+def main(folder: str, program: str | None = None) -> int:
     """Writes all pages into a folder."""
-    for path, text in pages().items():
+    made = pages()
+    if program:
+        colregs_itself = program_of(subprocess.run([program, "--help"], capture_output=True, text=True, check=True).stdout)
+        made |= {"zsh/_colregs": zsh(colregs_itself), "fish/colregs.fish": fish(colregs_itself)}
+    for path, text in made.items():
         os.makedirs(os.path.join(folder, os.path.dirname(path)), exist_ok=True)
         with open(os.path.join(folder, path), "w", encoding="utf-8") as out:
             out.write(text)
@@ -196,7 +210,7 @@ def main(folder: str) -> int:
 
 
 if __name__ == "__main__":
-    if len(sys.argv) != 2:
+    if len(sys.argv) not in (2, 3):
         print(__doc__, file=sys.stderr)
         sys.exit(USAGE)
-    sys.exit(main(sys.argv[1]))
+    sys.exit(main(*sys.argv[1:]))
