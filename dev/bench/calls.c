@@ -1,4 +1,4 @@
-/* Times a plan N times, and prints the microseconds of each:
+/* Plans N times, and prints the elapsed and the CPU microseconds of a plan:
  *   calls library N SCENARIO LOG             by calls of the library
  *   calls process N SCENARIO LOG PROGRAM     by processes, which get the log on standard input and write to a file
  * dev/bench/calls.py builds and runs it. */
@@ -8,6 +8,7 @@
 #include <stdio.h>
 #include <stdlib.h>
 #include <string.h>
+#include <sys/resource.h>
 #include <sys/wait.h>
 #include <time.h>
 #include <unistd.h>
@@ -42,8 +43,16 @@ static void plan_by_process(char *program, char *scenario, const char *log) {
     posix_spawn_file_actions_destroy(&files);
 }
 
+/* The CPU time so far of this process or of its children that ended, in microseconds. */
+static double cpu(int who) {
+    struct rusage usage;
+    getrusage(who, &usage);
+    return (usage.ru_utime.tv_sec + usage.ru_stime.tv_sec) * 1e6 + usage.ru_utime.tv_usec + usage.ru_stime.tv_usec;
+}
+
 int main(int argc, char **argv) {
     struct timespec begin, end;
+    double before;
     size_t n, m;
     uint8_t *scenario, *log;
     long count, k;
@@ -51,12 +60,13 @@ int main(int argc, char **argv) {
     count = atol(argv[2]);
     scenario = read_file(argv[3], &n);
     log = read_file(argv[4], &m);
+    before = cpu(RUSAGE_SELF) + cpu(RUSAGE_CHILDREN);
     clock_gettime(CLOCK_MONOTONIC, &begin);
     for (k = 0; k < count; k++) {
         if (!strcmp(argv[1], "library")) plan_by_library(scenario, n, log, m);
         else plan_by_process(argv[5], argv[3], argv[4]);
     }
     clock_gettime(CLOCK_MONOTONIC, &end);
-    printf("%.1f\n", ((end.tv_sec - begin.tv_sec) * 1e9 + (end.tv_nsec - begin.tv_nsec)) / 1e3 / count);
+    printf("%.1f %.1f\n", ((end.tv_sec - begin.tv_sec) * 1e9 + (end.tv_nsec - begin.tv_nsec)) / 1e3 / count, (cpu(RUSAGE_SELF) + cpu(RUSAGE_CHILDREN) - before) / count);
     return 0;
 }
