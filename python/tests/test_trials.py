@@ -63,7 +63,7 @@ class Reports(InFolder):
         sender = Transmitter(ship, Plane(scenario.latitude, scenario.longitude), CLASS_B, random.Random(1))
         lines, places = [], {}
         for second in range(150):
-            lines += [line for _, line in sender.lines(second, 1700000000)]
+            lines += [sent.line for sent in sender.lines(second, 1700000000)]
             places[1700000000 + second] = ship.place
             ship.step()
         rows = self.program("points", SCENARIO, self.write("log", b"".join(line + b"\n" for line in lines))).splitlines()
@@ -96,6 +96,18 @@ class Same(InFolder):
             self.assertEqual(values[0], values[1])
             self.assertEqual(logs[0], logs[1])
             self.assertEqual(len(logs[0]), 2)
+
+    def test_the_pilot_over_the_log_of_a_run_says_what_it_said_in_the_run(self):
+        # the pilot reads own ship's reports by `points`, and cuts its windows at each line; a run knows what was sent, and cuts none so short
+        for words in (["--targets", "2"], ["--targets", "2", "--noise"]):
+            self.trials(*words, "--runs", "1", "--json", "run.json", "--logs", "logs")
+            run = json.loads(text_of(self.path("run.json")))["runs"][0]
+            log = os.path.join("logs", f"{run['kind']}_7.log")
+            done = self.within("colregs-pilot", SCENARIO, "--program", PROGRAM, "--track", "000,14", "--every", "60", "--replay", "--log", log)
+            self.assertEqual(done[0], 0, done[2])
+            said = [[line["state"], line["course"], line["speed"]] for line in map(json.loads, done[1].splitlines())]
+            self.assertEqual(said[:len(run["states"])], [state[1:] for state in run["states"]])
+            self.assertGreater(len(said), 10)
 
     def test_one_seed_alone_is_the_run_that_it_is_among_others(self):
         self.trials("--json", "two.json")

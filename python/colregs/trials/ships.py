@@ -76,37 +76,45 @@ class Plane:
         return self.latitude + round(place[1] / 1852 * 10000), self.longitude + round(place[0] / self.east * 10000)
 
 
+@dataclass(frozen=True, order=True)
+class Sent:
+    """A line with the time at which it comes, in seconds since the Unix epoch; a report's course and speed, as it has them."""
+
+    at: int
+    line: bytes
+    reported: Track | None = field(default=None, compare=False)
+
+
 class Transmitter:
-    """What one ship sends, and what of it is heard: lines with the time at which each comes."""
+    """What one ship sends, and what of it is heard."""
 
     def __init__(self, ship: Ship, plane: Plane, errors: Errors, draw: random.Random) -> None:
         """Takes a source of random numbers, which is used for errors alone."""
         self.ship, self.plane, self.errors, self.draw = ship, plane, errors, draw
         self.next, self.next_static = draw.randrange(errors.interval), 0
         self.wander = [draw.gauss(0, errors.place), draw.gauss(0, errors.place)] if errors.place else [0.0, 0.0]
-        self.reported: Track | None = None
 
     def is_due(self, second: int) -> bool:
         """Returns whether she sends anything in a second."""
         return second >= self.next or second >= self.next_static
 
-    def lines(self, second: int, start: int) -> list[tuple[int, bytes]]:
-        """Returns the lines of a second, each with the time at which it comes."""
-        found = []
+    def lines(self, second: int, start: int) -> list[Sent]:
+        """Returns the lines of a second that are heard."""
+        found = list[Sent]()
         if second >= self.next_static:
             self.next_static = second + STATIC_EVERY
             for fields in (name_part(self.ship.mmsi, self.ship.name), hull_part(self.ship.mmsi, CARGO, self.ship.hull())):
-                found.append((start + second, block(start + second) + sentence(fields)))
+                found.append(Sent(start + second, block(start + second) + sentence(fields)))
         if second >= self.next:
             self.next += self.errors.interval
             heard = not self.errors.missed or self.draw.random() >= self.errors.missed
-            report, late = self.report(second), self.draw.randint(0, self.errors.delay) if self.errors.delay else 0
+            (report, reported), late = self.report(second), self.draw.randint(0, self.errors.delay) if self.errors.delay else 0
             if heard:
-                found.append((start + second + late, block(start + second + late) + report))
+                found.append(Sent(start + second + late, block(start + second + late) + report, reported))
         return found
 
-    def report(self, second: int) -> bytes:
-        """Returns a position report of this second."""
+    def report(self, second: int) -> tuple[bytes, Track]:
+        """Returns a position report of this second, and the course and speed that it has."""
         errors, draw = self.errors, self.draw
         if errors.place:
             step = errors.place * math.sqrt(1 - DRIFT ** 2)
@@ -115,7 +123,7 @@ class Transmitter:
         course = self.ship.state.course + (draw.gauss(0, errors.course) if errors.course else 0.0)
         heading = self.ship.state.course + (draw.gauss(0, errors.heading) if errors.heading else 0.0)
         speed = max(0.0, self.ship.state.speed + (draw.gauss(0, errors.speed) if errors.speed else 0.0))
-        self.reported = Track(round(course * 10) % 3600 / 10, round(speed * 10) / 10)
+        reported = Track(round(course * 10) % 3600 / 10, round(speed * 10) / 10)
         latitude, longitude = self.plane.position(place)
         fields = latitude, longitude, round(speed * 10), round(course * 10) % 3600, NO_HEADING if errors.small else round(heading) % 360, second % 60
-        return sentence(class_b(self.ship.mmsi, fields) if errors.small else class_a(self.ship.mmsi, fields, 0))
+        return sentence(class_b(self.ship.mmsi, fields) if errors.small else class_a(self.ship.mmsi, fields, 0)), reported

@@ -15,9 +15,9 @@ from colregs.pilot.runner import Report, Runner, status_words
 from colregs.pilot.scenario import PilotScenario, Window, whole
 from colregs.pilot.states import Cause, Decision, State, Track, swing
 from colregs.trials.meetings import OWN_LENGTH, Begin, drawn
-from colregs.trials.ships import CLASS_A, CLASS_B, EXACT, Errors, Plane, Ship, Transmitter
+from colregs.trials.ships import CLASS_A, CLASS_B, EXACT, Errors, Plane, Sent, Ship, Transmitter
 
-START = 1700000000         # seconds since the Unix epoch: when each run begins
+START = 1700000040         # seconds since the Unix epoch: when each run begins, at a full minute
 WARM = 60                  # s: own ship's pilot begins once all have reported
 MOST = 7200                # s: no run is longer
 AFTER = 180                # s: a run goes on for so long after own ship has passed all others and is on her track again
@@ -103,15 +103,15 @@ class Result:
 class Sailor:
     """A ship with a pilot."""
 
-    def __init__(self, ship: Ship, sender: Transmitter, pilot: Pilot, wanted: Track) -> None:
+    def __init__(self, ship: Ship, pilot: Pilot, wanted: Track) -> None:
         """Takes the track that she wants."""
-        self.ship, self.sender, self.pilot, self.wanted = ship, sender, pilot, wanted
+        self.ship, self.pilot, self.wanted = ship, pilot, wanted
         self.decision: Decision | None = None
 
-    def plan(self, record: Record, now: int) -> Decision:
-        """Asks the pilot at a time, and returns what it says."""
+    def plan(self, record: Record, now: int, reported: Track | None) -> Decision:
+        """Asks the pilot at a time, and returns what it says. `reported` is of her latest report."""
         self.pilot.shorten(record, now, Patience(PATIENCE))
-        self.decision = self.pilot.step(record, now, self.wanted, self.sender.reported, PATIENCE, recheck=False)
+        self.decision = self.pilot.step(record, now, self.wanted, reported, PATIENCE, recheck=False)
         return self.decision
 
     def steer(self, now: int) -> None:
@@ -157,12 +157,13 @@ class Trial:
         self.rates = Rates(scenario.turn_rate / 10 / scenario.tick, scenario.speed_rate / 10 / scenario.tick)
         self.own = self.make_own()
         self.ships = [self.own.ship] + [Ship(begin.mmsi, begin.name, begin.length, begin.place, begin.track, self.rates) for begin in begins]
-        self.senders = [self.own.sender] + [Transmitter(ship, self.plane, self.errors(False), self.noise) for ship in self.ships[1:]]
+        self.senders = [Transmitter(ship, self.plane, self.errors(ship is self.own.ship), self.noise) for ship in self.ships]
         self.sailors = [self.own] + (self.make_sailors() if setting.others == "planning" else [])
         self.wrong = self.make_wrong(random.Random(f"{seed} contrary")) if setting.others == "contrary" else []
         self.domains = [(ship, self.radius(ship)) for ship in self.ships[1:]]
         self.inside = {ship.mmsi for ship in self.ships[1:] if math.hypot(*ship.place) < self.radius(ship)}
-        self.waiting: list[tuple[int, int, bytes]] = []
+        self.waiting: list[tuple[int, int, Sent]] = []
+        self.reported: dict[int, Track | None] = {}        # by the number of the ship, of her latest report that came
         self.lines: list[bytes] = []
         self.passed = 0
 
@@ -177,8 +178,7 @@ class Trial:
         sluggish = random.Random(f"{self.seed} sluggish").uniform(0.4, 0.9) if self.setting.sluggish else 1.0
         ship = Ship(self.scenario.own, "OWN SHIP", OWN_LENGTH, (0.0, 0.0), self.setting.track,
                     Rates(self.rates.turn * sluggish, self.rates.speed * sluggish))
-        sender = Transmitter(ship, self.plane, self.errors(True), self.noise)
-        return Sailor(ship, sender, self.pilot(self.scenario), self.setting.track)
+        return Sailor(ship, self.pilot(self.scenario), self.setting.track)
 
     def pilot(self, scenario: PilotScenario) -> Pilot:
         """Returns a pilot of a scenario."""
@@ -186,8 +186,7 @@ class Trial:
 
     def make_sailors(self) -> list[Sailor]:
         """Returns the others as ships with pilots, each with the scenario as own ship."""
-        return [Sailor(ship, sender, self.pilot(self.scenario.with_own(mmsi=ship.mmsi)), ship.state)
-                for ship, sender in zip(self.ships[1:], self.senders[1:])]
+        return [Sailor(ship, self.pilot(self.scenario.with_own(mmsi=ship.mmsi)), ship.state) for ship in self.ships[1:]]
 
     def make_wrong(self, draw: random.Random) -> list[Wrong]:
         """Returns what each of the others does who turns the wrong way."""
@@ -227,19 +226,20 @@ class Trial:
         """Sends what each ship sends in a second; late lines wait until they come."""
         for number, sender in enumerate(self.senders):
             if sender.is_due(second):
-                self.waiting += [(at, number, line) for at, line in sender.lines(second, START)]
+                self.waiting += [(sent.at, number, sent) for sent in sender.lines(second, START)]
         if self.waiting:
             due = sorted(entry for entry in self.waiting if entry[0] <= START + second)
             self.waiting = [entry for entry in self.waiting if entry[0] > START + second]
-            for at, _, line in due:
-                self.record.take(line, at)
-                self.lines.append(line)
+            for at, number, sent in due:
+                self.record.take(sent.line, at)
+                self.lines.append(sent.line)
+                self.reported[number] = sent.reported or self.reported.get(number)
 
     def plan(self, second: int) -> None:
         """Lets each ship with a pilot plan, and counts what own ship's says."""
-        for sailor in self.sailors:
+        for number, sailor in enumerate(self.sailors):
             before, clock = sailor.decision, time.monotonic()
-            decision = sailor.plan(self.record, START + second)
+            decision = sailor.plan(self.record, START + second, self.reported.get(number))
             if sailor is self.own:
                 self.result.seconds.append(time.monotonic() - clock)
                 self.count(second, before, decision)
