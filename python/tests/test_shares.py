@@ -169,7 +169,12 @@ class Machines(Shares):
     def test_by_gnu_parallel(self) -> None:
         self.plan("--ticks-each", "1000", "--group", "7")
         self.many("jobs", "--parallel", "--jobs", "3")
-        self.assertEqual(text_of(self.path("jobs.kept/joblog")).count("colregs-many one"), 3)
+        logs = [name for name in os.listdir(self.path("jobs.kept")) if name.startswith("joblog.")]
+        self.assertEqual([text_of(self.path("jobs.kept/" + name)).count("colregs-many one") for name in logs], [3])
+        self.assertEqual(crowd.stretches(self.many("join", "jobs")[1]), crowd.stretches(self.whole()))
+        self.write("s.toml", crowd.harbour() + "# another scenario\n")
+        self.many("jobs", "--parallel", "--jobs", "3")
+        self.assertEqual(len([name for name in os.listdir(self.path("jobs.kept")) if name.startswith("joblog.")]), 2)
         self.assertEqual(crowd.stretches(self.many("join", "jobs")[1]), crowd.stretches(self.whole()))
 
     def test_a_script_for_slurm_runs_the_job_of_its_number(self) -> None:
