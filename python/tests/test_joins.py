@@ -21,7 +21,7 @@ from colregs.model.formulas import YES, sight_of
 from colregs.model.scenario import Scenario
 from colregs.run.limits import next_step
 from colregs.shares.jobs import whole_result
-from colregs.shares.spans import Span, believed
+from colregs.shares.spans import Span, believed, read_span
 
 Row = tuple[float, bytes]
 NUMBERS = range(9000, 9036)         # drawn logs that run here; `drawn_logs.py PROGRAM --count 20000` runs more
@@ -161,6 +161,26 @@ class Windows(Joins):
             with tempfile.TemporaryDirectory() as folder, unittest.mock.patch("sys.stderr", io.StringIO()):
                 outcome = drawn_logs.tried(number, PROGRAM, folder)
             self.assertEqual(outcome.faults, [], f"drawn log {number}")
+
+
+class Plans(Joins):
+    def test_a_stored_index_gives_the_same_plan_without_reading_the_files_again(self) -> None:
+        rows = sorted(two(), key=lambda row: row[0])
+        self.log([row for row in rows if row[0] < 9000], "one.gz")
+        self.log([row for row in rows if row[0] >= 9000], "two.gz")
+        self.write("s.toml", SCENARIO)
+        words = ["s.toml", "one.gz", "two.gz", "--ticks-each", "360"]
+        ways: tuple[list[str], ...] = ([], ["--ticks", "1000"])
+        for more in ways:
+            plan = self.many("plan", *words, *more)[1]
+            self.assertEqual(self.many("plan", *words, *more, "--index", "index")[1], plan)
+            with unittest.mock.patch("colregs.shares.index.read_span", side_effect=AssertionError if not more else read_span):
+                self.assertEqual(self.many("plan", *words, *more, "--index", "index")[1], plan)
+        self.log(rows, "two.gz")
+        self.assertEqual(self.many("plan", *words, "--index", "index")[1], self.many("plan", *words)[1])
+        for name in os.listdir(self.path("index")):
+            self.write("index/" + name, "{")
+        self.assertEqual(self.many("plan", *words, "--index", "index")[1], self.many("plan", *words)[1])
 
 
 class Tiles(Joins):

@@ -33,7 +33,7 @@ from colregs.shares.jobs import Job, Kept, read_job, read_jobs
 def write_plan(given: argparse.Namespace) -> int:
     """Writes the list of jobs."""
     program = found(given.program) if given.group or given.tiles else None
-    wanted = plans.Wanted(given.start, given.ticks, given.every, given.overlap, given.group, given.tiles)
+    wanted = plans.Wanted(given.start, given.ticks, given.every, given.overlap, given.group, given.tiles, given.index)
     for job in plans.plan(given.files, wanted, Scenario(given.scenario), program):
         print(json.dumps(job))
     return DONE
@@ -130,6 +130,7 @@ def add_plan(words: argparse.ArgumentParser) -> None:
                        help="how far a window runs on into the next (default: as long as --ticks-each)")
     words.add_argument("--group", type=at_least(1, 64), metavar="N", help="subjects of a share at most (default: all pairs are in one)")
     words.add_argument("--tiles", type=tiles, metavar="CxR", help="columns and rows, as 4x3")
+    words.add_argument("--index", metavar="DIR", help="store what is read of the files here, so that the next plan reads only those that changed")
     add_program(words)
 
 

@@ -13,8 +13,9 @@ from colregs.model.scenario import MOST_TICKS, Scenario
 from colregs.run.pipes import piped, reader
 from colregs.shares.cutter import Cut
 from colregs.shares.heads import STRADDLE
+from colregs.shares.index import Index
 from colregs.shares.runs import write_cut
-from colregs.shares.spans import Span, believed, clock_before, read_span
+from colregs.shares.spans import Span, believed, clock_before
 from colregs.shares.types import Types
 
 MOST_PARTS = 64                  # parts of the vessels that are tried if they are too many for one run
@@ -34,6 +35,7 @@ class Wanted:
     overlap: int | None = None
     group: int | None = None
     tiles: tuple[int, int] | None = None
+    index: str | None = None
 
 
 class Points:
@@ -184,7 +186,8 @@ def plan(files: list[str], wanted: Wanted, scenario: Scenario, program: str | No
     """Yields the jobs, as dictionaries. The program is needed for groups and tiles."""
     start = scenario.start if wanted.start is None else wanted.start
     until = None if wanted.ticks is None else start + wanted.ticks * scenario.tick + scenario.gap
-    spans = [read_span(os.path.abspath(name), until) for name in files]
+    index = Index(wanted.index)
+    spans = [index.span(os.path.abspath(name), until) for name in files]
     ticks = wanted.ticks or ticks_of(spans, start, scenario)
     every, overlap = lengths(wanted, scenario, ticks)
     made = Plan(wanted, scenario, spans, start, ticks, list(windows_of(ticks, every, overlap)))
