@@ -212,6 +212,14 @@ class Healths(Streams):
             out, _ = self.follow("--whole", "--clock", "median", source="".join(wrong + self.lines), days=f"days{ahead}")
             self.assertEqual(sorted(self.rows(out)), sorted(self.whole()), ahead)
 
+    def test_lines_without_a_stamp_are_of_no_station(self) -> None:
+        said: list[str] = []
+        health = Health(self.folder, 30, said.append)
+        for line in (b"!AIVDM,2,2,1,A,x,0*00", sentences.block(1700000000, b"s:A") + b"!x", sentences.block(1700000005, b"s:B") + b"!x"):
+            health.take(line, False)
+        health.write(1700000005, 0)
+        self.assertEqual((said, sorted(health.stations), health.lines), ([], ["A", "B"], 3))
+
     def test_a_minute_without_a_line_is_told_once(self) -> None:
         said: list[str] = []
         health = Health(self.folder, 30, said.append)

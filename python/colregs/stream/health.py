@@ -38,7 +38,7 @@ class Station:
 
     def take(self, at: int, middle: int) -> None:
         """Takes the stamp of a line, where the middle of all stations is at a time."""
-        self.last, self.offset = at, at - middle
+        self.offset = at - middle
         self.lag, self.lead = max(self.lag, middle - at), max(self.lead, at - middle)
 
 
@@ -58,14 +58,13 @@ class Health:
         return int(statistics.median_low(station.last for station in self.stations.values()))
 
     def take(self, line: bytes, restamped: bool) -> None:
-        """Takes a line as it came."""
+        """Takes a line as it came; one without a stamp counts for no station."""
         at, self.lines = stamp(line), self.lines + 1
-        station = self.stations.setdefault(station_of(line), Station(last=at or 0))
-        station.lines += 1
-        station.restamped += restamped
-        if at is not None:
-            station.last = at
-            station.take(at, self.middle())
+        if at is None:
+            return
+        station = self.stations.setdefault(station_of(line), Station())
+        station.lines, station.restamped, station.last = station.lines + 1, station.restamped + restamped, at
+        station.take(at, self.middle())
 
     def came(self) -> None:
         """Notes that lines came."""
