@@ -2,7 +2,7 @@
 import hashlib
 import json
 import os
-from collections.abc import Iterator
+from collections.abc import Iterable, Iterator
 from dataclasses import dataclass, field
 from typing import Any
 
@@ -20,7 +20,7 @@ CHECKSUM = b"sum,"                  # begins the last line of a result: the SHA-
 
 @dataclass
 class Job:
-    """One share, as its line says. `plan` makes the second half of the keys; they tie a window to the whole of which it is one.
+    """One share, as its line says. `plan` makes the second half of the keys; they tie a window to the whole audit.
 
     `sums` are the SHA-256 of the files. `whole` is the first and the last second of the whole audit's window of lines. `before` is the last stamp
     before the files and the greatest that counts. The accepted reports in the stretches of time `heads` are stored for the join. `types` are ship
@@ -43,6 +43,9 @@ class Job:
     unsure: list[int] = field(default_factory=list)
 
     def __post_init__(self) -> None:
+        wrong = [name for name, good in self.forms() if not good]
+        if wrong:
+            raise ValueError(f"`{wrong[0]}` has a value of another kind")
         if not self.files:
             raise ValueError("there are no files")
         if not (0 < self.ticks <= MOST_TICKS and self.start >= 0):
@@ -55,6 +58,17 @@ class Job:
             raise ValueError("each file has a sum")
         if len(self.before) != 2 or self.whole is not None and len(self.whole) != 2:
             raise ValueError("`before` and `whole` are two numbers each")
+
+    def forms(self) -> Iterator[tuple[str, bool]]:
+        """Yields the names of the keys that hold lists, and whether all values in them are of their kind."""
+        yield "files", all(isinstance(name, str) for name in self.files)
+        yield "sums", all(isinstance(sum_, str) for sum_ in self.sums or [])
+        for name, values in (("subjects", self.subjects), ("vessels", self.vessels), ("whole", self.whole), ("unsure", self.unsure)):
+            yield name, are_numbers(values or [])
+        yield "before", are_numbers([value for value in self.before if value is not None])
+        yield "heads", all(isinstance(head, list) and len(head) == 2 and are_numbers(head) for head in self.heads)
+        yield "types", all(mmsi.isdecimal() for mmsi in self.types) and are_numbers(self.types.values())
+        yield "tile", all(edge is None or isinstance(edge, (int, float)) for edge in self.tile or [])
 
     def options(self) -> list[str]:
         """Returns the program's options for the window."""
@@ -85,6 +99,11 @@ class Job:
         """Returns the share in words, for a message."""
         group = "" if self.subjects is None else f", {len(self.subjects)} subjects from {self.subjects[0]} on"
         return f"the share of {self.ticks} ticks from {self.start}{group}{'' if self.tile is None else f', tile {self.tile}'}"
+
+
+def are_numbers(values: Iterable[Any]) -> bool:
+    """Returns whether all values are whole numbers."""
+    return all(isinstance(value, int) and not isinstance(value, bool) for value in values)
 
 
 def job_of(told: Any, folder: str = ".") -> Job:

@@ -14,7 +14,7 @@ from colregs.io.tag_blocks import blocks, stamp
 from colregs.stream.health import station_of
 
 Mark = tuple[str, int]           # a place in the day files: a day, and bytes from its beginning
-LEAP, SURE = 3600, 10            # s: a time so far ahead counts once so many lines in a row tell such
+LEAP, SURE = 3600, 10            # s: a time so far ahead counts once so many lines in a row have such
 LEAST_STATIONS, ACTIVE = 3, 100  # stations with names whose clocks are compared, and lines in which a station is heard
 RECENT, AHEAD = 21, 300          # else lines that are compared, and s that a stamp may lie ahead of their middle
 
