@@ -74,7 +74,7 @@ def measure(folder, args):
     print("| reading it once | %.2f | %.2f |" % spent("sh", "-c", reading))
     group = ["--group", str(args.group), "--program", args.program] if args.group else []
     with open(jobs, "w") as out:
-        print("| plan | %.2f | %.2f |" % spent(MANY, "plan", scenario, *names, "--overlap", "3600", *group, out=out))
+        print("| plan | %.2f | %.2f |" % spent(MANY, "plan", scenario, *names, "--ticks-each", "360", "--overlap", "3600", *group, out=out))
     for count in args.at:
         kept = os.path.join(folder, "kept%d" % count)
         words = spent(MANY, jobs, "--kept", kept, "--program", args.program, "--jobs", str(count))
