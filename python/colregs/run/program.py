@@ -82,7 +82,7 @@ class Run:
         self.status, self.text, self.words = done.returncode, done.stdout, done.stderr.decode("utf-8", "replace").strip()
 
     def rows(self, kind: str) -> list[list[bytes]]:
-        """Returns the fields of each row of a kind, none of which holds a comma except a vessel's name."""
+        """Returns the fields of each row of a kind; only a vessel's name may hold a comma."""
         head = kind.encode() + b","
         return [line.split(b",") for line in self.text.split(b"\n") if line.startswith(head)]
 
