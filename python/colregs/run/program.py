@@ -59,6 +59,15 @@ def programs_of(program: str) -> list[str]:
     return [program] + ([BUILT] if at_top and os.path.exists(BUILT) else [])
 
 
+def version_of(program: str) -> str:
+    """Returns what the program says of its version."""
+    try:
+        done = subprocess.run([program, "--version"], stdin=subprocess.DEVNULL, stdout=subprocess.PIPE, stderr=subprocess.PIPE)
+    except OSError as error:
+        raise Fault(f"{program}: {reason(error)}") from None
+    return done.stdout.decode(errors="replace").strip() or "unknown"
+
+
 class Columns(NamedTuple):
     """The points of a run, column by column: metres in 1/10000; speeds and courses as bytes, which may be empty."""
 
