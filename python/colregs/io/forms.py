@@ -1,6 +1,6 @@
-"""The forms in which a line of a log tells its time, before a sentence or behind it.
+"""The forms in which a line of a log has its time, before a sentence or after it.
 
-A time without a zone is taken to be in UTC, less an offset where the reader gives one. A time that can be read in two ways, or that lacks its
+A time without a zone is taken to be in UTC, less an offset if the user gives one. A time that can be read in two ways, or that lacks its
 date, is reported by its name and not guessed.
 """
 import datetime

@@ -1,6 +1,6 @@
-"""What tells the time in a log without times: a receiver's own UTC (RMC and ZDA of IEC 61162-1), and that of base stations.
+"""Clocks for a log without times: a receiver's own UTC (RMC and ZDA of IEC 61162-1), and that of base stations.
 
-Base stations tell it in message 4 (ITU-R M.1371). RMC, with HDT for her heading, tells where own ship was too.
+Base stations send it in message 4 (ITU-R M.1371). RMC, with HDT for her heading, also says where own ship was.
 """
 import re
 from collections.abc import Sequence
@@ -56,7 +56,7 @@ def base_time(line: bytes) -> int | None:
 
 
 class Fix:
-    """What an RMC tells: its time, whether it is valid, and own ship's report without a heading."""
+    """An RMC: its time, whether it is valid, and own ship's report without a heading."""
 
     def __init__(self, fields: Sequence[bytes]) -> None:
         mode = fields[12:13]
@@ -127,7 +127,7 @@ class Receiver:
         return "ZDA", self.rolled_over(time)
 
     def rolled_over(self, time: int) -> int:
-        """Returns the time, set forward if the date lags: by a day at midnight, or by the 1024 weeks after which GPS counts anew."""
+        """Returns the time, set forward if the date lags: by a day at midnight, or by the 1024 weeks after which GPS counts from 0 again."""
         if self.time is not None:
             for lag in (DAY, WEEKS):
                 if 0 <= time + lag - self.time <= LONGEST_GAP:

@@ -117,9 +117,9 @@ class Log:
 
 
 class Waiting:
-    """Sentences without a time, between two times that are told: they have the first where both are near to each other.
+    """Sentences without a time between two times: they get the first one if both are near to each other.
 
-    Where they are not, or none comes, as many have it as usually stand between two times. In a gap of a receiver's clock none has.
+    If they are not, or no time follows, as many get it as there usually are between two times. In a gap of a receiver's clock none gets it.
     """
 
     def __init__(self, put: Callable[[int, bytes], None], cannot: Callable[[str, bytes], None]) -> None:
@@ -416,7 +416,7 @@ def sort(path: str) -> None:
 
 
 def gather(paths: Sequence[str], out: str, *, mmsi: int | None = None, offset: int = 0) -> Gathered:
-    """Writes the logs as one at the path `out`, and tells what came of them. With an MMSI the receiver's own places become own ship's.
+    """Writes the logs as one at the path `out`; returns what came of them. With an MMSI the receiver's own places become own ship's.
 
     Times without a zone are UTC, less `offset` seconds. If no line of any log has a time, the sentences are written as they are.
     """

@@ -257,7 +257,7 @@ CHECKS = (refused, other_report, no_reports, no_times, window_misses, region_mis
 
 
 def shortened(found: Iterable[Finding]) -> Iterator[Finding]:
-    """Yields the findings, of which a few stand for many of one name."""
+    """Yields the findings; if many have one name, a few of them, and how many more there are."""
     counts: collections.Counter[str] = collections.Counter()
     for finding in found:
         counts[finding.name] += 1

@@ -145,5 +145,5 @@ def row_of(fields: Sequence[str]) -> Row:
     if len(fields) == FIELDS + 1 and fields[0] in MARKED and fields[FIELDS] in MARKS:
         fields = fields[:FIELDS]
     if len(fields) != FIELDS or fields[0] not in READERS:
-        raise ValueError(f"a row has {FIELDS} fields, of which the first is its kind")
+        raise ValueError(f"a row has {FIELDS} fields, and begins with its kind")
     return READERS[fields[0]](fields)

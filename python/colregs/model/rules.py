@@ -1,4 +1,4 @@
-"""The rules with their colours and a few words each, and how times and lengths are told."""
+"""The rules with their colours and a few words each, and how times and lengths are written."""
 import datetime
 import math
 import re
@@ -48,7 +48,7 @@ OUTCOMES = {
     "notship": "sent under an MMSI that is no ship's", "nopos": "a report without a place",
     "far": "a place too far from the scenario's reference", "back": "a report that is not later than the one before of this vessel",
     "repeat": "the same report again, within 30 s", "jump": "a report that asks for more than log.max_speed: a wrong place, or a shared MMSI",
-    "static": "what a ship tells of herself: name, type, size", "point": "an accepted report: a point of a track",
+    "static": "a ship's own data: name, type, size", "point": "an accepted report: a point of a track",
 }
 INK = "#222222"
 

@@ -6,19 +6,18 @@ import os
 import platform
 import shlex
 import shutil
-import subprocess
 import tempfile
 from collections.abc import Iterable, Iterator
 from typing import Any
 
-from colregs.errors import Fault, reason
+from colregs.errors import Fault
 from colregs.io import sources
 from colregs.io.files import read_text, sum_of
 from colregs.model import doctor, guess, summaries
 from colregs.model.earth import iso
 from colregs.model.reports import Case, case_file
 from colregs.page import database, maps, page
-from colregs.run.program import programs_of, report_of, window_options
+from colregs.run.program import programs_of, report_of, version_of, window_options
 
 LOG, SCENARIO, POINTS, REPORT = "case.log", "scenario.toml", "points.csv", "report.csv"
 ABOUT, PAGE, MAP, DATABASE = "case.json", "case.html", "case.geojson", "case.db"
@@ -31,15 +30,6 @@ def reports_in(folder: str) -> tuple[str, str, str]:
     case_file(folder)
     scenario, points, report = (os.path.join(folder, name) for name in (SCENARIO, POINTS, REPORT))
     return scenario, read_text(points), read_text(report)
-
-
-def version_of(program: str) -> str:
-    """Returns what the program says of its version."""
-    try:
-        done = subprocess.run([program, "--version"], stdin=subprocess.DEVNULL, stdout=subprocess.PIPE, stderr=subprocess.PIPE)
-    except OSError as error:
-        raise Fault(f"{program}: {reason(error)}") from None
-    return done.stdout.decode(errors="replace").strip() or "unknown"
 
 
 @contextlib.contextmanager

@@ -31,7 +31,7 @@ def points(case: Case, earth: Earth) -> Iterator[str]:
 
 
 def parts_of(track: Track, gap: int) -> Iterator[range]:
-    """The numbers of the reports of each part of a track, no two of which lie more than a gap apart."""
+    """Yields the numbers of the reports of each part of a track; a part ends where the next report is more than a gap later."""
     begin = 0
     for k in range(1, len(track.times) + 1):
         if k == len(track.times) or track.times[k] - track.times[k - 1] > gap:

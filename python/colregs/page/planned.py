@@ -54,6 +54,7 @@ class Planned(Case):
         self.radii = {mmsi: own["base"] + own["lengths"] * self.lengths[mmsi] for mmsi in self.targets}
 
     def take(self, row: Row) -> None:
+        """Takes one row, also those of a plan."""
         super().take(row)
         if isinstance(row, Vessel):
             self.lengths[row.mmsi] = row.length

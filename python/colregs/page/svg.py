@@ -107,7 +107,7 @@ class Picture:
 
 
 class Labels:
-    """Puts words near a place where they cover as little as can be: other words, and the points that were told.
+    """Puts words near a place where they cover as little as can be: other words, and the points that are known.
 
     Boxes and points are kept by the cells of a grid, so that a picture with many of both is drawn in time.
     """

@@ -65,6 +65,7 @@ class Chart(Generic[Window]):
 
 
 def window_words(case: Case) -> str:
+    """Returns the steps that are drawn in words."""
     first, last = (case.moment(step) for step in case.shown)
     until = clock(last) if date(first) == date(last) else f"{date(last)}, {clock(last)}"
     return f"{date(first)}, {clock(first)} to {until} UTC."

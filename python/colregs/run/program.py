@@ -59,6 +59,15 @@ def programs_of(program: str) -> list[str]:
     return [program] + ([BUILT] if at_top and os.path.exists(BUILT) else [])
 
 
+def version_of(program: str) -> str:
+    """Returns what the program says of its version."""
+    try:
+        done = subprocess.run([program, "--version"], stdin=subprocess.DEVNULL, stdout=subprocess.PIPE, stderr=subprocess.PIPE)
+    except OSError as error:
+        raise Fault(f"{program}: {reason(error)}") from None
+    return done.stdout.decode(errors="replace").strip() or "unknown"
+
+
 class Columns(NamedTuple):
     """The points of a run, column by column: metres in 1/10000; speeds and courses as bytes, which may be empty."""
 
@@ -82,7 +91,7 @@ class Run:
         self.status, self.text, self.words = done.returncode, done.stdout, done.stderr.decode("utf-8", "replace").strip()
 
     def rows(self, kind: str) -> list[list[bytes]]:
-        """Returns the fields of each row of a kind, none of which holds a comma except a vessel's name."""
+        """Returns the fields of each row of a kind; only a vessel's name may hold a comma."""
         head = kind.encode() + b","
         return [line.split(b",") for line in self.text.split(b"\n") if line.startswith(head)]
 
