@@ -109,7 +109,7 @@ def _name(line: str) -> str:
 
 
 def shares(module: Module, count: int) -> List[Set[str]]:
-    """Returns the large functions in so many shares, each of which needs about as many lines, those of others included."""
+    """Returns the large functions in so many shares, and each share needs about as many lines, copies included."""
     edge = module.large(module.needed([MAIN], set()))
     needs = {name: module.needed([name], edge - {name}) - (edge - {name}) for name in edge}
     shared: List[Set[str]] = [set() for _ in range(count)]
