@@ -16,7 +16,7 @@ from colregs.pilot.states import Plan
 
 @dataclass(frozen=True)
 class Area:
-    """An area with its holes: rings of places in metres on the plane, each of which ends where it begins."""
+    """An area with its holes: rings of places in metres on the plane. Each ring ends where it begins."""
 
     name: str
     rings: tuple[tuple[Place, ...], ...]

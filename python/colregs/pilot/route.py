@@ -54,7 +54,7 @@ class Route:
         self.places, self.speeds, self.leg, self.is_done = places, speeds, 1, False
 
     def track_at(self, place: Place | None) -> Track:
-        """Returns the course and speed to steer at a place, and goes on to the next leg at its waypoint."""
+        """Returns the course and speed to steer at a place, and begins the next leg at its waypoint."""
         if place is None:
             return self.leg_track()
         while not self.is_done and self.remaining(place) <= EARLY * self.speeds[self.leg] * KNOT:

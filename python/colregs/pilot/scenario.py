@@ -62,7 +62,7 @@ def scalar_text(value: object) -> str:
 
 
 def is_table_list(value: object) -> bool:
-    """Returns whether a value is a list of tables, each of which gets a head of its own."""
+    """Returns whether a value is a list of tables: each gets a head of its own."""
     return isinstance(value, list) and bool(value) and all(isinstance(item, Mapping) for item in value)
 
 

@@ -51,7 +51,7 @@ class Leg:
 
 @dataclass(frozen=True)
 class Plan:
-    """A plan of the program: its number, when it was made, and its legs, each of which begins where the one before ends."""
+    """A plan of the program: its number, when it was made, and its legs. Each leg begins where the one before ends."""
 
     number: int
     made: int

@@ -44,7 +44,7 @@ HEAD = ("kind", "others", "runs", "collisions", "domains", "least", "least_quart
 
 
 def quartiles(values: Sequence[float]) -> tuple[float, ...]:
-    """Returns the least, the quartiles and the greatest of values, each of which is one of them."""
+    """Returns the least, the quartiles and the greatest of values, all taken from them."""
     ordered = sorted(values)
     return tuple(round(ordered[k * (len(ordered) - 1) // 4], 1) for k in range(5))
 
