@@ -104,7 +104,7 @@ def without_checks(lines: Iterable[str], inlining: Inlining) -> Iterator[str]:
             is_in_check = not line.startswith("}")
         elif line.startswith(_CHECK):
             is_in_check = True
-            yield line.split("#")[0] + "alwaysinline {\n  ret void\n}\n"
+            yield from (line.split("#")[0] + "alwaysinline {\n", "  ret void\n", "}\n")
         elif line.startswith("define "):
             found = _DEFINITION.match(line)
             words = inlining.of(found.group(1)) if found else NONE

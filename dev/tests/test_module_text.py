@@ -3,6 +3,7 @@ from __future__ import annotations
 
 import unittest
 
+from dev.module_parts import Module
 from dev.module_text import Inlining, attributes_in, without_checks
 from dev.tests.given import InFolder
 
@@ -68,7 +69,9 @@ class Text(InFolder):
         self.assertEqual(self.inlining.of("other::small"), set())
 
     def test_checks_fills_and_marks_go_and_all_else_stays(self) -> None:
-        text = "".join(without_checks(MODULE.splitlines(True), self.inlining))
+        lines = list(without_checks(MODULE.splitlines(True), self.inlining))
+        self.assertEqual([line.count("\n") for line in lines], [1] * len(lines))
+        text = "".join(lines)
         self.assertNotRegex(text, r"llvm\.trap|i8 -86|sanitize_address|frame-pointer")
         self.assertIn('define internal void @"rattle-llvm-checks::overflow"(i1 noundef %a0) alwaysinline {\n  ret void\n}\n', text)
         self.assertIn("call void @llvm.memset.p0.i64(ptr %r1, i8 0, i64 8, i1 false)\n", text)
@@ -78,6 +81,11 @@ class Text(InFolder):
         self.assertIn('attributes #0 = { "target-cpu"="x86-64-v2" }\n', text)
         self.assertIn("attributes #1 = { nounwind }\n", text)
         self.assertRegex(text, r"attributes #900 = \{ alwaysinline nounwind .*\}\nattributes #901 = \{ cold nounwind .*\}\n$")
+
+    def test_what_is_left_splits_into_its_functions(self) -> None:
+        module = Module(without_checks(MODULE.splitlines(True), self.inlining))
+        self.assertEqual(list(module.functions), ["main", '"rattle-llvm-checks::overflow"', '"low::deep::small"', '"low::Thing::far::<#d858>"'])
+        self.assertEqual(module.attributes('"low::deep::small"').split()[0], "alwaysinline")
 
 
 if __name__ == "__main__":
