@@ -85,6 +85,42 @@ class Files(Cases):
         self.assertRegex(self.make(status=1)[2], "status 3, scenario: window.tick: range")
 
 
+class ContactLost(Cases):
+    """WEST falls silent 250 s after the start: then she is 15000 units east of EAST and 1000 north, 2784.2 m, and closes by 60 units a second."""
+
+    END = "contact lost 22:17:30; nearest while both were heard 2,784 m; if both went on: 185 m at 22:21:40 (computed from their last reports)"
+
+    def setUp(self) -> None:
+        super().setUp()
+        self.write("passing.log", passing.log(silent_after=250))
+
+    def test_the_summary_says_how_near_both_would_have_come(self) -> None:
+        said = self.make()[1]
+        self.assertIn("1 meeting of 1 ends because a vessel was no longer heard", said)
+        self.assertIn(self.END, said)
+
+    def test_page_map_and_database_mark_the_meeting(self) -> None:
+        self.make()
+        found = re.search(r'<script type="application/json" id="case">(.*?)</script>', self.held("case.html"), re.S)
+        self.assertEqual([meeting["lost"] for meeting in json.loads(found[1] if found else "")["meetings"]], [self.END])
+        kinds = {f["properties"]["kind"] for f in json.loads(self.held("case.geojson"))["features"] if f["properties"].get("contact_lost") == self.END}
+        self.assertEqual(kinds, {"meeting", "nearest", "between"})
+        with sqlite3.connect(self.path("made/case.db")) as base:
+            rows = base.execute("select distinct contact_lost, round(if_both_went_on, 1), if_both_went_on_at from meeting").fetchall()
+            self.assertEqual(rows, [("2023-11-14T22:17:30Z", passing.LEAST, MOMENT)])
+        base.close()
+
+    def test_the_doctor_names_the_pair(self) -> None:
+        status, out, _ = self.tool("colregs-doctor", "--program", PROGRAM, "passing.toml", "passing.log")
+        self.assertEqual((status, out), (1, f"contact lost: EAST ({passing.EAST}) and WEST ({passing.WEST}): {self.END}\n"))
+
+    def test_a_meeting_that_the_end_of_the_log_ends_is_not_marked(self) -> None:
+        """Both are heard to the end of a log that ends before they are near."""
+        lines = passing.log().splitlines(keepends=True)
+        self.write("passing.log", "".join(line for line in lines if not line.startswith("\\c:") or int(line[3:13]) <= passing.START + 250))
+        self.assertNotIn("contact lost", self.make()[1])
+
+
 class Maps(Cases):
     def test_the_nearest_places_are_where_they_are_by_hand(self) -> None:
         self.make()

@@ -9,11 +9,13 @@ import tomllib
 from collections.abc import Iterable, Iterator, Sequence
 from typing import Any
 
-from colregs.model import log_checks, scenario_checks
+from colregs.model import log_checks, lost, scenario_checks
 from colregs.io.files import read_bytes
 from colregs.io.logs import sampled
 from colregs.io.sentences import ship_place
+from colregs.model.rows import METRE, meeting
 from colregs.model.scenario_checks import Finding, numbers_at
+from colregs.model.tracks import NONE, Track
 from colregs.run.limits import next_step
 from colregs.run.program import Columns, Run
 
@@ -47,7 +49,7 @@ class Patient:
         self.audit, self.points = (self.run(mode) for mode in ("audit", "points"))
         self.counts = self.audit.counts() if self.audit.status == 0 else {}
         columns = self.points.columns() if self.points.status == 0 else Columns([], [], [], [], [], [])
-        self.ships, self.times, _, self.norths, self.speeds, self.courses = columns
+        self.ships, self.times, self.easts, self.norths, self.speeds, self.courses = columns
         self.vessels = {int(fields[1]): fields for fields in self.rows("vessel")}
         self.sentences = sum(count for name, count in self.counts.items() if name not in NO_SENTENCE)
 
@@ -66,6 +68,18 @@ class Patient:
     def rows(self, kind: str) -> list[list[str]]:
         """Returns the rows of the audit of a kind, as fields."""
         return self.kinds.get(kind, [])
+
+    def tracks(self) -> dict[int, Track]:
+        """Returns the vessels' accepted reports, with times after the window's start."""
+        found: dict[int, Track] = collections.defaultdict(Track)
+        start = self.window()[0]
+        for mmsi, at, x, y, speed, course in zip(self.ships, self.times, self.easts, self.norths, self.speeds, self.courses):
+            track = found[mmsi]
+            for column, value in ((track.times, at - start), (track.speeds, int(speed or NONE)), (track.courses, int(course or NONE))):
+                column.append(value)
+            track.xs.append(x / METRE)
+            track.ys.append(y / METRE)
+        return found
 
     def window(self) -> tuple[int, int]:
         """Returns the first and the last second of the window."""
@@ -252,8 +266,22 @@ def at_rest(patient: Patient) -> Iterator[Finding]:
         yield Finding("verdicts at rest", f"{mmsi} never makes 0.5 knots, and has {count} of the verdicts")
 
 
+def contact_lost(patient: Patient) -> Iterator[Finding]:
+    """Yields meetings that end because a vessel is no longer heard while the two are closing, the nearest first."""
+    rows = {(min(row.pair), max(row.pair), row.first, row.last): row for row in map(meeting, patient.rows("meeting"))}
+    if not rows:
+        return
+    tracks, (start, end) = patient.tracks(), patient.window()
+    tick, gap = (numbers_at(patient.values, name)[0] for name in ("window.tick", "log.gap"))
+    ends = [(row, found) for row in rows.values() if (found := lost.lost(tracks, row, tick, (end - start) // tick, gap))]
+    for row, found in sorted(ends, key=lambda entry: entry[1].ahead.least if entry[1].ahead else 0):
+        if found.still_closing(row.least):
+            one, two = (f"{patient.vessels[mmsi][2]} ({mmsi})" if patient.vessels[mmsi][2] else str(mmsi) for mmsi in sorted(row.pair))
+            yield Finding("contact lost", f"{one} and {two}: {lost.words(found, row.least, start)}")
+
+
 CHECKS = (refused, other_report, no_reports, no_times, window_misses, region_misses, reference_far, unsorted, damaged, absent, unseen,
-          senders, at_rest)
+          senders, at_rest, contact_lost)
 
 
 def shortened(found: Iterable[Finding]) -> Iterator[Finding]:

@@ -15,7 +15,7 @@ create table file (name text primary key, sha256 text, bytes integer);
 create table point (mmsi integer, time integer, utc text, east real, north real, latitude real, longitude real, speed real, course real);
 create table vessel (mmsi integer primary key, name text, ship_type integer, length integer, reports integer);
 create table meeting (id integer primary key, subject integer, other integer, encounter text, first integer, last integer, begins text,
-  ends text, least real, nautical_miles real, nearest text, at_rest text);
+  ends text, least real, nautical_miles real, nearest text, at_rest text, contact_lost text, if_both_went_on real, if_both_went_on_at text);
 create table verdict (id integer primary key, subject integer, other integer, rule text, value text, first integer, last integer, begins text,
   ends text, at_rest text);
 create table total (rule text primary key, positions integer, yes integer, no integer, open integer, broken integer);
@@ -46,12 +46,20 @@ def ends(case: Case, row: Stretch) -> tuple[str, str]:
     return iso(case.moment(row.first)), iso(case.moment(row.last + 1))
 
 
+def lost_fields(case: Case, row: Stretch) -> tuple[str | None, float | None, str | None]:
+    """Returns when contact was lost at the end of a meeting, and the least distance in metres and its moment if both had gone on."""
+    found = case.lost(row)
+    if found is None or found.ahead is None:
+        return iso(case.start + found.at) if found else None, None, None
+    return iso(case.start + found.at), round(found.ahead.least, 1), iso(round(case.start + found.ahead.at))
+
+
 def meetings(case: Case) -> Iterator[tuple[Any, ...]]:
     """Yields the rows of the table `meeting`."""
     for number, row in enumerate(case.meetings, 1):
         nearest = iso(round(case.start + case.nearest(row)[0])) if case.tracks else None
         yield (number, *row.pair, row.kind, row.first, row.last, *ends(case, row), row.least, round(row.least / 1852, 4),
-               nearest, case.rest(row))
+               nearest, case.rest(row), *lost_fields(case, row))
 
 
 def verdicts(case: Case) -> Iterator[tuple[Any, ...]]:

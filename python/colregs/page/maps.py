@@ -71,6 +71,8 @@ def meetings(case: Case, earth: Earth) -> Iterator[str]:
     """The subject's way in each meeting; and where the two were nearest, a line between them and the subject's point."""
     for row in case.meetings:
         more = {**about(case, row), "encounter": row.kind, "least": row.least}
+        if words := case.lost_words(row):
+            more["contact_lost"] = words
         way = stretch(case, earth, row)
         if way:
             yield feature("LineString", way, kind="meeting", **more)

@@ -68,7 +68,7 @@ def meetings(case: Case, numbers: Mapping[int, int]) -> list[dict[str, Any]]:
         entries.append({"pair": [numbers[mmsi] for mmsi in key[:2]], "kinds": [kinds.get(mmsi, "") for mmsi in key[:2]], "first": key[2],
                         "last": key[3], "least": round(rows[0].least, 1), "nearest": round(seconds),
                         "places": [[round(value, 1) for value in place] for place in places],
-                        "rest": resting(case, rows, key)})
+                        "rest": resting(case, rows, key), "lost": case.lost_words(rows[0])})
     return entries
 
 

@@ -43,12 +43,14 @@ const Page = (() => {
       { title: "at (UTC)", kind: "time", of: (m) => clockOnly(m.nearest), by: (m) => m.nearest },
       { title: "Rules", of: (m) => chips(m), by: (m) => -m.verdicts.filter((v) => v.broken).length },
       { title: "At rest", of: (m) => m.rest.length ? [element("span", stillWords(m.rest, m.pair), { class: "still" })] : [""], by: (m) => -m.rest.length },
+      { title: "Contact lost", of: (m) => m.lost ? [element("span", m.lost, { class: "lost" })] : [""], by: (m) => m.lost ? 0 : 1 },
     ];
-    const words = (m) => [...m.pair.map(fullName), ...m.kinds, ...m.verdicts.map((v) => HELD.rules[v.rule].name), m.rest.length ? "still" : ""].join(" ");
+    const words = (m) => [...m.pair.map(fullName), ...m.kinds, ...m.verdicts.map((v) => HELD.rules[v.rule].name), m.rest.length ? "still" : "", m.lost].join(" ");
     meetingTable = new Table(byId("meetings"), columns, HELD.meetings, { words, choose: (m) => choose(m), isChosen: (m) => m === chosen,
       mark: (row, m) => row.setAttribute("data-meeting", m.number + 1), onFilter: (found) => Times.show(found) });
     meetingTable.addBox("with a broken rule", (m) => m.verdicts.some((v) => v.broken));
     meetingTable.addBox("both under way", (m) => !m.rest.length);
+    meetingTable.addBox("contact lost", (m) => m.lost !== "");
     meetingTable.filter();
   }
 
@@ -106,6 +108,7 @@ const Page = (() => {
     const near = `${metres(meeting.least)} m (${miles(meeting.least)} nautical miles) at ${clockOnly(meeting.nearest)}`;
     const words = element("span", `${utc(begins(meeting))} to ${endWords(meeting)} UTC. ${part(0)}; ${part(1)}. Nearest ${near}. `);
     const still = meeting.rest.length ? [element("span", stillWords(meeting.rest, meeting.pair), { class: "still" }), " "] : [];
+    if (meeting.lost) still.push(element("strong", `${capital(meeting.lost)}.`, { class: "lost" }), " ");
     const when = (v) => `${clockOnly(begins(v))} to ${clockOnly(ends(v))}`;
     const rules = meeting.verdicts.flatMap((v) => [element("br"), chip(v), `${nameOf(v.pair[0])}, ${when(v)}: ${HELD.rules[v.rule].words}`]);
     byId("chosen-words").replaceChildren(words, ...still, ...(rules.length ? rules : [element("span", "No rule is broken or open.")]));

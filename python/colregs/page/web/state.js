@@ -96,6 +96,8 @@ function stillWords(numbers, pair) {
   return numbers.length === 2 ? "both lie still" : `${nameOf(pair[numbers[0]])} lies still`;
 }
 
+function capital(words) { return words.slice(0, 1).toUpperCase() + words.slice(1); }
+
 // The least of 1, 2 and 5 times a power of ten that is not below the value.
 function nice(value) {
   const power = 10 ** Math.floor(Math.log10(value));
