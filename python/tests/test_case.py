@@ -9,6 +9,7 @@ import unittest
 import browser
 import passing
 from given import InFolder, PROGRAM, with_program
+from colregs.io.sentences import block
 from colregs.page import page
 
 MOMENT = "2023-11-14T22:21:40Z"
@@ -119,6 +120,30 @@ class ContactLost(Cases):
         lines = passing.log().splitlines(keepends=True)
         self.write("passing.log", "".join(line for line in lines if not line.startswith("\\c:") or int(line[3:13]) <= passing.START + 250))
         self.assertNotIn("contact lost", self.make()[1])
+
+
+class Times(Cases):
+    def test_a_log_without_a_time_is_refused_with_what_to_do(self) -> None:
+        self.write("passing.log", re.sub(r"(?m)^\\[^\\]*\\", "", passing.log()))
+        error = self.make(status=1)[2]
+        for words in ("no line has a time", "colregs-tagged --now", "receiver", "--without-times"):
+            self.assertIn(words, error)
+        self.assertFalse(os.path.exists(self.path("made")))
+        self.assertIn("none of which tells a time", self.make("--without-times")[1])
+
+    def test_a_capture_of_a_network_is_refused_with_what_to_do(self) -> None:
+        """The first bytes of pcap (both orders and units of time) and of pcapng, as their specifications give them."""
+        for head in ("d4c3b2a1", "a1b2c3d4", "4d3cb2a1", "a1b23c4d", "0a0d0d0a"):
+            self.write("passing.log", bytes.fromhex(head) + bytes(20) + passing.log().encode())
+            for error in (self.make(status=1)[2], self.tool("colregs-tagged", "passing.log")[2]):
+                self.assertRegex(error, "passing.log is a capture of a network.*tshark -r passing.log")
+
+    def test_dates_in_the_future_are_a_doubt(self) -> None:
+        """4000000000 s are 2 October 2096, 07:06:40 UTC."""
+        later = re.sub(r"\\c:(\d+)\*..\\", lambda found: block(int(found[1]) % 10 ** 9 + 4 * 10 ** 9 - 7 * 10 ** 8).decode(), passing.log())
+        self.write("passing.log", later)
+        self.write("passing.toml", passing.SCENARIO.replace("start = 1700000000", "start = 4000000000"))
+        self.assertIn("Times in the future: the log has times up to 2096-10-02 07:23:20 UTC", self.make()[1])
 
 
 class Maps(Cases):

@@ -27,6 +27,7 @@ def parser() -> argparse.ArgumentParser:
     add_window(words, "instead of the scenario's")
     words.add_argument("--mmsi", type=ship, help="own ship's MMSI, if a receiver's own places are hers")
     words.add_argument("--offset", type=offset, default=0, metavar="+HH:MM", help="how far the logs' times without a zone are ahead of UTC")
+    words.add_argument("--without-times", action="store_true", help="take a log in which no line has a time, with one report of each vessel")
     words.add_argument("--chart", metavar="FILE.geojson", help="a coast for the map of the page")
     words.add_argument("--title", help="the title of the page")
     return words

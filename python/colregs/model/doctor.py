@@ -23,6 +23,8 @@ REFUSED = {3: "this is the first key with a fault; docs/SCENARIO.md has its rang
            9: "own ship must be in the log before the window's end, with course and speed"}
 NO_SENTENCE = ("empty", "long", "tag", "other", "form", "sum", "armour")
 SHOWN = 5                               # findings of one name that are shown; the others are counted
+DAY = 86400                             # s
+ROLLOVER = 1024 * 7 * DAY               # s: after so long the week of GPS begins at 0 again
 STILL = 5                               # 1/10 knot: who never makes this lies still
 
 
@@ -134,6 +136,18 @@ def no_times(patient: Patient) -> Iterator[Finding]:
     elif looked > 2 * len(told) and dropped > patient.counts.get("point", 0):
         yield Finding("no times", f"{looked - len(told)} of {looked} lines have no time of their own, and count at the time of a line before. "
                       "Give times by tools/tagged")
+
+
+def future(patient: Patient) -> Iterator[Finding]:
+    """Yields a finding if the log has times that this machine's clock has not reached."""
+    _, told = log_checks.times_of(patient.log)
+    latest, now = max([*told, *patient.times], default=0), time.time()
+    if latest <= now + DAY:
+        return
+    rolled = latest - ROLLOVER
+    hint = f"; less the 1024 weeks of a GPS roll-over it would be {clock(rolled)}" if rolled <= now + DAY else ""
+    yield Finding("times in the future", f"the log has times up to {clock(latest)} UTC, and this machine's clock shows {clock(now)}: "
+                  f"was the receiver's clock not set{hint}")
 
 
 def window_misses(patient: Patient) -> Iterator[Finding]:
@@ -280,7 +294,7 @@ def contact_lost(patient: Patient) -> Iterator[Finding]:
             yield Finding("contact lost", f"{one} and {two}: {lost.words(found, row.least, start)}")
 
 
-CHECKS = (refused, other_report, no_reports, no_times, window_misses, region_misses, reference_far, unsorted, damaged, absent, unseen,
+CHECKS = (refused, other_report, no_reports, no_times, future, window_misses, region_misses, reference_far, unsorted, damaged, absent, unseen,
           senders, at_rest, contact_lost)
 
 

@@ -20,6 +20,8 @@ from colregs.page import database, maps, page
 from colregs.run.program import programs_of, report_of, version_of, window_options
 
 LOG, SCENARIO, POINTS, REPORT = "case.log", "scenario.toml", "points.csv", "report.csv"
+NO_TIMES = ("no line has a time, so nobody knows who met whom when. Record again with times: `tools/colregs-tagged --now` stamps sentences as they arrive, "
+            "or have the receiver write tag blocks or times (docs/SOURCES.md). --without-times takes each vessel's first report alone")
 ABOUT, PAGE, MAP, DATABASE = "case.json", "case.html", "case.geojson", "case.db"
 
 
@@ -81,6 +83,8 @@ class Making:
         gathered = sources.gather(self.given.logs, self.path(LOG), mmsi=self.given.mmsi, offset=self.given.offset)
         if not gathered.sentences and not gathered.untimed:
             raise Fault("no sentence and no row was read. " + "; ".join(gathered.words()))
+        if gathered.first is None and not self.given.without_times:
+            raise Fault(NO_TIMES)
         return gathered
 
     @staticmethod
@@ -119,6 +123,7 @@ class Making:
         for name in ("scenario", "start", "ticks", "mmsi", "chart"):
             value = getattr(self.given, name)
             given += [] if value is None else ["--" + name, os.path.basename(str(value))]
+        given += ["--without-times"] if self.given.without_times else []
         hours, minutes = divmod(abs(self.given.offset) // 60, 60)
         given += [f"--offset={'-' if self.given.offset < 0 else '+'}{hours:02d}:{minutes:02d}"] if self.given.offset else []
         made = [f"colregs-case {shlex.join(given)} -o CASE"]
