@@ -122,6 +122,45 @@ class ContactLost(Cases):
         self.assertNotIn("contact lost", self.make()[1])
 
 
+class Parts(Cases):
+    def about(self) -> dict[str, int]:
+        window: dict[str, int] = json.loads(self.held("case.json"))["window"]
+        return window
+
+    def test_the_window_that_is_asked_for_is_audited(self) -> None:
+        """From 22:15:00, 100 s after the start, to 22:23:20, 500 s later: 50 steps of 10 s."""
+        for end in ("22:23:20", "2023-11-14T22:23:20Z", "1700000600"):
+            with self.subTest(end):
+                self.make("--from", "22:15", "--to", end, "-o", "made" + end)
+                with open(self.path(f"made{end}/case.json"), encoding="utf-8") as source:
+                    window = json.load(source)["window"]
+                self.assertEqual((window["start"], window["ticks"]), (1700000100, 50))
+
+    def test_a_guess_takes_the_window_that_is_asked_for(self) -> None:
+        status, _, error = self.tool("colregs-case", "passing.log", "--program", PROGRAM, "-o", "made", "--from", "22:15", "--to", "22:23:20")
+        self.assertEqual(status, 0, error)
+        window = self.about()
+        self.assertEqual((window["start"], window["ticks"] * window["tick"]), (1700000100, 500))
+
+    def test_only_pairs_with_a_vessel_that_is_asked_for_are_audited(self) -> None:
+        """WEST is given by her name, EAST by her number; of the one who lies still only pairs with WEST stay."""
+        for vessel, mmsi in (("west", passing.WEST), (str(passing.EAST), passing.EAST)):
+            with self.subTest(vessel):
+                said = self.make("--vessel", vessel, "-o", "of" + vessel)[1]
+                self.assertIn(f"only pairs with {vessel} were audited", said)
+                with open(self.path(f"of{vessel}/report.csv"), encoding="utf-8") as source:
+                    pairs = {tuple(row.split(",")[1:3]) for row in source if row.startswith(("meeting", "verdict"))}
+                self.assertTrue(pairs)
+                self.assertTrue(all(str(mmsi) in pair for pair in pairs), pairs)
+
+    def test_what_cannot_be_asked_is_named(self) -> None:
+        for words, status, told in ((["--from", "23:00", "--to", "22:59:00"], 1, "no vessel has a position|no time lies between"),
+                                    (["--from", "noon"], 1, "`noon` is no time"), (["--vessel", "NOBODY"], 1, "no vessel of the log has this name"),
+                                    (["--from", "22:15", "--start", "1700000000"], 2, "go without")):
+            with self.subTest(words):
+                self.assertRegex(self.make(*words, status=status)[2], told)
+
+
 class Times(Cases):
     def test_a_log_without_a_time_is_refused_with_what_to_do(self) -> None:
         self.write("passing.log", re.sub(r"(?m)^\\[^\\]*\\", "", passing.log()))

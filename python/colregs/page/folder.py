@@ -16,6 +16,8 @@ from colregs.io.files import read_text, sum_of
 from colregs.model import doctor, guess, summaries
 from colregs.model.earth import iso
 from colregs.model.reports import Case, case_file
+from colregs.model.scenario import read_values
+from colregs.model.scenario_checks import numbers_at
 from colregs.page import database, maps, page
 from colregs.run.program import programs_of, report_of, version_of, window_options
 
@@ -60,13 +62,15 @@ class Making:
         self.given, self.program, self.folder = given, program, folder
         self.version, self.options = version_of(program), window_options(given.start, given.ticks)
         self.reasons: list[str] = []
+        self.cuts: list[str] = []
+        self.asked = guess.Asked(given.begin, given.end, given.vessel)
         self.doubts: list[str] = []
         self.sums = [(name, *self.sum_of_given(name)) for name in given.logs]
         self.gathered = self.read_logs()
         self.choose_scenario()
         self.case = self.run_program()
         self.findings = doctor.findings(self.path(SCENARIO), self.path(LOG), self.path(REPORT), self.program, self.options)
-        self.summary = summaries.summary(self.case, self.gathered)
+        self.summary = [*summaries.summary(self.case, self.gathered), *self.cuts]
         self.doubts += summaries.doubts(self.case, self.gathered, self.findings)
 
     def path(self, name: str) -> str:
@@ -97,14 +101,37 @@ class Making:
     def choose_scenario(self) -> None:
         """Writes the scenario that is given, or one that is guessed from the log."""
         if self.given.scenario:
-            self.write(SCENARIO, [read_text(self.given.scenario)])
+            text = read_text(self.given.scenario)
             self.reasons = [f"The scenario was given: {os.path.basename(self.given.scenario)}"]
+            self.write_scenario(text)
+            self.choose_window()
             return
-        text, reasons = guess.suggested(self.path(LOG), self.program)
-        self.write(SCENARIO, [text])
-        self.reasons = [summaries.capital(words) for words in reasons]
+        text, reasons = guess.suggested(self.path(LOG), self.program, self.asked)
+        self.write_scenario(text)
+        self.reasons += [summaries.capital(words) for words in reasons]
+        self.cuts += [f"Less was audited than was asked: {words}." for words in reasons if isinstance(words, guess.Cut)]
         self.doubts.append("The scenario was guessed from the log. Its window and place fit the log, but what is near, early or apparent are the numbers"
                            " of made-up examples: go through them before a verdict is used.")
+
+    def write_scenario(self, text: str) -> None:
+        """Writes the scenario, with the vessels that are asked for as its subjects."""
+        if self.asked.vessels:
+            subjects = guess.named(self.path(LOG), self.program, self.asked.vessels)
+            text = guess.with_subjects(text, subjects)
+            self.reasons.append(f"Pairs without {' or '.join(map(str, subjects))} were left out, as --vessel asks")
+            self.cuts.append(f"As asked, only pairs with {' or '.join(self.asked.vessels)} were audited.")
+        self.write(SCENARIO, [text])
+
+    def choose_window(self) -> None:
+        """Takes the window that is asked for instead of that of the scenario that is given."""
+        if not self.asked.begin and not self.asked.end:
+            return
+        start, tick, ticks = (next(iter(numbers_at(read_values(self.path(SCENARIO)), f"window.{name}")), 0) for name in ("start", "tick", "ticks"))
+        if tick < 1:
+            raise Fault(f"{self.given.scenario}: window.tick is no number of seconds")
+        first, last = self.asked.window(start, start + tick * ticks)
+        self.given.start, self.given.ticks = first, -(-(last - first) // tick)
+        self.options = window_options(first, self.given.ticks)
 
     def run_program(self) -> Case:
         """Writes the two reports of the program, and reads them."""
@@ -120,8 +147,10 @@ class Making:
         """Returns how to make the reports again in the folder of the case."""
         words = "".join(" " + word for word in self.options)
         given = [os.path.basename(name) for name in self.given.logs]
-        for name in ("scenario", "start", "ticks", "mmsi", "chart"):
-            value = getattr(self.given, name)
+        window = (("from", self.asked.begin), ("to", self.asked.end))
+        kept = () if self.asked.begin or self.asked.end else (("start", self.given.start), ("ticks", self.given.ticks))
+        vessels = [("vessel", word) for word in self.asked.vessels]
+        for name, value in (("scenario", self.given.scenario), *window, *kept, *vessels, ("mmsi", self.given.mmsi), ("chart", self.given.chart)):
             given += [] if value is None else ["--" + name, os.path.basename(str(value))]
         given += ["--without-times"] if self.given.without_times else []
         hours, minutes = divmod(abs(self.given.offset) // 60, 60)
