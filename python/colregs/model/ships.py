@@ -5,17 +5,18 @@ from colregs.io.logs import timed
 STATUSES = ("under way using engine", "at anchor", "not under command", "restricted in her ability to manoeuvre", "constrained by her draught", "moored",
             "aground", "engaged in fishing", "under way sailing", "", "", "towing astern", "pushing or towing alongside", "", "AIS-SART", "")
 FISHING_STATUS, FISHING, PILOT = 7, 30, 50
-TYPES = {30: "fishing", 31: "towing", 32: "towing, long or wide", 33: "dredging", 34: "diving", 35: "military", 36: "sailing", 37: "pleasure craft",
-         50: "pilot", 51: "search and rescue", 52: "tug", 53: "port tender", 54: "anti-pollution", 55: "law enforcement", 58: "medical",
-         59: "not party to a conflict"}
-TENS = {2: "wing in ground", 4: "high-speed craft", 6: "passenger", 7: "cargo", 8: "tanker", 9: "other"}
+TYPES: dict[int, str] = {
+    30: "fishing", 31: "towing", 32: "towing, long or wide", 33: "dredging", 34: "diving", 35: "military", 36: "sailing", 37: "pleasure craft",
+    50: "pilot", 51: "search and rescue", 52: "tug", 53: "port tender", 54: "anti-pollution", 55: "law enforcement", 58: "medical",
+    59: "not party to a conflict"}
+TENS: dict[int, str] = {2: "wing in ground", 4: "high-speed craft", 6: "passenger", 7: "cargo", 8: "tanker", 9: "other"}
 CLASS_A = 1, 2, 3                       # messages that have a status
 Changes = list[tuple[int, int]]         # seconds since the Unix epoch, and the status from then on
 
 
 def type_words(kind: int) -> str:
     """Returns a type of ship in words, or nothing if the number has no meaning."""
-    return TYPES.get(kind) or TENS.get(kind // 10, "")
+    return TYPES.get(kind, TENS.get(kind // 10, ""))
 
 
 def status_words(status: int | None) -> str:

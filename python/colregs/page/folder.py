@@ -13,8 +13,9 @@ from typing import Any
 from colregs.errors import Fault
 from colregs.io import sources
 from colregs.io.files import read_text, sum_of
-from colregs.model import doctor, guess, summaries
+from colregs.model import doctor, guess, ships, summaries
 from colregs.model.earth import iso
+from colregs.model.marks import Marks
 from colregs.model.reports import Case, case_file
 from colregs.model.scenario import read_values
 from colregs.model.scenario_checks import numbers_at
@@ -164,13 +165,14 @@ class Making:
 
     def draw(self) -> None:
         """Writes the map, the database and the page."""
-        self.write(MAP, maps.geojson(self.case))
+        marks = Marks(self.case, ships.statuses(self.path(LOG)))
+        self.write(MAP, maps.geojson(self.case, marks))
         first = self.files((LOG, SCENARIO, POINTS, REPORT))
         about = {"title": self.title(), "version": self.version, "start": str(self.case.start), "tick": str(self.case.tick),
                  "ticks": str(self.case.steps)}
-        database.write(self.path(DATABASE), self.case, about, first)
+        database.write(self.path(DATABASE), self.case, marks, about, first)
         given = [("given: " + os.path.basename(name), total, size) for name, total, size in self.sums]
-        self.write(PAGE, [page.page(self.case, {
+        self.write(PAGE, [page.page(self.case, marks, {
             "title": self.title(), "summary": self.summary, "doubts": self.doubts, "reasons": self.reasons, "scenario": read_text(self.path(SCENARIO)),
             "sources": list(self.gathered.words()), "files": given + first + self.files((MAP, DATABASE)), "commands": self.commands(),
             "version": f"{self.version}, on Python {platform.python_version()}", "chart": page.coast(self.given.chart)})])

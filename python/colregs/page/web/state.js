@@ -96,7 +96,7 @@ function stillWords(numbers, pair) {
   return numbers.length === 2 ? "both lie still" : `${nameOf(pair[numbers[0]])} lies still`;
 }
 
-function capital(words) { return words.slice(0, 1).toUpperCase() + words.slice(1); }
+function counted(number, one) { return `${number.toLocaleString("en")} ${one}${number === 1 ? "" : "s"}`; }
 
 // The least of 1, 2 and 5 times a power of ten that is not below the value.
 function nice(value) {
