@@ -20,7 +20,7 @@ act = { steady_turn = 50, apparent_turn = 200, steady_speed = 10, apparent_speed
 rules = { safe = 500, overtake = 300, close = 800, t8 = 60, ta = 120, tl = 30, tw = 120, te = 600 }
 """
 Corner = tuple[float, float, float]         # seconds after the start, and metres east and north
-CEDAR, CHERRY, PILOT, SHIP, TUG, BARGE, NET, TRAWL = range(200000401, 200000409)
+CEDAR, CHERRY, PILOT, SHIP, TUG, BARGE, NET, TRAWL, NORTH, NORTHERN = range(200000401, 200000411)
 MOORED = tuple(range(200000501, 200000513))             # twelve vessels in six pairs
 TRAFFIC = tuple(range(200000601, 200000617))            # sixteen vessels, two in each lane
 LEAST, NEAREST, SILENT = 120, 1800, 1560                # m and s: CEDAR and CHERRY would pass; CHERRY's last report is four minutes before
@@ -66,8 +66,11 @@ def vessels() -> Iterator[Vessel]:
     yield Vessel(PILOT, "PILOT ONE", 50, ((0, -2000, 17000), (1200, -8000 + 1200 * knots, 19975), (1500, -8000 + 1500 * knots, 19975), (3600, -2000, 17000)))
     yield Vessel(TUG, "TUG", 52, straight(5, 90, 0, -6000, 40000))
     yield Vessel(BARGE, "BARGE", 70, straight(5, 90, 0, -6250, 40000))
-    yield Vessel(NET, "NET", 30, straight(4, 0, 1800, 0, 60000), status=7)
+    yield Vessel(NET, "HERRING", 30, straight(4, 0, 1800, 0, 60000), status=7)
     yield Vessel(TRAWL, "TRAWL", 30, straight(3, 90, 1800, 200, 60000), status=7)
+    for mmsi, name, east, speed in ((NORTH, "NORTH", -30000, 12), (NORTHERN, "NORTHERN", -29600, 13)):        # courses about north: 2 degrees to either side
+        way = [(60 * k, east + 60 * (k % 2), 60 * k * speed * KNOT - 30000 + 1000 * (mmsi == NORTH)) for k in range(61)]
+        yield Vessel(mmsi, name, 70, tuple(way))
     for k, mmsi in enumerate(MOORED):
         yield Vessel(mmsi, f"MOORED {k}", 70, ((0, 300 * (k // 2) + 25 * (k % 2), -30000), (3600, 300 * (k // 2) + 25 * (k % 2), -30000)), 5, 180)
     for k, mmsi in enumerate(TRAFFIC):

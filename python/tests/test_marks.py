@@ -75,6 +75,13 @@ class Strait(InFolder):
             tab.value(f"({tick})('contact lost')")
             self.assertEqual(tab.value(f"{rows}.length"), 1)
             self.assertIn("if both went on: 120 m", tab.value(f"{rows}[0]"))
+            self.assertIn("120 if both went on", tab.value(f"{rows}[0]"))
+            self.assertIn("CEDAR", tab.value("document.querySelector('#chosen').textContent"))
+            number = tab.value(f"HELD.meetings.findIndex(m => m.pair.some(k => HELD.vessels[k].mmsi === {strait.NORTH})) + 1")
+            tab.value(f"location.hash = '#meeting{number}'")
+            tab.value("new Promise(done => setTimeout(done, 200))")
+            self.assertIn("NORTH", tab.value("document.querySelector('#chosen').textContent"))
+            self.assertEqual(tab.value("document.querySelectorAll('#charts polyline.courses').length"), 2)
             self.assertEqual(tab.value("document.querySelectorAll('#marks li').length"), 6)
             self.assertEqual(tab.errors, [])
 

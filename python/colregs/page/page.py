@@ -71,9 +71,15 @@ def meetings(case: Case, marks: Marks, numbers: Mapping[int, int]) -> list[dict[
         entries.append({"pair": [numbers[mmsi] for mmsi in key[:2]], "kinds": [kinds.get(mmsi, "") for mmsi in key[:2]], "first": key[2],
                         "last": key[3], "least": round(rows[0].least, 1), "nearest": round(seconds),
                         "places": [[round(value, 1) for value in place] for place in places],
-                        "rest": resting(case, rows, key), "lost": case.lost_words(rows[0]),
+                        "rest": resting(case, rows, key), "lost": case.lost_words(rows[0]), "ahead": ahead(case, rows[0]),
                         "marks": list(marks.of(rows[0])), "what": [marks.words(mmsi, key[3]) for mmsi in key[:2]]})
     return entries
+
+
+def ahead(case: Case, row: Meeting) -> float | None:
+    """Returns the least distance in metres if both went on after contact was lost, or None if it was not or the distance is unknown."""
+    found = case.lost(row)
+    return round(found.ahead.least, 1) if found and found.ahead else None
 
 
 def resting(case: Case, rows: Sequence[Meeting], key: tuple[int, ...]) -> list[int]:

@@ -38,7 +38,7 @@ const Page = (() => {
       { title: "Ends", kind: "time", of: (m) => endWords(m), by: (m) => m.last },
       { title: "First vessel", of: (m) => pairWords(m, 0), by: (m) => nameOf(m.pair[0]) },
       { title: "Second vessel", of: (m) => pairWords(m, 1), by: (m) => nameOf(m.pair[1]) },
-      { title: "Nearest, m", kind: "number", of: (m) => metres(m.least), by: (m) => m.least },
+      { title: "Nearest, m", kind: "number", of: nearWords, by: nearest },
       { title: "nautical miles", kind: "number", of: (m) => miles(m.least), by: (m) => m.least },
       { title: "at (UTC)", kind: "time", of: (m) => clockOnly(m.nearest), by: (m) => m.nearest },
       { title: "Rules", of: (m) => chips(m), by: (m) => -m.verdicts.filter((v) => v.broken).length },
@@ -53,6 +53,15 @@ const Page = (() => {
     meetingTable.addBox("contact lost", (m) => m.lost !== "");
     addMarkBoxes(meetingTable);
     meetingTable.filter();
+  }
+
+  // How near two vessels came, or would have come if contact with one was lost while they were closing.
+  function nearest(meeting) { return meeting.ahead === null ? meeting.least : Math.min(meeting.ahead, meeting.least); }
+
+  function nearWords(meeting) {
+    if (!meeting.lost) return metres(meeting.least);
+    const ahead = nearest(meeting) < meeting.least ? [element("br"), element("span", `${metres(meeting.ahead)} if both went on`, { class: "lost" })] : [];
+    return [`${metres(meeting.least)} heard`, ...ahead];
   }
 
   // A row with a mark by which it may be a false alarm. Such rows follow the others.
@@ -209,7 +218,7 @@ const Page = (() => {
   function showFirst() {
     const moving = HELD.meetings.filter((m) => !isMarked(m) && m.verdicts.some((v) => v.broken));
     const from = moving.length ? moving : HELD.meetings;
-    choose(from.reduce((best, m) => (m.least < best.least ? m : best)));
+    choose(from.reduce((best, m) => (nearest(m) < nearest(best) ? m : best)));
     MapView.whole();
     history.replaceState(null, "", location.pathname);
     scrollTo(0, 0);
