@@ -153,6 +153,20 @@ class Parts(Cases):
                 self.assertTrue(pairs)
                 self.assertTrue(all(str(mmsi) in pair for pair in pairs), pairs)
 
+    def test_only_vessels_that_were_in_an_area_are_audited(self) -> None:
+        """EAST goes along the equator from 0 to 0.05 degrees east, WEST 0.00167 degrees further north, and the third lies as far to the south."""
+        ring = [[-1, -0.0001], [1, -0.0001], [1, 1], [-1, 1]]
+        self.write("north.geojson", json.dumps({"type": "Polygon", "coordinates": [ring]}))
+        for area in ("-0.0001,-1,1,1", "north.geojson"):
+            with self.subTest(area):
+                said = self.make("--area=" + area, "-o", "in" + area)[1]
+                self.assertIn("were audited: 2; 1 other was left out", said)
+                with open(self.path(f"in{area}/points.csv"), encoding="utf-8") as source:
+                    seen = {int(row.split(",")[1]) for row in source if row.startswith("point")}
+                self.assertEqual(seen, {passing.EAST, passing.WEST})
+        for area, told in (("10,10,20,20", "no vessel of the log was in it"), ("5,0,1,9", "south below north"), ("passing.log", "not JSON"), ("none", "cannot be read|no such")):
+            self.assertRegex(self.make("--area=" + area, status=1)[2], told)
+
     def test_what_cannot_be_asked_is_named(self) -> None:
         for words, status, told in ((["--from", "23:00", "--to", "22:59:00"], 1, "no vessel has a position|no time lies between"),
                                     (["--from", "noon"], 1, "`noon` is no time"), (["--vessel", "NOBODY"], 1, "no vessel of the log has this name"),

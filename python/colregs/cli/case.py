@@ -29,6 +29,8 @@ def parser() -> argparse.ArgumentParser:
     words.add_argument("--to", dest="end", metavar="TIME", help="where the window ends")
     words.add_argument("--vessel", action="append", default=[], metavar="VESSEL",
                        help="audit only pairs with this vessel, by name or MMSI; may be repeated")
+    words.add_argument("--area", metavar="AREA", help="audit only vessels that were in a box, --area=SOUTH,WEST,NORTH,EAST in degrees, or in the polygons of a "
+                       "GeoJSON file")
     words.add_argument("--mmsi", type=ship, help="own ship's MMSI, if a receiver's own places are hers")
     words.add_argument("--offset", type=offset, default=0, metavar="+HH:MM", help="how far the logs' times without a zone are ahead of UTC")
     words.add_argument("--without-times", action="store_true", help="take a log in which no line has a time, with one report of each vessel")

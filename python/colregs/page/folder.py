@@ -19,7 +19,7 @@ from colregs.model.marks import Marks
 from colregs.model.reports import Case, case_file
 from colregs.model.scenario import read_values
 from colregs.model.scenario_checks import numbers_at
-from colregs.page import database, maps, page
+from colregs.page import database, maps, page, region
 from colregs.run.program import programs_of, report_of, version_of, window_options
 
 LOG, SCENARIO, POINTS, REPORT = "case.log", "scenario.toml", "points.csv", "report.csv"
@@ -90,7 +90,17 @@ class Making:
             raise Fault("no sentence and no row was read. " + "; ".join(gathered.words()))
         if gathered.first is None and not self.given.without_times:
             raise Fault(NO_TIMES)
+        if self.given.area:
+            self.leave_out(region.region_of(self.given.area))
         return gathered
+
+    def leave_out(self, asked: region.Region) -> None:
+        """Leaves out the vessels that were never in the region that is asked for."""
+        inside, outside = region.keep_only(self.path(LOG), asked)
+        if not inside:
+            raise Fault(f"--area={self.given.area}: no vessel of the log was in it")
+        told = "1 other was" if outside == 1 else f"{outside:,} others were"
+        self.cuts.append(f"As asked, only vessels that were at some time in --area={os.path.basename(self.given.area)} were audited: {inside:,}; {told} left out.")
 
     @staticmethod
     def sum_of_given(name: str) -> tuple[str, int]:
@@ -151,8 +161,8 @@ class Making:
         window = (("from", self.asked.begin), ("to", self.asked.end))
         kept = () if self.asked.begin or self.asked.end else (("start", self.given.start), ("ticks", self.given.ticks))
         vessels = [("vessel", word) for word in self.asked.vessels]
-        for name, value in (("scenario", self.given.scenario), *window, *kept, *vessels, ("mmsi", self.given.mmsi), ("chart", self.given.chart)):
-            given += [] if value is None else ["--" + name, os.path.basename(str(value))]
+        for name, value in (("scenario", self.given.scenario), *window, *kept, *vessels, ("area", self.given.area), ("mmsi", self.given.mmsi), ("chart", self.given.chart)):
+            given += [] if value is None else [f"--{name}={value}"] if str(value).startswith("-") else ["--" + name, os.path.basename(str(value))]
         given += ["--without-times"] if self.given.without_times else []
         hours, minutes = divmod(abs(self.given.offset) // 60, 60)
         given += [f"--offset={'-' if self.given.offset < 0 else '+'}{hours:02d}:{minutes:02d}"] if self.given.offset else []
