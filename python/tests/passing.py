@@ -34,12 +34,16 @@ def name(mmsi: int, words: str) -> str:
     return (block(START) + first + b"\n" + second + b"\n").decode()
 
 
-def log(still: bool = False) -> str:
-    """Returns their reports every 10 s; with `still` also those of one who lies still beside the way of EAST, at 0.3 knots by her receiver."""
+def log(still: bool = False, silent_after: int = STEPS * TICK) -> str:
+    """Returns their reports every 10 s; with `still` also those of one who lies still beside the way of EAST, at 0.3 knots by her receiver.
+
+    WEST is not heard after `silent_after` seconds.
+    """
     lines = [name(EAST, "EAST"), name(WEST, "WEST")] + ([name(STILL, HOSTILE)] if still else [])
     for k in range(STEPS + 1):
         lines.append(line(10 * k, class_a(EAST, (0, 300 * k, 108, 900, 90, 0), 0)))
-        lines.append(line(10 * k, class_a(WEST, (1000, 30000 - 300 * k, 108, 2700, 270, 0), 0)))
+        if 10 * k <= silent_after:
+            lines.append(line(10 * k, class_a(WEST, (1000, 30000 - 300 * k, 108, 2700, 270, 0), 0)))
         if still:
             lines.append(line(10 * k, class_a(STILL, (-1000, 15000, 3, 0, 511, 0), 0)))
     return "".join(lines)

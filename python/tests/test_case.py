@@ -9,6 +9,7 @@ import unittest
 import browser
 import passing
 from given import InFolder, PROGRAM, with_program
+from colregs.io.sentences import block
 from colregs.page import page
 
 MOMENT = "2023-11-14T22:21:40Z"
@@ -83,6 +84,119 @@ class Files(Cases):
     def test_a_refusal_of_the_program_is_handed_on(self) -> None:
         self.write("passing.toml", passing.SCENARIO.replace("tick = 10", "tick = 61"))
         self.assertRegex(self.make(status=1)[2], "status 3, scenario: window.tick: range")
+
+
+class ContactLost(Cases):
+    """WEST falls silent 250 s after the start: then she is 15000 units east of EAST and 1000 north, 2784.2 m, and closes by 60 units a second."""
+
+    END = "contact lost 22:17:30; nearest while both were heard 2,784 m; if both went on: 185 m at 22:21:40 (computed from their last reports)"
+
+    def setUp(self) -> None:
+        super().setUp()
+        self.write("passing.log", passing.log(silent_after=250))
+
+    def test_the_summary_says_how_near_both_would_have_come(self) -> None:
+        said = self.make()[1]
+        self.assertIn("1 meeting of 1 ends because a vessel was no longer heard", said)
+        self.assertIn(self.END, said)
+
+    def test_page_map_and_database_mark_the_meeting(self) -> None:
+        self.make()
+        found = re.search(r'<script type="application/json" id="case">(.*?)</script>', self.held("case.html"), re.S)
+        self.assertEqual([meeting["lost"] for meeting in json.loads(found[1] if found else "")["meetings"]], [self.END])
+        kinds = {f["properties"]["kind"] for f in json.loads(self.held("case.geojson"))["features"] if f["properties"].get("contact_lost") == self.END}
+        self.assertEqual(kinds, {"meeting", "nearest", "between"})
+        with sqlite3.connect(self.path("made/case.db")) as base:
+            rows = base.execute("select distinct contact_lost, round(if_both_went_on, 1), if_both_went_on_at from meeting").fetchall()
+            self.assertEqual(rows, [("2023-11-14T22:17:30Z", passing.LEAST, MOMENT)])
+        base.close()
+
+    def test_the_doctor_names_the_pair(self) -> None:
+        status, out, _ = self.tool("colregs-doctor", "--program", PROGRAM, "passing.toml", "passing.log")
+        self.assertEqual((status, out), (1, f"contact lost: EAST ({passing.EAST}) and WEST ({passing.WEST}): {self.END}\n"))
+
+    def test_a_meeting_that_the_end_of_the_log_ends_is_not_marked(self) -> None:
+        """Both are heard to the end of a log that ends before they are near."""
+        lines = passing.log().splitlines(keepends=True)
+        self.write("passing.log", "".join(line for line in lines if not line.startswith("\\c:") or int(line[3:13]) <= passing.START + 250))
+        self.assertNotIn("contact lost", self.make()[1])
+
+
+class Parts(Cases):
+    def about(self) -> dict[str, int]:
+        window: dict[str, int] = json.loads(self.held("case.json"))["window"]
+        return window
+
+    def test_the_window_that_is_asked_for_is_audited(self) -> None:
+        """From 22:15:00, 100 s after the start, to 22:23:20, 500 s later: 50 steps of 10 s."""
+        for end in ("22:23:20", "2023-11-14T22:23:20Z", "1700000600"):
+            with self.subTest(end):
+                self.make("--from", "22:15", "--to", end, "-o", "made" + end)
+                with open(self.path(f"made{end}/case.json"), encoding="utf-8") as source:
+                    window = json.load(source)["window"]
+                self.assertEqual((window["start"], window["ticks"]), (1700000100, 50))
+
+    def test_a_guess_takes_the_window_that_is_asked_for(self) -> None:
+        status, _, error = self.tool("colregs-case", "passing.log", "--program", PROGRAM, "-o", "made", "--from", "22:15", "--to", "22:23:20")
+        self.assertEqual(status, 0, error)
+        window = self.about()
+        self.assertEqual((window["start"], window["ticks"] * window["tick"]), (1700000100, 500))
+
+    def test_only_pairs_with_a_vessel_that_is_asked_for_are_audited(self) -> None:
+        """WEST is given by her name, EAST by her number; of the one who lies still only pairs with WEST stay."""
+        for vessel, mmsi in (("west", passing.WEST), (str(passing.EAST), passing.EAST)):
+            with self.subTest(vessel):
+                said = self.make("--vessel", vessel, "-o", "of" + vessel)[1]
+                self.assertIn(f"only pairs with {vessel} were audited", said)
+                with open(self.path(f"of{vessel}/report.csv"), encoding="utf-8") as source:
+                    pairs = {tuple(row.split(",")[1:3]) for row in source if row.startswith(("meeting", "verdict"))}
+                self.assertTrue(pairs)
+                self.assertTrue(all(str(mmsi) in pair for pair in pairs), pairs)
+
+    def test_only_vessels_that_were_in_an_area_are_audited(self) -> None:
+        """EAST goes along the equator from 0 to 0.05 degrees east, WEST 0.00167 degrees further north, and the third lies as far to the south."""
+        ring = [[-1, -0.0001], [1, -0.0001], [1, 1], [-1, 1]]
+        self.write("north.geojson", json.dumps({"type": "Polygon", "coordinates": [ring]}))
+        for area in ("-0.0001,-1,1,1", "north.geojson"):
+            with self.subTest(area):
+                said = self.make("--area=" + area, "-o", "in" + area)[1]
+                self.assertIn("were audited: 2; 1 other was left out", said)
+                with open(self.path(f"in{area}/points.csv"), encoding="utf-8") as source:
+                    seen = {int(row.split(",")[1]) for row in source if row.startswith("point")}
+                self.assertEqual(seen, {passing.EAST, passing.WEST})
+        for area, told in (("10,10,20,20", "no vessel of the log was in it"), ("5,0,1,9", "south below north"), ("passing.log", "not JSON"), ("none", "cannot be read|no such")):
+            self.assertRegex(self.make("--area=" + area, status=1)[2], told)
+
+    def test_what_cannot_be_asked_is_named(self) -> None:
+        for words, status, told in ((["--from", "23:00", "--to", "22:59:00"], 1, "no vessel has a position|no time lies between"),
+                                    (["--from", "noon"], 1, "`noon` is no time"), (["--vessel", "NOBODY"], 1, "no vessel of the log has this name"),
+                                    (["--from", "22:15", "--start", "1700000000"], 2, "go without")):
+            with self.subTest(words):
+                self.assertRegex(self.make(*words, status=status)[2], told)
+
+
+class Times(Cases):
+    def test_a_log_without_a_time_is_refused_with_what_to_do(self) -> None:
+        self.write("passing.log", re.sub(r"(?m)^\\[^\\]*\\", "", passing.log()))
+        error = self.make(status=1)[2]
+        for words in ("no line has a time", "colregs-tagged --now", "receiver", "--without-times"):
+            self.assertIn(words, error)
+        self.assertFalse(os.path.exists(self.path("made")))
+        self.assertIn("none of which tells a time", self.make("--without-times")[1])
+
+    def test_a_capture_of_a_network_is_refused_with_what_to_do(self) -> None:
+        """The first bytes of pcap (both orders and units of time) and of pcapng, as their specifications give them."""
+        for head in ("d4c3b2a1", "a1b2c3d4", "4d3cb2a1", "a1b23c4d", "0a0d0d0a"):
+            self.write("passing.log", bytes.fromhex(head) + bytes(20) + passing.log().encode())
+            for error in (self.make(status=1)[2], self.tool("colregs-tagged", "passing.log")[2]):
+                self.assertRegex(error, "passing.log is a capture of a network.*tshark -r passing.log")
+
+    def test_dates_in_the_future_are_a_doubt(self) -> None:
+        """4000000000 s are 2 October 2096, 07:06:40 UTC."""
+        later = re.sub(r"\\c:(\d+)\*..\\", lambda found: block(int(found[1]) % 10 ** 9 + 4 * 10 ** 9 - 7 * 10 ** 8).decode(), passing.log())
+        self.write("passing.log", later)
+        self.write("passing.toml", passing.SCENARIO.replace("start = 1700000000", "start = 4000000000"))
+        self.assertIn("Times in the future: the log has times up to 2096-10-02 07:23:20 UTC", self.make()[1])
 
 
 class Maps(Cases):

@@ -133,6 +133,13 @@ class WrongUses(InFolder):
         told = words_of(self.found(toml, by_time(later.splitlines() + [line])))
         self.assertEqual(told, ["clock that is off: the log's times are 3600 s (1.00 hours) ahead of the UTC that base stations tell in 1 messages"])
 
+    def test_times_that_have_not_come_yet_are_named(self) -> None:
+        """The crossings 1024 weeks, 619315200 s, later: on 30 June 2043, until which this test holds."""
+        later = re.sub(r"\\c:(1700\d{6})\*..\\", lambda found: sentences.block(int(found[1]) + 619315200).decode(), LOG)
+        told = words_of(self.found(TOML.replace("start = 1700000000", "start = 2319315200"), later))
+        self.assertEqual(len(told), 1)
+        self.assertRegex(told[0], "^times in the future: the log has times up to 2043-06-30 .*1024 weeks of a GPS roll-over it would be 2023-11-14 22:2")
+
     def test_verdicts_of_vessels_that_lie_still_are_named(self) -> None:
         """The vessel that is to give way tells 0.3 knots all the time, as one that drifts about her anchor, and another passes near."""
         still = [report(1700000001 + 30 * k, 200000041, BEFORE, MIDDLE, way=3, course=0, heading=0) for k in range(26)]

@@ -25,8 +25,15 @@ def parser() -> argparse.ArgumentParser:
     words.add_argument("--scenario", metavar="FILE", help="a scenario instead of one that is guessed")
     add_program(words)
     add_window(words, "instead of the scenario's")
+    words.add_argument("--from", dest="begin", metavar="TIME", help="where the window begins, in UTC: 22:13, 2023-11-14T22:13:20Z or seconds")
+    words.add_argument("--to", dest="end", metavar="TIME", help="where the window ends")
+    words.add_argument("--vessel", action="append", default=[], metavar="VESSEL",
+                       help="audit only pairs with this vessel, by name or MMSI; may be repeated")
+    words.add_argument("--area", metavar="AREA", help="audit only vessels that were in a box, --area=SOUTH,WEST,NORTH,EAST in degrees, or in the polygons of a "
+                       "GeoJSON file")
     words.add_argument("--mmsi", type=ship, help="own ship's MMSI, if a receiver's own places are hers")
     words.add_argument("--offset", type=offset, default=0, metavar="+HH:MM", help="how far the logs' times without a zone are ahead of UTC")
+    words.add_argument("--without-times", action="store_true", help="take a log in which no line has a time, with one report of each vessel")
     words.add_argument("--chart", metavar="FILE.geojson", help="a coast for the map of the page")
     words.add_argument("--title", help="the title of the page")
     return words
@@ -34,7 +41,10 @@ def parser() -> argparse.ArgumentParser:
 
 def main(arguments: Sequence[str] | None = None) -> int:
     """Makes the case, and prints its summary."""
-    given = parser().parse_args(arguments)
+    words = parser()
+    given = words.parse_args(arguments)
+    if (given.begin or given.end) and (given.start is not None or given.ticks is not None):
+        words.error("--from and --to go without --start and --ticks")
     summary, doubts = folder.make(given, found(given.program))
     print("\n".join(summary))
     if doubts:

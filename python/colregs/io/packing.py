@@ -10,6 +10,7 @@ import gzip
 import io
 import lzma
 import os
+import shlex
 import shutil
 import stat
 import subprocess
@@ -23,6 +24,8 @@ from colregs.errors import Fault, reason
 
 LONGEST = 1 << 20          # bytes: a longer line is no sentence and no row
 MAGIC = ((b"\x1f\x8b", "gzip"), (b"\xfd7zXZ\x00", "xz"), (b"\x28\xb5\x2f\xfd", "zstd"), (b"BZh", "bzip2"), (b"PK\x03\x04", "zip"))
+CAPTURES = (b"\xd4\xc3\xb2\xa1", b"\xa1\xb2\xc3\xd4", b"\x4d\x3c\xb2\xa1", b"\xa1\xb2\x3c\x4d", b"\x0a\x0d\x0d\x0a")
+CAPTURE = "is a capture of a network, and no log: `tshark -r {} -T fields -e frame.time_epoch -e data.text -o data.show_as_text:TRUE` writes its lines with times"
 MARKS = ((b"\xff\xfe", "utf-16-le"), (b"\xfe\xff", "utf-16-be"))
 DAMAGE = (EOFError, zlib.error, lzma.LZMAError, zipfile.BadZipFile, gzip.BadGzipFile, RuntimeError, NotImplementedError)
 TOO_LONG = b"\xff too long"       # stands for such a line; no line of a log begins so
@@ -44,6 +47,8 @@ def packing(path: str) -> str:
         raise Fault(f"{path} is a folder, and no log") from None
     except OSError as error:
         raise Fault(f"{path} cannot be read: {reason(error)}") from None
+    if head.startswith(CAPTURES):
+        raise Fault(f"{path} {CAPTURE.format(shlex.quote(os.path.basename(path)))}")
     return next((name for magic, name in MAGIC if head.startswith(magic)), "plain")
 
 

@@ -9,11 +9,13 @@ import tomllib
 from collections.abc import Iterable, Iterator, Sequence
 from typing import Any
 
-from colregs.model import log_checks, scenario_checks
+from colregs.model import log_checks, lost, scenario_checks
 from colregs.io.files import read_bytes
 from colregs.io.logs import sampled
 from colregs.io.sentences import ship_place
+from colregs.model.rows import METRE, meeting
 from colregs.model.scenario_checks import Finding, numbers_at
+from colregs.model.tracks import NONE, Track
 from colregs.run.limits import next_step
 from colregs.run.program import Columns, Run
 
@@ -21,6 +23,8 @@ REFUSED = {3: "this is the first key with a fault; docs/SCENARIO.md has its rang
            9: "own ship must be in the log before the window's end, with course and speed"}
 NO_SENTENCE = ("empty", "long", "tag", "other", "form", "sum", "armour")
 SHOWN = 5                               # findings of one name that are shown; the others are counted
+DAY = 86400                             # s
+ROLLOVER = 1024 * 7 * DAY               # s: after so long the week of GPS begins at 0 again
 STILL = 5                               # 1/10 knot: who never makes this lies still
 
 
@@ -47,7 +51,7 @@ class Patient:
         self.audit, self.points = (self.run(mode) for mode in ("audit", "points"))
         self.counts = self.audit.counts() if self.audit.status == 0 else {}
         columns = self.points.columns() if self.points.status == 0 else Columns([], [], [], [], [], [])
-        self.ships, self.times, _, self.norths, self.speeds, self.courses = columns
+        self.ships, self.times, self.easts, self.norths, self.speeds, self.courses = columns
         self.vessels = {int(fields[1]): fields for fields in self.rows("vessel")}
         self.sentences = sum(count for name, count in self.counts.items() if name not in NO_SENTENCE)
 
@@ -66,6 +70,18 @@ class Patient:
     def rows(self, kind: str) -> list[list[str]]:
         """Returns the rows of the audit of a kind, as fields."""
         return self.kinds.get(kind, [])
+
+    def tracks(self) -> dict[int, Track]:
+        """Returns the vessels' accepted reports, with times after the window's start."""
+        found: dict[int, Track] = collections.defaultdict(Track)
+        start = self.window()[0]
+        for mmsi, at, x, y, speed, course in zip(self.ships, self.times, self.easts, self.norths, self.speeds, self.courses):
+            track = found[mmsi]
+            for column, value in ((track.times, at - start), (track.speeds, int(speed or NONE)), (track.courses, int(course or NONE))):
+                column.append(value)
+            track.xs.append(x / METRE)
+            track.ys.append(y / METRE)
+        return found
 
     def window(self) -> tuple[int, int]:
         """Returns the first and the last second of the window."""
@@ -120,6 +136,18 @@ def no_times(patient: Patient) -> Iterator[Finding]:
     elif looked > 2 * len(told) and dropped > patient.counts.get("point", 0):
         yield Finding("no times", f"{looked - len(told)} of {looked} lines have no time of their own, and count at the time of a line before. "
                       "Give times by tools/tagged")
+
+
+def future(patient: Patient) -> Iterator[Finding]:
+    """Yields a finding if the log has times that this machine's clock has not reached."""
+    _, told = log_checks.times_of(patient.log)
+    latest, now = max([*told, *patient.times], default=0), time.time()
+    if latest <= now + DAY:
+        return
+    rolled = latest - ROLLOVER
+    hint = f"; less the 1024 weeks of a GPS roll-over it would be {clock(rolled)}" if rolled <= now + DAY else ""
+    yield Finding("times in the future", f"the log has times up to {clock(latest)} UTC, and this machine's clock shows {clock(now)}: "
+                  f"was the receiver's clock not set{hint}")
 
 
 def window_misses(patient: Patient) -> Iterator[Finding]:
@@ -252,8 +280,22 @@ def at_rest(patient: Patient) -> Iterator[Finding]:
         yield Finding("verdicts at rest", f"{mmsi} never makes 0.5 knots, and has {count} of the verdicts")
 
 
-CHECKS = (refused, other_report, no_reports, no_times, window_misses, region_misses, reference_far, unsorted, damaged, absent, unseen,
-          senders, at_rest)
+def contact_lost(patient: Patient) -> Iterator[Finding]:
+    """Yields meetings that end because a vessel is no longer heard while the two are closing, the nearest first."""
+    rows = {(min(row.pair), max(row.pair), row.first, row.last): row for row in map(meeting, patient.rows("meeting"))}
+    if not rows:
+        return
+    tracks, (start, end) = patient.tracks(), patient.window()
+    tick, gap = (numbers_at(patient.values, name)[0] for name in ("window.tick", "log.gap"))
+    ends = [(row, found) for row in rows.values() if (found := lost.lost(tracks, row, tick, (end - start) // tick, gap))]
+    for row, found in sorted(ends, key=lambda entry: entry[1].ahead.least if entry[1].ahead else 0):
+        if found.still_closing(row.least):
+            one, two = (f"{patient.vessels[mmsi][2]} ({mmsi})" if patient.vessels[mmsi][2] else str(mmsi) for mmsi in sorted(row.pair))
+            yield Finding("contact lost", f"{one} and {two}: {lost.words(found, row.least, start)}")
+
+
+CHECKS = (refused, other_report, no_reports, no_times, future, window_misses, region_misses, reference_far, unsorted, damaged, absent, unseen,
+          senders, at_rest, contact_lost)
 
 
 def shortened(found: Iterable[Finding]) -> Iterator[Finding]:

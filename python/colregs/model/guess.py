@@ -11,6 +11,8 @@ from colregs.errors import Fault, reason
 from colregs.io.logs import sampled
 from colregs.io.sentences import ship_place
 from colregs.io.tag_blocks import stamp
+from colregs.model.earth import iso
+from colregs.model.rules import moment
 from colregs.run.program import Run, run_text
 
 TICKS = [1, 2, 3, 5, 6, 10, 15, 30, 60]
@@ -69,6 +71,27 @@ tl = {tl}               # s: in extremis the vessel that stands on acts within t
 tw = {tw}              # s: she is free to act after so long at risk without action of the other
 te = {te}              # s: and stays so for as long as this
 """
+
+
+class Cut(str):
+    """A reason for which less is audited than was asked: a shorter window, or a shorter watch."""
+
+
+@dataclass(frozen=True)
+class Asked:
+    """The part of a log that is asked for: two moments as words, and vessels by name or MMSI."""
+
+    begin: str | None = None
+    end: str | None = None
+    vessels: Sequence[str] = ()
+
+    def window(self, first: int, last: int) -> tuple[int, int]:
+        """Returns the first and last second, which are the given ones unless others are asked for; raises Fault if none lies between."""
+        begin = first if self.begin is None else moment(self.begin, first)
+        end = last if self.end is None else moment(self.end, begin)
+        if begin >= end:
+            raise Fault(f"no time lies between --from and --to: {self.begin or iso(begin)} and {self.end or iso(end)}")
+        return begin, end
 
 
 def ends(times: Sequence[int], reasons: list[str], what: str | None) -> tuple[int, int]:
@@ -147,7 +170,7 @@ def look(log: str, program: str, reasons: list[str]) -> tuple[Found, bool]:
     return Found(run_text(program, "points", LOOK.format(start=first, ticks=ticks, lat=reference[0], lon=reference[1]), log), reference), bool(times)
 
 
-def window(found: Found, timed: bool, reasons: list[str]) -> tuple[int, int, int, float | None]:
+def window(found: Found, timed: bool, reasons: list[str], asked: Asked) -> tuple[int, int, int, float | None]:
     """Returns start, tick, ticks and the interval between reports, from which the tick is guessed."""
     if not timed:
         reasons.append("no tag block has a time: every line counts as of the window's start, and a vessel gives one point. Give times first"
@@ -155,11 +178,11 @@ def window(found: Found, timed: bool, reasons: list[str]) -> tuple[int, int, int
         return 0, 10, 1, None
     interval = statistics.median(found.apart) if found.apart else 10
     tick = next((k for k in TICKS if k >= interval), 60)
-    first, last = ends(found.times, reasons, "reports")
+    first, last = asked.window(*ends(found.times, reasons, "reports"))
     ticks = max(1, (last - first) // tick)
     if ticks > LONGEST or found.counts.get("outside", 0) > len(found.times):
-        reasons.append(f"the log is {ticks} ticks long or more, and a window may have 20000: this is its beginning. tools/colregs-many audits"
-                       " all of it")
+        reasons.append(Cut(f"the log is {ticks} ticks long or more, and a window may have 20000: this is its beginning. tools/colregs-many audits"
+                           " all of it"))
     return first, tick, min(ticks, LONGEST), interval
 
 
@@ -199,10 +222,11 @@ def fitted(guess: Guess, vessels: int, log: str, program: str, reasons: list[str
     while guess.ticks > 1 and guess.watch == WATCHES[-1] and not fits(guess, log, program):
         guess = replace(guess, ticks=guess.ticks // 2)
     if guess.ticks < whole:
-        reasons.append(f"the window is cut to {guess.ticks} of {whole} ticks: more than {MOST_PAIRS} pairs come into contact. "
-                       "tools/colregs-many audits such a log by subjects and windows")
+        reasons.append(Cut(f"the window is cut to {guess.ticks} of {whole} ticks: more than {MOST_PAIRS} pairs come into contact. "
+                           "tools/colregs-many audits such a log by subjects and windows"))
     if guess.watch != WATCHES[0]:
-        reasons.append(f"the watch is {guess.watch} m instead of {WATCHES[0]}: more than {MOST_PAIRS} pairs would come into contact")
+        reasons.append(Cut(f"the watch is {guess.watch} m instead of {WATCHES[0]}: more than {MOST_PAIRS} pairs would come into contact, so meetings "
+                           "begin later"))
     return guess
 
 
@@ -212,8 +236,11 @@ def fits(guess: Guess, log: str, program: str) -> bool:
     return not (done.status == 7 and "pairs" in done.words)
 
 
-def suggested(log: str, program: str) -> tuple[str, list[str]]:
-    """Returns a scenario's text for a log with tag blocks, and the reasons for what was guessed; raises a Fault if no position report is found."""
+def suggested(log: str, program: str, asked: Asked = Asked()) -> tuple[str, list[str]]:
+    """Returns a scenario's text for a log with tag blocks, and the reasons for what was guessed; raises a Fault if no position report is found.
+
+    A reason that is a `Cut` says what of the log, or of the part that is asked for, is not audited.
+    """
     reasons: list[str] = []
     try:
         found, timed = look(log, program, reasons)
@@ -221,13 +248,44 @@ def suggested(log: str, program: str) -> tuple[str, list[str]]:
         raise Fault(f"{log} cannot be read: {reason(error)}") from None
     if not found.times:
         raise Fault("the program accepts no position report of the log")
-    start, tick, ticks, interval = window(found, timed, reasons)
+    start, tick, ticks, interval = window(found, timed, reasons, asked)
     latitude, longitude = reference(found, reasons)
     guess = fitted(Guess(start, tick, ticks, interval, latitude, longitude), found.vessels, log, program, reasons)
     reasons.append(f"{len(found.times)} position reports of {found.vessels} vessels")
     if interval is not None:
         whole = "to the last" if guess.ticks == ticks else "on, and is cut"
-        reasons.append(f"the window is from the first report {whole}: {guess.ticks * tick} s from {start} on")
+        begin = "as asked" if asked.begin or asked.end else f"from the first report {whole}"
+        reasons.append(f"the window is {begin}: {guess.ticks * tick} s from {start} on")
         reasons.append(f"the tick is {tick} s: reports of vessels under way are {interval:g} s apart, by their median")
     reasons.append(f"the reference is the middle of the places: latitude {latitude}, longitude {longitude}")
     return text_of(guess), reasons
+
+
+def named(log: str, program: str, vessels: Sequence[str]) -> list[int]:
+    """Returns the MMSIs of vessels that are given by MMSI, or by name as the log has it; raises a Fault if a name has none or several."""
+    names: dict[str, list[int]] = {}
+    if not all(word.isdecimal() for word in vessels):
+        latitude, longitude = where(log)
+        times = [at for at in map(stamp, sampled(log)) if at is not None]
+        first, last = ends(times, [], None) if times else (0, 0)
+        ticks = max(1, min(LONGEST, (last - first) // 60 + 1))
+        done = run_text(program, "audit", LOOK.format(start=first, ticks=ticks, lat=latitude, lon=longitude), log)
+        for fields in done.rows("vessel"):
+            names.setdefault(b",".join(fields[2:-4]).decode().strip('"').casefold(), []).append(int(fields[1]))
+    found = []
+    for word in vessels:
+        ships = [int(word)] if word.isdecimal() else names.get(word.casefold(), [])
+        if len(ships) != 1:
+            raise Fault(f"--vessel {word}: {'several vessels have this name: ' + ', '.join(map(str, ships)) if ships else 'no vessel of the log has this name'}")
+        found += ships
+    return found
+
+
+def with_subjects(text: str, subjects: Sequence[int]) -> str:
+    """Returns a scenario's text with vessels one of which at least is of each pair that is audited; raises a Fault if it has such vessels already."""
+    if re.search(r"(?m)^\s*subjects\s*=", text):
+        raise Fault("the scenario has `subjects` already: change them there instead of giving --vessel")
+    version = re.search(r"(?m)^\s*version\s*=.*$", text)
+    if version is None:
+        raise Fault("the scenario has no line `version`")
+    return f"{text[:version.end()]}\nsubjects = {list(subjects)}{text[version.end():]}"

@@ -12,7 +12,7 @@ from typing import Any
 
 from colregs.errors import Fault
 from colregs.io.files import read_text
-from colregs.model import rest
+from colregs.model import lost, rest
 from colregs.model.rows import FIELDS, METRE, OUTCOMES, Lines, Meeting, Row, Stretch, Total, Verdict, Vessel, row_of
 from colregs.model.scenario import read_values
 from colregs.model.tracks import NONE, AllPlaces, Place, Places, Track, along, least_part
@@ -77,6 +77,7 @@ class Case:
         self.tracks: dict[int, Track] = {}
         self.joined, self.narrowed, self.shown = False, False, (0, self.steps)
         self.known_rest: dict[tuple[int, int, int], bool] = {}
+        self.known_lost: dict[tuple[int, int, int, int], lost.Lost | None] = {}
         self.take_points(points)
         if audit is not None:
             self.take_all(audit, "the report")
@@ -239,6 +240,18 @@ class Case:
         if key not in self.known_rest:
             self.known_rest[key] = mmsi in self.tracks and rest.at_rest(self.tracks[mmsi], first, last)
         return self.known_rest[key]
+
+    def lost(self, row: Stretch) -> lost.Lost | None:
+        """Returns how a meeting ends if one of the two is no longer heard, or None if it ends otherwise."""
+        key = min(row.pair), max(row.pair), row.first, row.last
+        if key not in self.known_lost:
+            self.known_lost[key] = lost.lost(self.tracks, row, self.tick, self.steps, self.gap)
+        return self.known_lost[key]
+
+    def lost_words(self, meeting: Meeting) -> str:
+        """Returns the end of a meeting in words if one of the two is no longer heard, otherwise nothing."""
+        found = self.lost(meeting)
+        return lost.words(found, meeting.least, self.start) if found else ""
 
     def narrow(self, pair: list[int] | None = None, begin: int | None = None, end: int | None = None) -> None:
         """Keeps two vessels alone, and the steps between two moments, in seconds since the Unix epoch."""

@@ -8,6 +8,8 @@ from colregs.model.rows import Meeting
 from colregs.model.rules import OUTCOMES
 from colregs.model.scenario_checks import Finding
 
+LOST = "contact lost"                   # the doctor's finding; the summary has the meetings themselves
+SHOWN = 5                               # of more such meetings than this the number is given
 REST = "verdicts at rest"               # the doctor's finding by vessels; here the stretches are counted
 HEAVY = 2000000                         # reports, beyond which a page is slow
 USED = ("point", "static", "part")      # the outcomes of lines that tell something
@@ -66,6 +68,21 @@ def nearest_words(case: Case, met: dict[tuple[int, int, int, int], Meeting]) -> 
     return f"The nearest, {kind}: {case.name(near.subject)} and {case.name(near.other)}, {lengths(near.least)} at {plain(round(case.start + seconds))} UTC."
 
 
+def lost_words(case: Case, met: dict[tuple[int, int, int, int], Meeting]) -> Iterator[str]:
+    """Yields the meetings that end because a vessel is no longer heard: how many, and those that would have come nearest."""
+    ends = [(row, found) for row in met.values() if (found := case.lost(row))]
+    if not ends:
+        return
+    closing = [(row, found) for row, found in ends if found.still_closing(row.least)]
+    closing.sort(key=lambda entry: entry[1].ahead.least if entry[1].ahead else 0)
+    yield (f"{count(len(ends), 'meeting')} of {len(met):,} {'ends' if len(ends) == 1 else 'end'} because a vessel was no longer heard, so the nearest "
+           f"distance is not known; {count(len(closing), 'pair was', 'pairs were')} still closing by the last reports.")
+    for row, _ in closing[:SHOWN]:
+        yield f"{case.name(row.subject)} and {case.name(row.other)}: {case.lost_words(row)}."
+    if len(closing) > SHOWN:
+        yield f"And {len(closing) - SHOWN:,} more such: the page's filter `contact lost` lists all."
+
+
 def meeting_words(case: Case) -> Iterator[str]:
     """Yields how many vessels met, and what the audit says of that."""
     met = unordered(case.meetings)
@@ -81,6 +98,7 @@ def meeting_words(case: Case) -> Iterator[str]:
     yield (f"{count(len(met), 'meeting')} of two vessels; rules broken in {count(len(broken), 'stretch', 'stretches')}, "
            f"and undecided in {count(len(open_), 'stretch', 'stretches')}.")
     yield nearest_words(case, met)
+    yield from lost_words(case, met)
 
 
 def summary(case: Case, gathered: Gathered) -> list[str]:
@@ -101,7 +119,7 @@ def outside(case: Case, gathered: Gathered) -> list[str]:
 
 def doubts(case: Case, gathered: Gathered, findings: Sequence[Finding]) -> list[str]:
     """Returns what is doubtful, most of it in the doctor's words."""
-    found = [f"{capital(finding.name)}: {finding.words}." for finding in findings if finding.name != REST]
+    found = [f"{capital(finding.name)}: {finding.words}." for finding in findings if finding.name not in (REST, LOST)]
     found += outside(case, gathered)
     reports = sum(len(track.times) for track in case.tracks.values())
     if reports > HEAVY:

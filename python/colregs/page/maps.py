@@ -1,11 +1,13 @@
 """A case as GeoJSON (RFC 7946): points, tracks, ends of tracks, meetings, nearest places, and verdicts."""
+import itertools
 import json
 from collections.abc import Iterator
 from typing import Any
 
 from colregs.model.earth import Earth, feature, iso
+from colregs.model.marks import Marks
 from colregs.model.reports import Case
-from colregs.model.rows import Stretch
+from colregs.model.rows import Meeting, Stretch
 from colregs.model.tracks import NONE, Track
 
 
@@ -52,11 +54,12 @@ def tracks(case: Case, earth: Earth) -> Iterator[str]:
                 yield feature("Point", earth.degrees(xs[k], ys[k]), kind="end", **about, end=end, time=moment)
 
 
-def about(case: Case, row: Stretch) -> dict[str, Any]:
+def about(case: Case, row: Stretch, marks: Marks | None) -> dict[str, Any]:
     """Returns who a row is of, and when."""
+    marked = {"marks": ", ".join(marks.of(row, isinstance(row, Meeting)))} if marks else {}
     return {"subject": row.subject, "subject_name": case.name(row.subject), "other": row.other, "other_name": case.name(row.other),
             "first_step": row.first, "last_step": row.last, "time": iso(case.moment(row.first)),
-            "end": iso(case.moment(row.last + 1)), "at_rest": case.rest(row)}
+            "end": iso(case.moment(row.last + 1)), "at_rest": case.rest(row), **marked}
 
 
 def stretch(case: Case, earth: Earth, row: Stretch) -> str | None:
@@ -67,10 +70,12 @@ def stretch(case: Case, earth: Earth, row: Stretch) -> str | None:
     return earth.words([x for x, _ in seen], [y for _, y in seen]) if len(seen) > 1 else None
 
 
-def meetings(case: Case, earth: Earth) -> Iterator[str]:
+def meetings(case: Case, earth: Earth, marks: Marks | None) -> Iterator[str]:
     """The subject's way in each meeting; and where the two were nearest, a line between them and the subject's point."""
     for row in case.meetings:
-        more = {**about(case, row), "encounter": row.kind, "least": row.least}
+        more = {**about(case, row, marks), "encounter": row.kind, "least": row.least}
+        if words := case.lost_words(row):
+            more["contact_lost"] = words
         way = stretch(case, earth, row)
         if way:
             yield feature("LineString", way, kind="meeting", **more)
@@ -81,19 +86,18 @@ def meetings(case: Case, earth: Earth) -> Iterator[str]:
             yield feature("LineString", ends, kind="between", **more)
 
 
-def verdicts(case: Case, earth: Earth) -> Iterator[str]:
+def verdicts(case: Case, earth: Earth, marks: Marks | None) -> Iterator[str]:
     """Yields the subject's way in each verdict."""
     for row in case.verdicts:
         way = stretch(case, earth, row)
         if way:
-            yield feature("LineString", way, kind="verdict", **about(case, row), rule=row.rule, value=row.value)
+            yield feature("LineString", way, kind="verdict", **about(case, row, marks), rule=row.rule, value=row.value)
 
 
-def geojson(case: Case) -> Iterator[str]:
-    """Yields the text of the whole, piece by piece."""
+def geojson(case: Case, marks: Marks | None = None) -> Iterator[str]:
+    """Yields the text of the whole, piece by piece; with the marks of meetings and verdicts if they are given."""
     earth, before = Earth(case.reference), '{"type":"FeatureCollection","features":[\n'
-    for part in (points, tracks, meetings, verdicts):
-        for text in part(case, earth):
-            yield before + text
-            before = ",\n"
+    for text in itertools.chain(points(case, earth), tracks(case, earth), meetings(case, earth, marks), verdicts(case, earth, marks)):
+        yield before + text
+        before = ",\n"
     yield "\n]}\n" if before == ",\n" else before + "]}\n"

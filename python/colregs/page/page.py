@@ -13,9 +13,11 @@ from typing import Any
 from colregs.errors import Fault
 from colregs.io.files import read_text
 from colregs.model.earth import Earth, iso
+from colregs.model.marks import TESTS, Marks
 from colregs.model.reports import Case
 from colregs.model.rows import Meeting
 from colregs.model.rules import ENCOUNTERS, OUTCOMES, colour, date, duty, meaning
+from colregs.model.ships import type_words
 
 HERE = os.path.join(os.path.dirname(os.path.abspath(__file__)), "web")
 LEAFLET = "/usr/share/javascript/leaflet"
@@ -49,12 +51,13 @@ def vessels(case: Case) -> list[dict[str, Any]]:
         vessel, track = case.vessels.get(mmsi), case.tracks.get(mmsi)
         columns: list[Iterable[int]] = [] if track is None else [
             track.times, (round(10 * x) for x in track.xs), (round(10 * y) for y in track.ys), track.speeds, track.courses]
-        found.append({"mmsi": mmsi, "name": case.name(mmsi), "type": vessel.ship_type if vessel else 0, "length": vessel.length if vessel else 0,
+        found.append({"mmsi": mmsi, "name": case.name(mmsi), "type": vessel.ship_type if vessel else 0,
+                      "kind": type_words(vessel.ship_type) if vessel else "", "length": vessel.length if vessel else 0,
                       "reports": [deltas(column) for column in columns]})
     return found
 
 
-def meetings(case: Case, numbers: Mapping[int, int]) -> list[dict[str, Any]]:
+def meetings(case: Case, marks: Marks, numbers: Mapping[int, int]) -> list[dict[str, Any]]:
     """Returns one entry for each two vessels and stretch, with what it is for either, in the order of their first steps."""
     found: dict[tuple[int, int, int, int], list[Meeting]] = {}
     for row in case.meetings:
@@ -68,8 +71,15 @@ def meetings(case: Case, numbers: Mapping[int, int]) -> list[dict[str, Any]]:
         entries.append({"pair": [numbers[mmsi] for mmsi in key[:2]], "kinds": [kinds.get(mmsi, "") for mmsi in key[:2]], "first": key[2],
                         "last": key[3], "least": round(rows[0].least, 1), "nearest": round(seconds),
                         "places": [[round(value, 1) for value in place] for place in places],
-                        "rest": resting(case, rows, key)})
+                        "rest": resting(case, rows, key), "lost": case.lost_words(rows[0]), "ahead": ahead(case, rows[0]),
+                        "marks": list(marks.of(rows[0])), "what": [marks.words(mmsi, key[3]) for mmsi in key[:2]]})
     return entries
+
+
+def ahead(case: Case, row: Meeting) -> float | None:
+    """Returns the least distance in metres if both went on after contact was lost, or None if it was not or the distance is unknown."""
+    found = case.lost(row)
+    return round(found.ahead.least, 1) if found and found.ahead else None
 
 
 def resting(case: Case, rows: Sequence[Meeting], key: tuple[int, ...]) -> list[int]:
@@ -81,7 +91,7 @@ def resting(case: Case, rows: Sequence[Meeting], key: tuple[int, ...]) -> list[i
     return sorted(still)
 
 
-def verdicts(case: Case, numbers: Mapping[int, int], entries: list[dict[str, Any]]) -> list[dict[str, Any]]:
+def verdicts(case: Case, marks: Marks, numbers: Mapping[int, int], entries: list[dict[str, Any]]) -> list[dict[str, Any]]:
     """Returns the verdicts, each with the number of the meeting that it overlaps, if there is one."""
     by_pair: dict[tuple[int, ...], list[tuple[int, int, int]]] = {}
     rules = {rule: k for k, rule in enumerate(case.rules)}
@@ -92,7 +102,8 @@ def verdicts(case: Case, numbers: Mapping[int, int], entries: list[dict[str, Any
         pair = [numbers[mmsi] for mmsi in row.pair]
         near = [number for first, last, number in by_pair.get(tuple(sorted(pair)), []) if first <= row.last and row.first <= last]
         found.append({"pair": pair, "rule": rules[row.rule], "broken": row.value == "broken", "first": row.first, "last": row.last,
-                      "meeting": near[0] if near else None, "rest": case.rest(row)})
+                      "meeting": near[0] if near else None, "rest": case.rest(row), "marks": list(marks.of(row, False)),
+                      "what": [marks.words(mmsi, row.last) for mmsi in row.pair]})
     return sorted(found, key=lambda row: (row["first"], row["last"]))
 
 
@@ -124,17 +135,17 @@ def total_words(case: Case, rule: str) -> list[int] | None:
     return [total.positions, total.yes, total.no, total.open, total.broken] if total else None
 
 
-def content(case: Case, about: Mapping[str, Any]) -> dict[str, Any]:
+def content(case: Case, marks: Marks, about: Mapping[str, Any]) -> dict[str, Any]:
     """Returns all that the page shows. `about` has title, summary, findings, reasons, scenario, sources, files, commands, version and chart."""
     listed, earth = vessels(case), Earth(case.reference)
     numbers = {vessel["mmsi"]: k for k, vessel in enumerate(listed)}
-    entries = meetings(case, numbers)
+    entries = meetings(case, marks, numbers)
     rules = [{"name": rule, "colour": colour(rule), "short": meaning(rule), "words": words_of(case, rule), "total": total_words(case, rule)}
              for rule in case.rules]
     lines = [[name, count, OUTCOMES.get(name, "")] for name, count in case.lines.items()]
     return {**about, "start": case.start, "tick": case.tick, "steps": case.steps, "gap": case.gap,
             "plane": [earth.longitude, earth.latitude, earth.east, earth.north], "vessels": listed, "meetings": entries, "rules": rules,
-            "verdicts": verdicts(case, numbers, entries), "lines": lines}
+            "verdicts": verdicts(case, marks, numbers, entries), "lines": lines, "marks": TESTS}
 
 
 def window_words(case: Case) -> str:
@@ -143,11 +154,11 @@ def window_words(case: Case) -> str:
     return f"{date(begin)}, {iso(begin)[11:19]} to {iso(end)[11:19] if date(begin) == date(end) else f'{date(end)}, {iso(end)[11:19]}'} UTC"
 
 
-def page(case: Case, about: Mapping[str, Any], folder: str = LEAFLET) -> str:
+def page(case: Case, marks: Marks, about: Mapping[str, Any], folder: str = LEAFLET) -> str:
     """Returns the text of the page."""
     script, style = leaflet(folder)
     about = {**about, "noMap": "" if script else NO_MAP, "window": window_words(case)}
-    held = json.dumps(content(case, about), separators=(",", ":"), ensure_ascii=False).replace("<", "\\u003c").replace(
+    held = json.dumps(content(case, marks, about), separators=(",", ":"), ensure_ascii=False).replace("<", "\\u003c").replace(
         "\u2028", "\\u2028").replace("\u2029", "\\u2029")
     parts: dict[str, str] = {
         "title": html.escape(about["title"]), "style": style + read_text(os.path.join(HERE, "page.css")), "leaflet": script, "case": held,

@@ -81,9 +81,9 @@ def listed(value: object) -> list[object]:
     return value
 
 
-def ring_of(scenario: PilotScenario, value: object) -> tuple[Place, ...]:
-    """Returns a ring on the plane, closed if the file leaves it open. A Fault says what is wrong."""
-    places = []
+def ring_in_degrees(value: object) -> tuple[Place, ...]:
+    """Returns a ring as longitudes and latitudes in degrees, closed if the file leaves it open. A Fault says what is wrong."""
+    places: list[Place] = []
     for pair in listed(value):
         numbers = listed(pair)[:2]
         if len(numbers) < 2 or not all(isinstance(number, (int, float)) and not isinstance(number, bool) for number in numbers):
@@ -91,17 +91,23 @@ def ring_of(scenario: PilotScenario, value: object) -> tuple[Place, ...]:
         longitude, latitude = (float(str(number)) for number in numbers)
         if not (abs(longitude) <= 180 and abs(latitude) <= 90):
             raise Fault(f"{longitude}, {latitude} is no longitude and latitude in degrees")
-        places.append(on_plane((latitude, longitude), scenario.latitude, scenario.longitude))
+        places.append((longitude, latitude))
     if len(places) < 3:
         raise Fault("a ring has fewer than three places")
     return tuple(places if places[0] == places[-1] else places + places[:1])
 
 
 def read_areas(path: str, scenario: PilotScenario) -> list[Area]:
-    """Reads the areas of a GeoJSON file. A Fault names the file and what is wrong."""
+    """Reads the areas of a GeoJSON file, on the plane of a scenario. A Fault names the file and what is wrong."""
+    return [Area(area.name, tuple(tuple(on_plane((latitude, longitude), scenario.latitude, scenario.longitude) for longitude, latitude in ring)
+                                  for ring in area.rings)) for area in areas_in_degrees(path)]
+
+
+def areas_in_degrees(path: str) -> list[Area]:
+    """Reads the areas of a GeoJSON file, as longitudes and latitudes. A Fault names the file and what is wrong."""
     try:
         value = json.loads(read_text(path))
-        return [Area(name, tuple(ring_of(scenario, ring) for ring in listed(rings))) for name, rings in polygons_of(value, "the area")]
+        return [Area(name, tuple(ring_in_degrees(ring) for ring in listed(rings))) for name, rings in polygons_of(value, "the area")]
     except (ValueError, RecursionError) as error:
         raise Fault(f"{path}: not JSON: {str(error)[:80]}") from None
     except Fault as fault:

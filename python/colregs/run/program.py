@@ -26,6 +26,12 @@ def on_path() -> str | None:
     return shutil.which("colregs", path=os.pathsep.join(folders))
 
 
+def beside() -> str | None:
+    """Returns where the program is if it lies beside the tool; None if the tool is no file, for then the current folder would count."""
+    tool = os.path.realpath(sys.argv[0])
+    return os.path.join(os.path.dirname(tool), "colregs") if not sys.argv[0].startswith("-") and os.path.isfile(tool) else None
+
+
 def built(path: str) -> str:
     """Returns the program that a path is, or, if it is the command at the top of a clone, the program that the command runs.
 
@@ -46,8 +52,7 @@ def found(given: str | None = None) -> str:
         if not is_program(named):
             raise Fault(f"{named} is no program that can be run")
         return built(named)
-    beside = os.path.join(os.path.dirname(os.path.realpath(sys.argv[0])), "colregs")
-    for path in (os.path.join(TOP, "colregs"), BUILT, beside, on_path()):
+    for path in (os.path.join(TOP, "colregs"), BUILT, beside(), on_path()):
         if path and is_program(path):
             return built(path)
     raise Fault("the program is not here: give --program, or set COLREGS_PROGRAM")

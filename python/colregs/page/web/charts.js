@@ -1,23 +1,29 @@
 // The charts of a meeting: distance, course and speed by time, with the stretches of the rules shaded.
 "use strict";
 const Charts = (() => {
-  const WIDE = 640, LEFT = 58, RIGHT = 46, HIGH = 132, GAP = 24;
+  const WIDE = 640, LEFT = 58, RIGHT = 46, HIGH = 132, GAP = 36;
   const across = WIDE - LEFT - RIGHT;
   let now = null;
 
   // The values of a report's field between two times, in parts: a part ends where a report tells none or the next comes too late.
-  function told(track, field, first, last, wraps) {
+  // Of courses `from` is the least value of the scale, 0 or -180 degrees; for other fields it is null.
+  function told(track, field, first, last, from) {
     const parts = [];
     let part = [];
     const close = () => { if (part.length) parts.push(part); part = []; };
     for (let k = Math.max(0, before(track.times, first)); k < track.times.length && track.times[k] <= last; k++) {
-      const value = track[field][k] / 10, previous = part[part.length - 1];
+      const raw = track[field][k] / 10, value = from !== null && raw >= from + 360 ? raw - 360 : raw, previous = part[part.length - 1];
       if (track[field][k] < 0) { close(); continue; }
-      if (previous && (track.times[k] - previous[0] > HELD.gap || wraps && Math.abs(value - previous[1]) > 180)) close();
+      if (previous && (track.times[k] - previous[0] > HELD.gap || from !== null && Math.abs(value - previous[1]) > 180)) close();
       part.push([track.times[k], value]);
     }
     close();
     return parts;
+  }
+
+  // How often the line of a vessel's courses is broken on a scale that begins at `from`.
+  function breaks(meeting, from) {
+    return meeting.pair.reduce((count, number) => count + told(TRACKS[number], "courses", now.first, now.last, from).length, 0);
   }
 
   function distances(meeting, first, last) {
@@ -41,7 +47,7 @@ const Charts = (() => {
     const y = (value) => top + HIGH - HIGH * (value - low) / (high - low || 1);
     for (let value = Math.ceil(low / every) * every; value <= high + 1e-9; value += every) {
       svg.append(drawn("line", { x1: LEFT, x2: WIDE - RIGHT, y1: y(value), y2: y(value), stroke: "#e3e8ec" }));
-      svg.append(drawn("text", { x: LEFT - 5, y: y(value) + 3.5, "font-size": 10, fill: "#555555", "text-anchor": "end" }, String(+value.toFixed(2))));
+      svg.append(drawn("text", { x: LEFT - 5, y: y(value) + 3.5, "font-size": 10, fill: "#555555", "text-anchor": "end" }, String(+(value < 0 ? value + 360 : value).toFixed(2))));
       if (right) svg.append(drawn("text", { x: WIDE - RIGHT + 5, y: y(value) + 3.5, "font-size": 10, fill: "#555555" }, right(value)));
     }
     svg.append(drawn("text", { x: LEFT, y: top - 6, "font-size": 11, "font-weight": "bold", fill: "#222222" }, title));
@@ -99,7 +105,7 @@ const Charts = (() => {
 
   function distanceChart(svg, top, meeting) {
     const parts = distances(meeting, now.first, now.last), high = greatest(parts, 1) * 1.08, every = nice(high / 5);
-    times(svg, top, false);
+    times(svg, top, true);
     const y = frame(svg, top, "Distance, m (right: nautical miles)", 0, high, every, (value) => (value / MILE).toFixed(every < 200 ? 2 : 1));
     shade(svg, top, meeting, null);
     line(svg, parts, y, "#222222", "distance");
@@ -107,18 +113,20 @@ const Charts = (() => {
     ruleWords(svg, top, meeting);
   }
 
-  function courseRange(both) {
+  function courseRange(both, from) {
     const values = both.flat().flat().map(([, value]) => value);
-    if (!values.length) return [0, 360, 90];
-    let low = Math.max(0, Math.floor((Math.min(...values) - 5) / 10) * 10), high = Math.min(360, Math.ceil((Math.max(...values) + 5) / 10) * 10);
-    return high - low > 200 ? [0, 360, 90] : [low, high, nice((high - low) / 4)];
+    if (!values.length) return [from, from + 360, 90];
+    const low = Math.max(from, Math.floor((Math.min(...values) - 5) / 10) * 10), high = Math.min(from + 360, Math.ceil((Math.max(...values) + 5) / 10) * 10);
+    return high - low > 200 ? [from, from + 360, 90] : [low, high, nice((high - low) / 4)];
   }
 
   function pairChart(svg, top, meeting, field, title) {
-    const both = meeting.pair.map((number) => told(TRACKS[number], field, now.first, now.last, field === "courses"));
+    // A course near north is one line on a scale from -180 to 180 degrees, which is labelled from 180 over 0 to 180.
+    const from = field !== "courses" ? null : breaks(meeting, -180) < breaks(meeting, 0) ? -180 : 0;
+    const both = meeting.pair.map((number) => told(TRACKS[number], field, now.first, now.last, from));
     const high = greatest(both.flat(), 1) * 1.1;
-    const [low, most, every] = field === "courses" ? courseRange(both) : [0, high, nice(high / 4)];
-    times(svg, top, field === "speeds");
+    const [low, most, every] = field === "courses" ? courseRange(both, from) : [0, high, nice(high / 4)];
+    times(svg, top, true);
     const y = frame(svg, top, title, low, most, every);
     shade(svg, top, meeting, null);
     both.forEach((parts, k) => line(svg, parts, y, PAIR_COLOURS[k], field));
@@ -135,8 +143,9 @@ const Charts = (() => {
       svg.append(drawn("text", { x: left + 23, y: top + 4, "font-size": 11, fill: PAIR_COLOURS[k], "font-weight": "bold" }, nameOf(number)));
       left += 40 + nameOf(number).length * 7.5;
     });
-    svg.append(drawn("text", { x: LEFT, y: top + 20, "font-size": 10, fill: "#555555" },
-      "Dashed: the meeting begins and ends. Dotted: nearest. Shaded: a rule is broken; in a dashed frame: open, undecided."));
+    ["Dashed: the meeting begins and ends. Dotted: nearest.", "Shaded: a rule is broken; in a dashed frame: open, undecided."].forEach((words, k) => {
+      svg.append(drawn("text", { x: LEFT, y: top + 20 + 13 * k, "font-size": 10, fill: "#555555" }, words));
+    });
   }
 
   function follow(svg, meeting) {
@@ -159,7 +168,7 @@ const Charts = (() => {
   function draw(meeting, first, last) {
     now = { first, last };
     const top = 24, step = HIGH + GAP;
-    const svg = drawn("svg", { viewBox: `0 0 ${WIDE} ${top + 3 * step + 44}`, "font-family": "Helvetica, Arial, 'Liberation Sans', sans-serif" });
+    const svg = drawn("svg", { viewBox: `0 0 ${WIDE} ${top + 3 * step + 57}`, "font-family": "Helvetica, Arial, 'Liberation Sans', sans-serif" });
     distanceChart(svg, top, meeting);
     pairChart(svg, top + step, meeting, "courses", "Course over ground, degrees");
     pairChart(svg, top + 2 * step, meeting, "speeds", "Speed over ground, knots");

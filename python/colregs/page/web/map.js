@@ -160,7 +160,7 @@ const MapView = (() => {
     const ends_ = meeting.places.map(([x, y]) => latLng(x, y));
     L.polyline(ends_, { color: "#222222", weight: 1.5, dashArray: "3 4", interactive: false }).addTo(chosen);
     ends_.forEach((at) => L.circleMarker(at, { radius: 5, color: "#222222", weight: 1.5, fill: false, interactive: false }).addTo(chosen));
-    const words = `${metres(meeting.least)} m at ${clockOnly(meeting.nearest)}`;
+    const words = `${metres(meeting.least)} m at ${clockOnly(meeting.nearest)}${meeting.lost ? ", contact lost" : ""}`;
     L.tooltip({ permanent: true, className: "name", direction: "bottom", offset: [0, 6] }).setLatLng(L.latLngBounds(ends_).getCenter()).setContent(words).addTo(chosen);
     const around = meeting.pair.flatMap((number) => stretch(TRACKS[number], begins(meeting), ends(meeting))).concat(ends_);
     show(L.latLngBounds(around).pad(0.2));

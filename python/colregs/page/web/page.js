@@ -31,25 +31,55 @@ const Page = (() => {
   function link(number) { return element("a", String(number + 1), { href: `#meeting${number + 1}` }); }
 
   function fillMeetings() {
-    const pairWords = (meeting, k) => [fullName(meeting.pair[k]), element("br"), element("span", meeting.kinds[k], { class: "quiet" })];
+    const pairWords = (m, k) => [fullName(m.pair[k]), element("br"), element("span", [m.kinds[k], m.what[k]].filter(Boolean).join("; "), { class: "quiet" })];
     const columns = [
       { title: "No.", kind: "number", of: (m) => link(m.number), by: (m) => m.number },
       { title: "Begins (UTC)", kind: "time", of: (m) => utc(begins(m)), by: (m) => m.first },
       { title: "Ends", kind: "time", of: (m) => endWords(m), by: (m) => m.last },
       { title: "First vessel", of: (m) => pairWords(m, 0), by: (m) => nameOf(m.pair[0]) },
       { title: "Second vessel", of: (m) => pairWords(m, 1), by: (m) => nameOf(m.pair[1]) },
-      { title: "Nearest, m", kind: "number", of: (m) => metres(m.least), by: (m) => m.least },
+      { title: "Nearest, m", kind: "number", of: nearWords, by: nearest },
       { title: "nautical miles", kind: "number", of: (m) => miles(m.least), by: (m) => m.least },
       { title: "at (UTC)", kind: "time", of: (m) => clockOnly(m.nearest), by: (m) => m.nearest },
       { title: "Rules", of: (m) => chips(m), by: (m) => -m.verdicts.filter((v) => v.broken).length },
-      { title: "At rest", of: (m) => m.rest.length ? [element("span", stillWords(m.rest, m.pair), { class: "still" })] : [""], by: (m) => -m.rest.length },
+      { title: "Marks", of: markWords, by: (m) => m.marks.join() },
     ];
-    const words = (m) => [...m.pair.map(fullName), ...m.kinds, ...m.verdicts.map((v) => HELD.rules[v.rule].name), m.rest.length ? "still" : ""].join(" ");
-    meetingTable = new Table(byId("meetings"), columns, HELD.meetings, { words, choose: (m) => choose(m), isChosen: (m) => m === chosen,
+    const words = (m) => [...m.pair.map(fullName), ...m.kinds, ...m.verdicts.map((v) => HELD.rules[v.rule].name), m.rest.length ? "still" : "", m.lost, ...m.marks, ...m.what].join(" ");
+    const rows = [...HELD.meetings].sort((p, q) => isMarked(p) - isMarked(q));
+    meetingTable = new Table(byId("meetings"), columns, rows, { words, choose: (m) => choose(m), isChosen: (m) => m === chosen,
       mark: (row, m) => row.setAttribute("data-meeting", m.number + 1), onFilter: (found) => Times.show(found) });
     meetingTable.addBox("with a broken rule", (m) => m.verdicts.some((v) => v.broken));
     meetingTable.addBox("both under way", (m) => !m.rest.length);
+    meetingTable.addBox("contact lost", (m) => m.lost !== "");
+    addMarkBoxes(meetingTable);
     meetingTable.filter();
+  }
+
+  // How near two vessels came, or would have come if contact with one was lost while they were closing.
+  function nearest(meeting) { return meeting.ahead === null ? meeting.least : Math.min(meeting.ahead, meeting.least); }
+
+  function nearWords(meeting) {
+    if (!meeting.lost) return metres(meeting.least);
+    const ahead = nearest(meeting) < meeting.least ? [element("br"), element("span", `${metres(meeting.ahead)} if both went on`, { class: "lost" })] : [];
+    return [`${metres(meeting.least)} heard`, ...ahead];
+  }
+
+  // A row with a mark by which it may be a false alarm. Such rows follow the others.
+  function isMarked(row) { return row.marks.some((mark) => mark !== "contact lost"); }
+
+  function addMarkBoxes(table) {
+    table.addBox("without marks", (row) => !isMarked(row));
+    const found = new Set(table.rows.flatMap((row) => row.marks));
+    for (const mark of Object.keys(HELD.marks)) {
+      if (found.has(mark) && mark !== "contact lost") table.addBox(`without ${mark}`, (row) => !row.marks.includes(mark));
+    }
+  }
+
+  // The marks of a row, with the test of each as its title; who lies still and how contact was lost in words.
+  function markWords(row) {
+    const words = { "at rest": Array.isArray(row.rest) ? stillWords(row.rest, row.pair) : restWords(row), "contact lost": row.lost };
+    const made = row.marks.map((mark) => element("span", words[mark] || mark, { class: mark === "contact lost" ? "lost" : "still", title: HELD.marks[mark] }));
+    return made.length ? made.flatMap((each) => [each, " "]) : [""];
   }
 
   // One chip for each rule, vessel and value of a meeting.
@@ -64,18 +94,30 @@ const Page = (() => {
       { title: "Meeting", kind: "number", of: (v) => v.meeting === null ? "none" : link(v.meeting), by: (v) => v.meeting === null ? -1 : v.meeting },
       { title: "From (UTC)", kind: "time", of: (v) => utc(begins(v)), by: (v) => v.first },
       { title: "to", kind: "time", of: (v) => endWords(v), by: (v) => v.last },
-      { title: "Who is bound", of: (v) => fullName(v.pair[0]), by: (v) => nameOf(v.pair[0]) },
-      { title: "Towards", of: (v) => fullName(v.pair[1]), by: (v) => nameOf(v.pair[1]) },
+      { title: "Who is bound", of: (v) => vesselWords(v, 0), by: (v) => nameOf(v.pair[0]) },
+      { title: "Towards", of: (v) => vesselWords(v, 1), by: (v) => nameOf(v.pair[1]) },
       { title: "Verdict", of: (v) => chip(v), by: (v) => HELD.rules[v.rule].name + v.broken },
       { title: "The rule in words", of: (v) => HELD.rules[v.rule].words, by: (v) => v.rule },
-      { title: "At rest", of: (v) => v.rest ? [element("span", restWords(v), { class: "still" })] : [""], by: (v) => v.rest },
+      { title: "Marks", of: markWords, by: (v) => v.marks.join() },
     ];
-    const words = (v) => [...v.pair.map(fullName), HELD.rules[v.rule].name, HELD.rules[v.rule].words, v.broken ? "broken" : "open", v.rest ? "still" : ""].join(" ");
-    verdictTable = new Table(byId("verdicts"), columns, HELD.verdicts, { words, isChosen: (v) => v === chosenVerdict,
+    const words = (v) => [...v.pair.map(fullName), HELD.rules[v.rule].name, HELD.rules[v.rule].words, v.broken ? "broken" : "open", v.rest ? "still" : "", ...v.marks, ...v.what].join(" ");
+    const vesselWords = (v, k) => [fullName(v.pair[k]), element("br"), element("span", v.what[k], { class: "quiet" })];
+    const rows = [...HELD.verdicts].sort((p, q) => isMarked(p) - isMarked(q));
+    verdictTable = new Table(byId("verdicts"), columns, rows, { words, isChosen: (v) => v === chosenVerdict,
       choose: (v) => { if (v.meeting !== null) choose(HELD.meetings[v.meeting], v); }, mark: (row, v) => row.setAttribute("data-verdict", v.number + 1) });
     verdictTable.addBox("broken alone", (v) => v.broken);
     verdictTable.addBox("both under way", (v) => !v.rest);
+    addMarkBoxes(verdictTable);
     verdictTable.filter();
+  }
+
+  function fillMarks() {
+    list("marks", []);
+    byId("marks").append(...Object.entries(HELD.marks).map(([mark, test]) => {
+      const row = element("li"), count = (rows) => rows.filter((one) => one.marks.includes(mark)).length;
+      row.append(element("b", mark), `: ${test} (${counted(count(HELD.meetings), "meeting")}, ${counted(count(HELD.verdicts), "verdict")})`);
+      return row;
+    }));
   }
 
   function restWords(verdict) {
@@ -87,7 +129,7 @@ const Page = (() => {
       title, kind, of: (row) => String(row[at] === null || row[at] === undefined ? "" : row[at]), by: (row) => row[at] })), rows, more).filter();
     plain("rules", [["Rule", 0], ["In words", 1], ["Steps of all pairs", 2, "number"], ["holds", 3, "number"], ["broken", 4, "number"],
       ["open", 5, "number"], ["Broken stretches", 6, "number"]], HELD.rules.map((rule) => [rule.name, rule.words, ...(rule.total || [])]));
-    plain("vessels", [["MMSI", "mmsi", "number"], ["Name", "name"], ["Type of ship", "type", "number"], ["Length, m", "length", "number"],
+    plain("vessels", [["MMSI", "mmsi", "number"], ["Name", "name"], ["Type", "kind"], ["Type of ship", "type", "number"], ["Length, m", "length", "number"],
       ["Accepted reports", "reports", "number"]], HELD.vessels.map((vessel, number) => ({ ...vessel, number })), { words: (v) => `${v.mmsi} ${v.name}`, isChosen: () => false,
       choose: (v) => { MapView.vessel(v.number); byId("see").scrollIntoView(); } });
     plain("lines", [["Outcome", 0], ["Lines", 1, "number"], ["What it means", 2]], HELD.lines);
@@ -101,11 +143,11 @@ const Page = (() => {
 
   function describe(meeting) {
     const [a, b] = meeting.pair;
-    const part = (k) => `${nameOf(meeting.pair[k])} ${meeting.kinds[k]}`;
+    const part = (k) => `${nameOf(meeting.pair[k])}${meeting.what[k] ? ` (${meeting.what[k]})` : ""} ${meeting.kinds[k]}`;
     byId("chosen").textContent = `Meeting ${meeting.number + 1}: ${nameOf(a)} and ${nameOf(b)}`;
     const near = `${metres(meeting.least)} m (${miles(meeting.least)} nautical miles) at ${clockOnly(meeting.nearest)}`;
     const words = element("span", `${utc(begins(meeting))} to ${endWords(meeting)} UTC. ${part(0)}; ${part(1)}. Nearest ${near}. `);
-    const still = meeting.rest.length ? [element("span", stillWords(meeting.rest, meeting.pair), { class: "still" }), " "] : [];
+    const still = markWords(meeting);
     const when = (v) => `${clockOnly(begins(v))} to ${clockOnly(ends(v))}`;
     const rules = meeting.verdicts.flatMap((v) => [element("br"), chip(v), `${nameOf(v.pair[0])}, ${when(v)}: ${HELD.rules[v.rule].words}`]);
     byId("chosen-words").replaceChildren(words, ...still, ...(rules.length ? rules : [element("span", "No rule is broken or open.")]));
@@ -146,6 +188,7 @@ const Page = (() => {
     fillVerdicts();
     fillOthers();
     fillScenario();
+    fillMarks();
     byId("earlier").addEventListener("click", () => step(-1));
     byId("later").addEventListener("click", () => step(1));
     byId("whole").addEventListener("click", () => MapView.whole());
@@ -173,9 +216,9 @@ const Page = (() => {
 
   // At the beginning the nearest meeting of those with a broken rule stands in the charts, and the map shows all.
   function showFirst() {
-    const moving = HELD.meetings.filter((m) => !m.rest.length && m.verdicts.some((v) => v.broken));
+    const moving = HELD.meetings.filter((m) => !isMarked(m) && m.verdicts.some((v) => v.broken));
     const from = moving.length ? moving : HELD.meetings;
-    choose(from.reduce((best, m) => (m.least < best.least ? m : best)));
+    choose(from.reduce((best, m) => (nearest(m) < nearest(best) ? m : best)));
     MapView.whole();
     history.replaceState(null, "", location.pathname);
     scrollTo(0, 0);

@@ -96,6 +96,8 @@ function stillWords(numbers, pair) {
   return numbers.length === 2 ? "both lie still" : `${nameOf(pair[numbers[0]])} lies still`;
 }
 
+function counted(number, one) { return `${number.toLocaleString("en")} ${one}${number === 1 ? "" : "s"}`; }
+
 // The least of 1, 2 and 5 times a power of ten that is not below the value.
 function nice(value) {
   const power = 10 ** Math.floor(Math.log10(value));

@@ -72,7 +72,8 @@ class Table {
     const rows = this.filtered.slice(0, this.shown);
     this.body.replaceChildren(...rows.map((row) => this.row(row)));
     const all = this.filtered.length === this.rows.length ? `${this.rows.length}` : `${this.filtered.length} of ${this.rows.length}`;
-    this.note.textContent = rows.length < this.filtered.length ? `${all} rows, the first ${rows.length} are shown` : `${all} rows`;
+    const noun = this.rows.length === 1 ? "row" : "rows";
+    this.note.textContent = rows.length < this.filtered.length ? `${all} ${noun}, the first ${rows.length} are shown` : `${all} ${noun}`;
     this.button.hidden = rows.length === this.filtered.length;
     this.heads.forEach((head, k) => { head.classList.toggle("sorted", k === this.sorted); head.classList.toggle("down", k === this.sorted && this.down); });
   }

@@ -77,7 +77,7 @@ const Times = (() => {
     first = 0;
     last = HELD.steps * HELD.tick;
     document.getElementById("times-words").textContent = meetings.length
-      ? `${meetings.length} meetings of ${pairs.length} pairs, as the table of meetings is filtered. ${LEGEND}`
+      ? `${counted(meetings.length, "meeting")} of ${counted(pairs.length, "pair")}, as the table of meetings is filtered. ${LEGEND}`
       : "No meeting.";
     view.draw();
   };
