@@ -182,7 +182,7 @@ class Times(Cases):
         for words in ("no line has a time", "colregs-tagged --now", "receiver", "--without-times"):
             self.assertIn(words, error)
         self.assertFalse(os.path.exists(self.path("made")))
-        self.assertIn("none of which tells a time", self.make("--without-times")[1])
+        self.assertIn("none of the lines has a time", self.make("--without-times")[1])
 
     def test_a_capture_of_a_network_is_refused_with_what_to_do(self) -> None:
         """The first bytes of pcap (both orders and units of time) and of pcapng, as their specifications give them."""
