@@ -21,11 +21,11 @@ use Rattle.ais_messages.specs.declared.message.Decoded.TheVariants as decoded
 abbrev pub below : ℕ → ℕ → Option ℕ
 below limit value = if nat_lt value limit then Some value else None
 
--- the same, where a step of the value is ten of the unit
+-- the same, if a step of the value is ten of the unit
 abbrev pub tenfold_below : ℕ → ℕ → Option ℕ
 tenfold_below limit value = if nat_lt value limit then Some (value * 10) else None
 
--- latitude and longitude, where both are on the Earth
+-- latitude and longitude, if both are on the Earth
 abbrev pub place_of : ℤ → ℤ → Option (ℤ × ℤ)
 place_of latitude longitude =
     if nat_le (unsigned_abs latitude) 54000000 && nat_le (unsigned_abs longitude) 108000000
@@ -90,7 +90,7 @@ long_range_of bits = record {
   second = 60;
 }
 
--- type and size, where five fields begin at these bits
+-- type and size, if five fields begin at these bits
 abbrev pub ship_at : List Bool → ℕ → ℕ → ℕ → ℕ → ℕ → ShipData
 ship_at bits kind bow stern port starboard = record {
   kind = unsigned_at bits kind 8;
@@ -114,7 +114,7 @@ message_of layout.ExtendedClassB bits =
 message_of layout.NamePart bits = message.Static (static_of bits (Some (text_at bits 40 20)) None)
 message_of layout.ShipPart bits = message.Static (static_of bits None (Some (ship_at bits 40 132 141 150 156)))
 
--- so many bits each layout needs
+-- the number of bits that each layout needs
 abbrev pub least_bits : Layout → ℕ
 least_bits layout.ClassA = 168
 least_bits layout.ClassB = 168
@@ -126,7 +126,7 @@ least_bits layout.ShipPart = 162
 
 -- ---- the causes to drop a message, in their order
 
--- message 24 is of two parts; too short, it does not tell which
+-- message 24 has two parts; a short one does not say which part it is
 abbrev pub part_layout : List Bool → Result Layout MessageCause
 part_layout bits =
     if nat_lt (length bits) 40 then Err Short

@@ -31,7 +31,7 @@ class_a_fields report =
     ∷ (28, longitude_code report.place) ∷ (27, latitude_code report.place) ∷ (12, unwrap_or report.cog 3600)
     ∷ (9, unwrap_or report.heading 511) ∷ (6, report.second) ∷ (2, 0) ∷ (3, 0) ∷ (1, 0) ∷ (19, 0) ∷ []
 
--- message 18: what is not told is 0
+-- message 18: what is not reported is 0
 unfoldable pub class_b_fields : PositionReport → List Written
 class_b_fields report =
     (6, report.kind) ∷ (2, 0) ∷ (30, report.mmsi) ∷ (8, 0) ∷ (10, unwrap_or report.sog 1023) ∷ (1, 0)

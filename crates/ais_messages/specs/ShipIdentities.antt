@@ -1,4 +1,4 @@
--- The identities of ships (ITU-R M.585): nine digits, of which the first three are a country's, from 200 to 799.
+-- The identities of ships (ITU-R M.585): nine digits that begin with a country's three, from 200 to 799.
 use Rattle.std.specs.Prelude.{ℕ, ◌≤◌, nat_le, ◌&&◌, Bool}
 
 abbrev pub IsShip : ℕ → Type 0

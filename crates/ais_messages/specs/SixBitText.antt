@@ -7,7 +7,7 @@ use Rattle.aivdm.specs.BitFields.{unsigned_at}
 abbrev pub character_of : ℕ → ℕ
 character_of value = if nat_lt value 32 then value + 64 else value
 
--- so many characters, from a bit on
+-- this many characters, from a bit on
 unfoldable pub characters_at : List Bool → ℕ → ℕ → List ℕ
 characters_at bits first zero = []
 characters_at bits first (suc count) = character_of (unsigned_at bits first 6) ∷ characters_at bits (first + 6) count
@@ -26,6 +26,6 @@ unfoldable pub trimmed : List ℕ → List ℕ
 trimmed [] = []
 trimmed (character ∷ more) = spaced character (trimmed more)
 
--- what so many characters from a bit on say
+-- what this many characters from a bit on say
 unfoldable pub text_at : List Bool → ℕ → ℕ → List ℕ
 text_at bits first count = trimmed (before_at (characters_at bits first count))

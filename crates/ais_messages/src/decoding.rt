@@ -97,7 +97,8 @@ fn readable(bits: &BitSlice<'_>) -> Result<Layout, MessageCause>
     Ok(layout)
 }
 
-/// Reads a message. Of several causes to drop it, it tells the first: fewer than 38 bits are `Short`; a type other than 1, 2,
+/// Reads a message. If there are several causes to drop it, the first counts: fewer than 38 bits are `Short`; a type other
+/// than 1, 2,
 /// 3, 5, 18, 19, 24 and 27 is `Kind`; a message 24 of fewer than 40 bits is `Short`, and one of a part other than 0 and 1 is
 /// `Kind`; fewer bits than its type needs are `Short`; and an MMSI outside 200000000 to 799999999 is `NotShip`.
 pub fn decode(bits: &Bits) -> Decoded
@@ -265,10 +266,11 @@ fn ship(
     }
 }
 
-/// A latitude and a longitude in 1/10000 minute, where both are on the Earth: at most 90 and 180 degrees in size.
+/// A latitude and a longitude in 1/10000 minute, if both are on the Earth: at most 90 and 180 degrees in size.
 pub fn place(latitude: i32, longitude: i32) -> Option<(i32, i32)>
     ensures value { result ≡ place_of latitude longitude }
-    ensures range { IfSome result (λ place. (unsigned_abs place.0 ≤ 54000000) × (unsigned_abs place.1 ≤ 108000000)) }
+    ensures range { IfSome result
+        (λ place. (unsigned_abs place.0 ≤ 54000000) × (unsigned_abs place.1 ≤ 108000000)) }
 {
     if latitude.unsigned_abs() <= 54000000 && longitude.unsigned_abs() <= 108000000 {
         Some((latitude, longitude))
@@ -280,7 +282,8 @@ pub fn place(latitude: i32, longitude: i32) -> Option<(i32, i32)>
 /// The same, from tenths of a minute.
 fn coarse_place(latitude: i32, longitude: i32) -> Option<(i32, i32)>
     ensures value { result ≡ coarse_place_of latitude longitude }
-    ensures range { IfSome result (λ place. (unsigned_abs place.0 ≤ 54000000) × (unsigned_abs place.1 ≤ 108000000)) }
+    ensures range { IfSome result
+        (λ place. (unsigned_abs place.0 ≤ 54000000) × (unsigned_abs place.1 ≤ 108000000)) }
 {
     if latitude.unsigned_abs() <= 54000 && longitude.unsigned_abs() <= 108000 {
         Some((1000 * latitude, 1000 * longitude))
@@ -289,7 +292,7 @@ fn coarse_place(latitude: i32, longitude: i32) -> Option<(i32, i32)>
     }
 }
 
-/// The value, where it is below the limit from which on it is not available.
+/// The value, if it is below the limit from which on it is not available.
 fn below(limit: u16, value: u16) -> Option<u16>
     ensures value { result ≡ below limit value }
     ensures range { IfSome result (λ value. value < limit) }
@@ -297,7 +300,7 @@ fn below(limit: u16, value: u16) -> Option<u16>
     if value < limit { Some(value) } else { None }
 }
 
-/// Ten times the value, where it is below the limit from which on it is not available.
+/// Ten times the value, if it is below the limit from which on it is not available.
 fn tenfold_below(limit: u16, value: u16) -> Option<u16>
     requires { limit ≤ 360 }
     ensures value { result ≡ tenfold_below limit value }

@@ -18,7 +18,8 @@ pub fn encode_position(alloc: Global, report: &PositionReport) -> Result<Bits, M
     requires kind { IsWritable report.now }
     ensures bits { IfOk result (λ bits. bits ≡ encoded_of report.now) }
     ensures length { IfOk result (λ bits. length bits ≡ 168) }
-    ensures decodes { IfOk result (λ bits. decoded_of bits ≡ decoded.Message (Position report.now)) }
+    ensures decodes { IfOk result
+        (λ bits. decoded_of bits ≡ decoded.Message (Position report.now)) }
 {
     if report.kind == 18 {
         class_b(alloc, report)
@@ -98,7 +99,7 @@ fn or_absent(value: Option<u16>, absent: u16) -> u32
     u32::from(value.unwrap_or(absent))
 }
 
-/// A number in two's complement of so many bits.
+/// A number in two's complement of this many bits.
 fn code(value: i32, width: u32) -> u32
     requires some { 1 ≤ width }
     requires few { width ≤ 31 }

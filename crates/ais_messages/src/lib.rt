@@ -1,6 +1,8 @@
-//! The messages of ITU-R M.1371-5 that tell where a vessel is and what she is, read from their bits and written to bits.
+//! The messages of ITU-R M.1371-5 that report where a vessel is and what she is, read from their bits and written to
+//! bits.
 //!
-//! Messages 1, 2, 3, 18, 19 and 27 tell a position, messages 5, 19 and 24 what the ship is. `decode` reads them all by the tables
+//! Messages 1, 2, 3, 18, 19 and 27 report a position, messages 5, 19 and 24 what the ship is. `decode` reads them all by the
+//! tables
 //! of `specs/MessageFields.antt`. The message 1 of `!AIVDM,1,1,,B,177KQJ5000G?tO`K>RA1wUbN0TKH,0*5C` is of ship 477553000, moored
 //! at 28549700 north and -73407500 east in 1/10000 minute, with her heading at 181 degrees.
 #![tactic(auto)]

@@ -17,13 +17,14 @@ pub struct PositionReport {
     pub heading: Option<u16>,
     /// The type of the message: 1, 2, 3, 18, 19 or 27.
     pub kind: u8,
-    /// The navigational status, 0 to 15; 15 where the type has none.
+    /// The navigational status, 0 to 15; 15 if the type has none.
     pub status: u8,
     /// The UTC second of the report, and from 60 on why there is none; below 64.
     pub second: u8,
 }
 
-/// What a ship's static report tells of her hull (ITU-R M.1371-5, annex 8, messages 5, 19 and 24 B).
+/// What a ship's static report says about her hull (ITU-R M.1371-5, annex 8, messages 5, 19 and 24
+/// B).
 #[derive(Clone, Copy, Debug, PartialEq, Eq)]
 pub struct ShipData {
     /// Type of ship and cargo, 0 to 255 (annex 8, table 53).
@@ -38,14 +39,15 @@ pub struct ShipData {
     pub starboard: u8,
 }
 
-/// What a ship tells of herself that does not change as she moves (ITU-R M.1371-5, annex 8, messages 5, 19 and 24).
+/// What a ship reports about herself that does not change as she moves (ITU-R M.1371-5, annex 8, messages 5, 19 and
+/// 24).
 #[derive(Debug, Drop, PartialEq)]
 pub struct StaticReport {
     /// The Maritime Mobile Service Identity, 200000000 to 799999999 for a ship.
     pub mmsi: u32,
-    /// Her name, where the message has one.
+    /// Her name, if the message has one.
     pub name: Option<Text20>,
-    /// Her type and size, where the message has them.
+    /// Her type and size, if the message has them.
     pub ship: Option<ShipData>,
 }
 
@@ -63,7 +65,7 @@ pub enum Message {
 /// Why a message was not read.
 #[derive(Clone, Copy, Debug, PartialEq, Eq)]
 pub enum MessageCause {
-    /// There are fewer bits than its type needs, or too few to tell its type and sender.
+    /// There are fewer bits than its type needs, or too few to read its type and sender.
     Short,
     /// Its type is not among those that are read.
     Kind,

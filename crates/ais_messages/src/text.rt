@@ -102,7 +102,7 @@ fn at_sign(text: &[u8]) -> Option<usize>
     text.iter().position(|byte| *byte == b'@')
 }
 
-/// Where the first `@` stands, or the length where there is none.
+/// Where the first `@` stands, or the length if there is none.
 fn end_of(text: &[u8]) -> usize
     ensures within { result ≤ length text.now }
     ensures before { take result text.now ≡ before_at text.now }

@@ -14,7 +14,7 @@ use Rattle.aivdm.specs.Inner.Sextets.{bits_in, sextets_of, AreSextets}
 use Rattle.aivdm.proofs.Payloads.{bits_of-cut}
 use Rattle.aivdm.proofs.BitLists.{length-binary, number_of-append, number_of-below, number_of-binary, length-bits_in}
 
--- bits are the same where they are as many and stand for one number
+-- bits are the same if they are as many and stand for one number
 pub same_bits : (xs ys : List Bool) → length xs ≡ length ys → bits_value xs ≡ bits_value ys → xs ≡ ys
 unfolding bits_value
 same_bits [] [] l e = refl
@@ -44,7 +44,7 @@ binary-split a b n =
     (length-binary (a + b) n ∙ sym (length-append (binary a (n / 2 ^ b)) (binary b n) ∙ ap₂ (λ (i j : ℕ). i + j) (length-binary a (n / 2 ^ b)) (length-binary b n)))
     (number_of-binary (a + b) n ∙ mod-pow-add n a b ∙ sym (number_of-append (binary a (n / 2 ^ b)) (binary b n) ∙ rw (length-binary b n, number_of-binary a (n / 2 ^ b), number_of-binary b n) refl))
 
--- the bits of two numbers, one behind the other
+-- the bits of two numbers, one after the other
 pub binary-pair : (a b high low : ℕ) → low < 2 ^ b → binary (a + b) (high * 2 ^ b + low) ≡ binary a high ++ binary b low
 binary-pair a b high low h =
     binary-split a b (high * 2 ^ b + low)
@@ -83,7 +83,7 @@ bits_in-append xs ys = flat_map-append (binary 6) xs ys
 take_past : {X : Type 0} (xs ys : List X) (n k : ℕ) → length xs ≡ n → take (n + k) (xs ++ ys) ≡ xs ++ take k ys
 take_past xs ys n k e = ap (λ (m : ℕ). take (m + k) (xs ++ ys)) (sym e) ∙ take-append-add xs ys k
 
--- the number of the kept bits and those of the value, with zero bits behind them, in sextets behind whole ones
+-- the number of the kept bits and those of the value, followed by zero bits, in sextets after whole ones
 pub appended : (whole : List ℕ) (kept width high value blank count : ℕ) → kept + width + blank ≡ 6 * count → value < 2 ^ width
     → take (6 * length whole + (kept + width)) (bits_in (whole ++ sextets_of count ((high * 2 ^ width + value) * 2 ^ blank))) ≡ bits_in whole ++ (binary kept high ++ binary width value)
 appended whole kept width high value blank count fit small =
@@ -130,7 +130,7 @@ popped items new (Some x) len kept last number are k some there e l q =
       rw digits ((div-lt_iff_lt-mul (pow_pos (6 - kept))).1 (omega arith)),
     )
 
--- where no bits of the last sextet are left over
+-- if no bits of the last sextet are left over
 pub all_kept : (items : List ℕ) (len kept : ℕ) → AreSextets items len → kept ≡ len % 6 → kept ≡ 0 → take len (bits_in items) ≡ bits_in items ++ binary kept 0
 unfolding binary
 all_kept items len kept are k none =
@@ -150,7 +150,7 @@ unfolding sextets_of
 sextets_of-none items zero n none = append-nil items
 sextets_of-none items (suc left) n none = absurd (omega arith)
 
--- ---- a number behind kept bits
+-- ---- a number after kept bits
 
 pub below_power : (high value kept width : ℕ) → high < 2 ^ kept → value < 2 ^ width → high * 2 ^ width + value < 2 ^ (kept + width)
 below_power high value kept width h v =

@@ -108,7 +108,7 @@ number_of-bits_in_below sextets n h =
     let few : length (bits_in sextets) ≤ 6 * n = omega (arith, length-bits_in sextets) in
     lt_of_lt_of_le below (pow_mono few)
 
--- so many of the bits, where they are there
+-- the first bits, if there are enough
 pub length-take_bits_in : (sextets : List ℕ) (len : ℕ) → len ≤ 6 * length sextets → length (take len (bits_in sextets)) ≡ len
 length-take_bits_in sextets len h = omega (arith, length-take len (bits_in sextets), length-bits_in sextets)
 

@@ -25,7 +25,7 @@ pub after-cut : (byte : ℕ) (xs ys : List ℕ) → Lacks byte xs → after_byte
 after-cut byte xs ys none =
     rw (place_of byte xs ys none, ← drop-drop 1 (length xs) (xs ++ byte ∷ ys), drop_at xs (byte ∷ ys) (length xs) refl) refl
 
--- where something stands behind the byte, it is there
+-- if something stands after the byte, it is there
 pub cut-whole : (byte : ℕ) (bytes : List ℕ) (y : ℕ) (ys : List ℕ) → after_byte byte bytes ≡ y ∷ ys → bytes ≡ before_byte byte bytes ++ byte ∷ y ∷ ys
 cut-whole byte bytes y ys e =
     let test = λ (other : ℕ). other == byte in

@@ -43,7 +43,7 @@ last_element xs x = ap (slice_get (xs ++ x ∷ [])) (omega (arith, length-append
 
 -- ---- runs
 
--- The part goes on a run that begins with this part and has so many.
+-- The part continues a run that begins with this part and has this many.
 extends : Taken → ℕ → Taken → Bool
 extends first many part = (total_of part == total_of first) && (number_of_part part == many + 1) && nat_le part.time (first.time + 30)
 
@@ -68,7 +68,7 @@ run_more first others part =
     (list_all-append times others (part ∷ []))
     ∙ shuffle (list_all totals others) (list_all places (enumerate_from 1 (first ∷ others))) (list_all times others) (totals part) (number_of_part part == many + 1) (times part)
 
--- what it takes to go on
+-- what it takes to continue
 record Extends (first : Taken) (many : ℕ) (part : Taken) : Type 0 where
   total : total_of part ≡ total_of first
   number : number_of_part part ≡ many + 1
@@ -134,7 +134,7 @@ closed_awaits (Some run) part keeps two =
 same_tests : (t u k n a b : ℕ) → ((t == u) && nat_lt n k && (k - n == 1) && nat_le a b) ≡ ((u == t) && (k == n + 1) && nat_le a b)
 same_tests t u k n a b = grind (arith, nat_tests)
 
--- An open one awaits a part where it extends the parts that are kept.
+-- An open one awaits a part if it extends the parts that are kept.
 open_awaits : (found : Option Begun) (first : Taken) (others : List Taken) (part : Taken) → KeepsOpen found (Some (first ∷ others)) → awaited found part ≡ extends first (length (first ∷ others)) part
 unfolding awaited extends
 open_awaits None first others part keeps = absurd keeps
@@ -150,7 +150,7 @@ head_view : (front : List Taken) (last : Taken) → (first : Taken) × (others :
 head_view [] last = (last, [], refl)
 head_view (first ∷ front) last = (first, front ++ last ∷ [], refl)
 
--- The part goes on the open message: the sentences looked at are those kept and it.
+-- The part continues the open message: the sentences considered are the kept ones and the part.
 pub record GoesOn (found : Option Begun) (parts : List Taken) (part : Taken) : Type 0 where
   first : Taken
   others : List Taken
@@ -161,7 +161,7 @@ pub record GoesOn (found : Option Begun) (parts : List Taken) (part : Taken) : T
   awaited_so : awaited found part ≡ true
   run_so : is_run (last_of (number_of_part part) (parts ++ part ∷ [])) ≡ true
 
--- The part goes on nothing.
+-- The part continues nothing.
 pub record GoesOff (found : Option Begun) (parts : List Taken) (part : Taken) : Type 0 where
   awaited_not : awaited found part ≡ false
   run_not : is_run (last_of (number_of_part part) (parts ++ part ∷ [])) ≡ false
@@ -205,7 +205,7 @@ module _ (front : List Taken) (last : Taken) where
   unfolding open_parts
   open_is = ap (option_and_then (open_behind before)) (last_element front last)
 
-  -- the sentences looked at, where the part's number is j + 2
+  -- the sentences considered, if the part's number is j + 2
   looked_at : (part : Taken) (j : ℕ) → number_of_part part ≡ suc (suc j) → last_of (number_of_part part) (before ++ part ∷ []) ≡ (last_of j front ++ last ∷ []) ++ part ∷ []
   looked_at part j e =
       ap (λ (n : ℕ). last_of n (before ++ part ∷ [])) e
@@ -308,12 +308,12 @@ goes found parts part keeps two within = by_parts (snoc_view parts)
 
 -- ---- one step, for the sentences of one key
 
--- The step comes to what the last sentences come to, and keeps what is open behind it.
+-- The step results in what the last sentences result in, and keeps the open messages after it.
 pub record Steps (found : Option Begun) (parts : List Taken) (part : Taken) : Type 0 where
   pub joined : joined_by found part ≡ joined_run part (last_of (number_of_part part) (parts ++ part ∷ []))
   pub keeps : KeepsOpen (run_by found part) (open_parts (parts ++ part ∷ []))
 
--- what is open behind a part, by the two tests
+-- what is open after a part, by the two tests
 open_when : (parts : List Taken) (part : Taken) (r b : Bool) → is_run (last_of (number_of_part part) (parts ++ part ∷ [])) ≡ r → nat_lt (number_of_part part) (total_of part) ≡ b
     → open_parts (parts ++ part ∷ []) ≡ (if r && b then Some (last_of (number_of_part part) (parts ++ part ∷ [])) else None)
 open_when parts part r b p q = open_is parts part ∙ rw (p, q) refl
@@ -345,7 +345,7 @@ step_first found parts part one more =
       keeps = rw (first_run found part first, open_when parts part true true run below, looked) kept;
     }
 
--- a part that goes on nothing
+-- a part that continues nothing
 off_joined : (found : Option Begun) (part : Taken) → (number_of_part part == 1) ≡ false → awaited found part ≡ false → joined_by found part ≡ Orphan
 unfolding awaited
 off_joined None part e w = cond-false _ Waiting Orphan e
@@ -363,7 +363,7 @@ step_off found parts part two off =
       keeps = subst (KeepsOpen (run_by found part)) (sym (open_when parts part false (nat_lt (number_of_part part) (total_of part)) off.run_not refl)) (off_keeps found part other off.awaited_not);
     }
 
--- a part that goes on the open message
+-- a part that continues the open message
 joined_more : (first : Taken) (others : List Taken) (part : Taken) → joined_bits (first ∷ (others ++ part ∷ [])) ≡ joined_bits (first ∷ others) ++ part_bits part
 joined_more first others part =
     flat_map-append part_bits (first ∷ others) (part ∷ []) ∙ ap (λ (bits : List Bool). joined_bits (first ∷ others) ++ bits) (append-nil (part_bits part))

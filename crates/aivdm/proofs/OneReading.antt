@@ -88,7 +88,7 @@ none_apply cs line none = All-from_recursion (λ earlier. ¬ (Applies earlier li
     by_recursion [] none = tt
     by_recursion (c ∷ cs) none = (none.0, by_recursion cs none.1)
 
--- the causes up to some one, of which that one applies first
+-- the first cause that applies, if none before it does
 first_at : (before after : List LineCause) (c : LineCause) (line : List ℕ) → causes ≡ before ++ c ∷ after → NoneApply before line → Applies c line → IsFirstCause c line
 first_at before after c line place none applies =
     record { before = before; after = after; place = place; none = none_apply before line none; applies = applies }

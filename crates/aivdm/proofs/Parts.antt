@@ -23,7 +23,7 @@ module _ (test : ℕ → Bool) (xs : List ℕ) where
   pub position-fails : None ≡ position test xs → All (λ x. test x ≡ false) xs
   position-fails e k d below = let past = position-none e in fails_before_first test xs k d (omega arith)
 
-  -- the first part, and those behind it
+  -- the first part, and those after it
   pub split-some : (at : ℕ) → Some at ≡ position test xs → slice_split test xs ≡ take at xs ∷ slice_split test (take (length xs - (at + 1)) (drop (at + 1) xs))
   split-some at e =
       let place = position-some at e in

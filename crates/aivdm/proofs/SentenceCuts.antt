@@ -421,7 +421,7 @@ text_cut t told form tells =
     ∙ bind_at (end_at (after_byte 44 payload_text)) (with_end count seq.0 channel.0 (before_byte 44 payload_text)) end end_is
     ∙ rw (payload_is, some, map_same (slice_get t.channel 0)) refl
 
--- ---- the tests behind the form
+-- ---- the tests after the form
 
 pub summed_is : (t : SentenceText) → summed_in (sentence_text t) (length t.suffix) ≡ summed t
 summed_is t =

@@ -23,7 +23,7 @@ letter_channel : (channel : List ℕ) → IsOptional is_ascii_alphanumeric chann
 letter_channel [] form = tt
 letter_channel (letter ∷ channel) form = form.each 0 0 (omega arith)
 
--- what stands before the payload, and behind it
+-- what precedes the payload, and what follows it
 front_of : SentenceText → List ℕ
 front_of t = 33 ∷ t.talker ++ 86 ∷ 68 ∷ t.kind ∷ 44 ∷ t.total ∷ 44 ∷ t.number ∷ 44 ∷ (t.seq ++ 44 ∷ (t.channel ++ 44 ∷ []))
 

@@ -110,7 +110,7 @@ put_other key other new (run ∷ runs) apart h = by_run (has_key key run) refl (
         ap (find (has_key other)) (cond-false (has_key key run) (new ∷ runs) (run ∷ put key new runs) e)
         ∙ ap (cond (has_key other run) (Some run)) later
 
--- the message behind a part has the part's key
+-- the message after a part has the part's key
 run_on_key : (key : SentenceFields) (run : Begun) (part : Taken) → has_key key (run_on run part) ≡ has_key key run
 run_on_key key run part = by_tests (awaits run part) (nat_lt (number_of_part part) (total_of part)) refl refl
   where

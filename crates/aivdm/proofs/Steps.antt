@@ -1,4 +1,4 @@
--- Steps of which each may fail, one after another, and what holds of an answer.
+-- Steps in sequence that may each fail, and what holds of the result.
 use Rattle.std.proofs.Common.{◌≡◌, Bool, true, false, ◌⊎◌, inl, inr, ℕ, Option, Some, None, Result, Ok, Err, IfOk, OnOk, if◌then◌else◌, refl}
 use Rattle.aivdm.specs.Inner.LineCuts.{◌>>=◌, told_or}
 use Rattle.aivdm.specs.declared.sentence.LineCause.{LineCause}

@@ -1,4 +1,4 @@
--- The exclusive or of bytes, taken over lanes in place of one byte after another: the order of the bytes does not matter.
+-- The exclusive or of bytes, taken over lanes instead of byte by byte: the order of the bytes does not matter.
 use Rattle.std.proofs.Common.{◌≡◌, ℕ, zero, suc, ◌+◌, ◌-◌, ◌*◌, ◌≤◌, Bool, true, false, List, [], ◌∷◌, ◌++◌, map, length, take, drop, replicate, fold, bit_xor, refl, sym, ap, ◌∙◌, arith, cond, length-drop}
 use Rattle.std.proofs.lemmas.Bool.Decides.{nat_tests}
 use Rattle.std.proofs.lemmas.List.Sums.{fold-append}
@@ -67,7 +67,7 @@ length-blocks n (suc k) sum xs long room =
     let next = length-zip2 bit_xor sum (take n xs) (omega arith) in
     length-blocks n k (zip2 bit_xor sum (take n xs)) (drop n xs) (omega arith) (omega (arith, length-drop n xs))
 
--- the lanes from place `from` on, and 0 in place of those before it
+-- the lanes from place `from` on, and 0 instead of those before it
 abbrev lanes_at : ℕ → ℕ → ℕ → List ℕ → List ℕ
 lanes_at from a n xs = sel_l (map (top 7) (zip2 (λ (p q : ℕ). cond (leb q p) 255 0) (range_with_len a n) (replicate n from))) xs (replicate n 0)
 

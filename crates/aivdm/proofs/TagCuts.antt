@@ -25,7 +25,7 @@ use Rattle.aivdm.proofs.Steps.{bind_ok, bind_at, bind_fails, if_ok, FailsBy, Fai
 abbrev FieldBytes : List ℕ → Type 0
 FieldBytes bytes = AllByRecursion (λ byte. IsTrue (is_field_byte byte)) bytes
 
--- the bytes of the parts at commas, where the bytes of the whole are commas or bytes of a field
+-- the bytes of the parts at commas, if the bytes of the whole are commas or bytes of a field
 parts_bytes : (bytes : List ℕ) → Lacks 42 bytes → Lacks 92 bytes → AllByRecursion FieldBytes (slice_split (λ byte. byte == 44) bytes)
 parts_bytes [] star slash = (tt, tt)
 parts_bytes (byte ∷ bytes) star slash =
@@ -74,7 +74,7 @@ split_joined field (next ∷ fields) all =
 
 -- ---- the time of a field
 
--- the time that a field tells, where it is of its form
+-- the time in a field, if it is well formed
 abbrev pub told_time : List ℕ → Option ℕ
 told_time field = if tells_time field then Some (seconds_of (digits_value 10 (drop 2 field))) else None
 
@@ -164,7 +164,7 @@ first_of_none : (time : Option ℕ) → first_time time None ≡ time
 first_of_none None = refl
 first_of_none (Some time) = refl
 
--- what the first of some fields tells, before what the others tell
+-- the time in the first field comes before the times in the others
 stamp_cons : (field : List ℕ) (fields : List (List ℕ)) → block_stamp (field ∷ fields) ≡ first_time (told_time field) (block_stamp fields)
 stamp_cons field fields = by_test (tells_time field) refl
   where
@@ -244,7 +244,7 @@ unfolding block_end
 end_block_again high low told rest tells =
     bind_at (told_or Tag (hexadecimal high low)) (λ told. Ok (told, rest)) told (ap (told_or Tag) tells)
 
--- the stamp behind the end of a block
+-- the stamp after the end of a block
 with_stamp : List ℕ → ℕ × List ℕ → Result (Option ℕ × List ℕ) LineCause
 with_stamp content end = if end.0 == sum_of content then (stamp_in content >>= λ stamp. Ok (stamp, end.1)) else Err Tag
 
@@ -280,7 +280,7 @@ slashed_stamp content found =
     cond-false _ (stamp_among None (slice_split (λ byte. byte == 44) content)) (Err Tag)
     (list_all-fails (λ byte. not (byte == 92)) content (position_or_len (λ byte. byte == 92) content) place.1 (rw here refl))
 
--- one field more, which stops the reading, or tells a time
+-- one field more, which stops the reading or has a time
 pub stamp_stops : (s : Option ℕ) (field : List ℕ) (fields : List (List ℕ)) (c : LineCause) → time_in field ≡ Err c → stamp_among s (field ∷ fields) ≡ Err c
 stamp_stops s field fields c e = bind_fails (time_in field) (λ time. stamp_among (first_time s time) fields) c e
 

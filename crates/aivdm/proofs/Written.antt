@@ -40,7 +40,7 @@ unfolding payload_of
 payload_none [] none = refl
 payload_none (a ∷ bits) none = absurd (omega arith)
 
--- fewer than six bits, with zeros behind them
+-- fewer than six bits, followed by zeros
 pub raised_below : (number rest : ℕ) → number < 2 ^ rest → rest ≤ 6 → number * 2 ^ (6 - rest) < 64
 raised_below number rest small few =
     let six : rest + (6 - rest) ≡ 6 = omega arith in

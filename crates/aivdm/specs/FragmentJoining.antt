@@ -26,7 +26,7 @@ have_one_key a b = option_eq nat_eq a.seq b.seq && option_eq nat_eq a.channel b.
 abbrev pub of_key : SentenceFields → List Taken → List Taken
 of_key sentence taken = filter (λ part. nat_lt 1 (total_of part) && have_one_key sentence part.sentence) taken
 
--- the last elements of a list, so many
+-- this many of the last elements of a list
 abbrev pub last_of : {X : Type 0} → ℕ → List X → List X
 last_of k xs = drop (length xs - k) xs
 
@@ -46,13 +46,13 @@ part_bits part = bits_of part.sentence.payload part.sentence.fill
 abbrev pub joined_bits : List Taken → List Bool
 joined_bits parts = flat_map part_bits parts
 
--- what the last of the sentences of a key comes to, by the run that it ends
+-- what the last of the sentences of a key results in, by the run that it ends
 unfoldable pub joined_run : Taken → List Taken → Joined
 joined_run last parts =
     if is_run parts then (if number_of_part last == total_of last then Message (joined_bits parts) else Waiting) else Orphan
 
--- What a sentence comes to, after those that were taken before it: one of total 1 is a message by itself. Of another of number k,
--- the last k of its key, itself included, are looked at.
+-- What a sentence results in, after those taken before it: one of total 1 is a message by itself. For another, of number k,
+-- the last k sentences of its key count, itself included.
 unfoldable pub joined_of : List Taken → Taken → Joined
 joined_of before last =
     if total_of last == 1 then Message (part_bits last)

@@ -26,12 +26,12 @@ pub record SentenceText : Type 0 where
   pub low : ℕ
   pub suffix : List ℕ
 
--- the bytes strictly between `!` and the `*` behind the fill, over which the sum goes: 86 and 68 are `VD`, 44 is a comma
+-- the bytes strictly between `!` and the `*` after the fill, over which the sum goes: 86 and 68 are `VD`, 44 is a comma
 abbrev pub summed : SentenceText → List ℕ
 summed t = join_with_byte 44
     ((t.talker ++ 86 ∷ 68 ∷ t.kind ∷ []) ∷ (t.total ∷ []) ∷ (t.number ∷ []) ∷ t.seq ∷ t.channel ∷ t.payload ∷ (t.fill ∷ []) ∷ [])
 
--- from `!` (33) on; behind `*` (42) stand the digits of the sum, and what may follow them
+-- from `!` (33) on; the digits of the sum follow `*` (42), and then what may come after them
 abbrev pub sentence_text : SentenceText → List ℕ
 sentence_text t = 33 ∷ summed t ++ 42 ∷ t.high ∷ t.low ∷ t.suffix
 
@@ -68,7 +68,7 @@ pub record HasForm (t : SentenceText) : Type 0 where
   pub sum_digits : IsSome (hexadecimal t.high t.low)
   pub suffix : IsSuffix t.suffix
 
--- The sum that the sentence tells is its own.
+-- The checksum in the sentence is correct.
 abbrev pub HasSum : SentenceText → Type 0
 HasSum t = hexadecimal t.high t.low ≡ Some (sum_of (summed t))
 
@@ -94,7 +94,7 @@ abbrev pub BeginsAsSentence : List ℕ → Type 0
 BeginsAsSentence rest =
     (talker : List ℕ) × (kind : ℕ) × (more : List ℕ) × IsAddress talker kind × (rest ≡ 33 ∷ talker ++ 86 ∷ 68 ∷ kind ∷ 44 ∷ more)
 
--- what each cause says of a line; from `tag` on it says which splits of the line there are none of
+-- what each cause says of a line; from `tag` on it says which splits of the line do not exist
 abbrev pub Applies : LineCause → List ℕ → Type 0
 Applies Empty line = line ≡ []
 Applies Long line = 1024 < length line
@@ -128,7 +128,7 @@ KeepsStamp Armour line stamp = (rest : List ℕ) × IsTagged line stamp rest
 
 -- ---- the reading
 
--- The line is this sentence, behind a tag block with this stamp, or none.
+-- The line is this sentence, after a tag block with this stamp, or none.
 pub record IsSentenceLine (line : List ℕ) (stamp : Option ℕ) (t : SentenceText) : Type 0 where
   pub short : length line ≤ 1024
   pub tagged : IsTagged line stamp (sentence_text t)

@@ -6,7 +6,7 @@ use Rattle.aivdm.specs.BitFields.{binary}
 abbrev pub is_armour : ℕ → Bool
 is_armour byte = (nat_le 48 byte && nat_le byte 87) || (nat_le 96 byte && nat_le byte 119)
 
--- the six bits as a number: the byte less 48, and less 8 more where that exceeds 40
+-- the six bits as a number: the byte less 48, and less 8 more if that exceeds 40
 abbrev pub six_bits : ℕ → ℕ
 six_bits byte = let value = byte - 48 in if nat_lt 40 value then value - 8 else value
 

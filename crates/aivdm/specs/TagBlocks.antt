@@ -10,7 +10,7 @@ use Rattle.aivdm.specs.Checksums.{sum_of, hexadecimal}
 abbrev pub is_field_byte : ℕ → Bool
 is_field_byte byte = not (byte == 44) && not (byte == 42) && not (byte == 92)
 
--- The field begins with `c:`, so it tells a time.
+-- The field begins with `c:`, so it holds a time.
 abbrev pub tells_time : List ℕ → Bool
 tells_time field = starts_with nat_eq field (codes "c:")
 
@@ -20,7 +20,7 @@ pub record AreTimeDigits (digits : List ℕ) : Type 0 where
   pub few : length digits ≤ 15
   pub decimal : All (λ byte. IsTrue (is_ascii_digit byte)) digits
 
--- one or more bytes; behind `c:` stand digits
+-- one or more bytes; after `c:` stand digits
 pub record IsTagField (field : List ℕ) : Type 0 where
   pub some : 1 ≤ length field
   pub bytes : All (λ byte. IsTrue (is_field_byte byte)) field
@@ -30,7 +30,7 @@ pub record IsTagField (field : List ℕ) : Type 0 where
 abbrev pub seconds_of : ℕ → ℕ
 seconds_of time = if nat_lt time 100_000_000_000 then time else time / 1000
 
--- the time in the first of the fields that tell one
+-- the time in the first of the fields that hold one
 abbrev pub block_stamp : List (List ℕ) → Option ℕ
 block_stamp fields = option_map (λ field. seconds_of (digits_value 10 (drop 2 field))) (find tells_time fields)
 

@@ -98,7 +98,8 @@ fn put_sextets(room: &mut [u8], payload: &[u8], at: usize)
     requires payload { at + 16 ≤ length payload.now }
     requires room { at + 16 ≤ length room.old }
     requires armoured { All (λ byte. IsTrue (is_armour byte)) payload.now }
-    ensures put { take (at + 16) room.new ≡ take at room.old ++ map six_bits (take 16 (drop at payload.now)) }
+    ensures put { take (at + 16) room.new
+        ≡ take at room.old ++ map six_bits (take 16 (drop at payload.now)) }
     ensures len { length room.new ≡ length room.old }
 {
     let bytes = u8x16::from_slice(&payload[at..]);

@@ -59,7 +59,7 @@ impl Bits {
         }
     }
 
-    /// Appends the `width` lowest bits of `value`, the highest first. Where there is no memory, the bits stay as they were; up to
+    /// Appends the `width` lowest bits of `value`, the highest first. If memory runs out, the bits are unchanged; up to
     /// 432 bits take none.
     pub fn append(&mut self, value: u32, width: u32) -> Result<(), Memory>
         requires some { 1 ≤ width }
@@ -81,7 +81,7 @@ impl Bits {
         Ok(())
     }
 
-    /// Appends the bits of a payload without the last `fill` ones. Where there is no memory, the bits stay as they were.
+    /// Appends the bits of a payload without the last `fill` ones. If memory runs out, the bits are unchanged.
     pub(crate) fn append_payload(&mut self, payload: &[u8], fill: u8) -> Result<(), Memory>
         requires some { 1 ≤ length payload.now }
         requires short { length payload.now ≤ 1024 }
@@ -149,7 +149,7 @@ impl Bits {
     }
 }
 
-/// Puts in place of each byte of a payload the six bits that it stands for.
+/// Replaces each byte of a payload by its six bits.
 #[inline(always)]
 pub(crate) fn dearmour(payload: &mut [u8])
     requires { All (λ byte. IsTrue (is_armour byte)) payload.old }
@@ -184,14 +184,15 @@ fn grown(len: usize, more: usize) -> Option<usize>
     }
 }
 
-/// Appends the lowest bits of a number behind the first `len` bits.
+/// Appends the lowest bits of a number after the first `len` bits.
 fn append_bits(sextets: &mut SmallVec<u8, 72>, len: usize, value: u64, width: u32)
     requires some { 1 ≤ width }
     requires most { width ≤ 32 }
     requires fits { value < 2 ^ width }
     requires sextets { AreSextets sextets.old.items len }
     requires room { (len + width + 5) / 6 ≤ sextets.old.capacity }
-    ensures bits { take (len + width) (bits_in sextets.new.items) ≡ take len (bits_in sextets.old.items) ++ binary width value }
+    ensures bits { take (len + width) (bits_in sextets.new.items)
+        ≡ take len (bits_in sextets.old.items) ++ binary width value }
     ensures sextets { AreSextets sextets.new.items (len + width) }
     ensures capacity { sextets.new.capacity ≡ sextets.old.capacity }
 {
@@ -202,11 +203,12 @@ fn append_bits(sextets: &mut SmallVec<u8, 72>, len: usize, value: u64, width: u3
     push_sextets(sextets, number << (6 * count - kept - width), count);
 }
 
-/// Takes off the last sextet where not all of it counts, and gives the number in the bits of it that do.
+/// Takes off the last sextet if not all of it counts, and gives the number in the bits of it that do.
 fn pop_kept(sextets: &mut SmallVec<u8, 72>, len: usize, kept: u32) -> u64
     requires sextets { AreSextets sextets.old.items len }
     requires kept { kept ≡ len % 6 }
-    ensures bits { take len (bits_in sextets.old.items) ≡ bits_in sextets.new.items ++ binary kept result }
+    ensures bits { take len (bits_in sextets.old.items)
+        ≡ bits_in sextets.new.items ++ binary kept result }
     ensures bound { result < 2 ^ kept }
     ensures len { 6 * length sextets.new.items + kept ≡ len }
     ensures six { All (λ sextet. sextet < 64) sextets.new.items }
@@ -219,7 +221,7 @@ fn pop_kept(sextets: &mut SmallVec<u8, 72>, len: usize, kept: u32) -> u64
     u64::from(last >> (6 - kept))
 }
 
-/// Appends the lowest 6 bits for each of so many elements of a number.
+/// Appends the lowest 6 bits for each of this many elements of a number.
 fn push_sextets(sextets: &mut SmallVec<u8, 72>, number: u64, count: u32)
     requires few { count ≤ 7 }
     requires room { HasRoomFor sextets.old count }
@@ -233,7 +235,7 @@ fn push_sextets(sextets: &mut SmallVec<u8, 72>, number: u64, count: u32)
     }
 }
 
-/// Appends the bits of a payload behind the first `len` bits.
+/// Appends the bits of a payload after the first `len` bits.
 fn append_sextets(sextets: &mut SmallVec<u8, 72>, len: usize, payload: &[u8])
     requires armoured { All (λ byte. IsTrue (is_armour byte)) payload.now }
     requires sextets { AreSextets sextets.old.items len }

@@ -1,4 +1,4 @@
-//! The sum that a sentence and a tag block tell of themselves.
+//! The checksum that a sentence and a tag block carry.
 ghost use Rattle.std.specs.Prelude.{◌≡◌, ◌<◌, ◌≤◌, ◌*◌, ◌/◌, bit_xor, drop, fold, length, replicate, if◌then◌else◌};
 ghost use Rattle.std.specs.Char.{digit_value, is_digit};
 ghost use Rattle.std.specs.Simd.{first_chunks};
@@ -7,8 +7,8 @@ ghost use Rattle.aivdm.specs.Checksums.{hexadecimal, sum_of};
 
 use std::simd::prelude::*;
 
-/// The exclusive or of the bytes: 16 at a time, and those behind the last whole block in one more vector. A loop over single bytes there has an end
-/// that is guessed wrong.
+/// The exclusive or of the bytes: 16 at a time, and the rest after the last whole block in one more vector. A loop over single bytes there would
+/// have its end mispredicted.
 #[inline(always)]
 pub(crate) fn sum_of(bytes: &[u8]) -> u8
     ensures { result ≡ sum_of bytes.now }
@@ -22,7 +22,8 @@ pub(crate) fn sum_of(bytes: &[u8]) -> u8
 /// The exclusive or of the whole blocks of 16 bytes, lane by lane.
 #[inline(always)]
 fn sum_of_blocks(bytes: &[u8]) -> u8x16
-    ensures { result ≡ fold (zip2 bit_xor) (replicate 16 0) (first_chunks 16 (length bytes.now / 16) bytes.now) }
+    ensures { result ≡ fold (zip2 bit_xor) (replicate 16 0)
+        (first_chunks 16 (length bytes.now / 16) bytes.now) }
 {
     let (blocks, _) = bytes.as_chunks::<16>();
     let mut sum = u8x16::splat(0);
@@ -35,8 +36,8 @@ fn sum_of_blocks(bytes: &[u8]) -> u8x16
 /// The place of each lane.
 const PLACES: [u8; 16] = [0, 1, 2, 3, 4, 5, 6, 7, 8, 9, 10, 11, 12, 13, 14, 15];
 
-/// The bytes behind the last whole block, each in a lane, and 0 in the other lanes. The last 16 bytes are loaded whole, so that nothing depends on
-/// how many there are, and those that a block holds are then left out: a byte that counts twice would cancel itself.
+/// The bytes after the last whole block, each in a lane, and 0 in the other lanes. The last 16 bytes are loaded whole, whatever the number of
+/// bytes left, and those that a block holds are then dropped: a byte that counts twice would cancel itself.
 #[inline(always)]
 fn behind_blocks(bytes: &[u8]) -> u8x16
     requires { 16 ≤ length bytes.now }
@@ -69,7 +70,7 @@ fn digit(byte: u8) -> u8
     VALUES[usize::from(byte)]
 }
 
-/// The value of each byte as a hexadecimal digit of either case, and 16 where it is none.
+/// The value of each byte as a hexadecimal digit of either case, and 16 if it is none.
 static VALUES: [u8; 256] = [
     16, 16, 16, 16, 16, 16, 16, 16, 16, 16, 16, 16, 16, 16, 16, 16, 16, 16, 16, 16, 16, 16, 16, 16,
     16, 16, 16, 16, 16, 16, 16, 16, 16, 16, 16, 16, 16, 16, 16, 16, 16, 16, 16, 16, 16, 16, 16, 16,

@@ -7,7 +7,7 @@ use crate::checksum::hexadecimal;
 use crate::search::cut;
 use crate::sentence::{LineCause, Sentence};
 
-/// A sentence's fields, the sum that it tells, and what stands behind the sum.
+/// A sentence's fields, its checksum, and what follows the checksum.
 #[derive(Clone, Copy)]
 pub(crate) struct Fields<'a> {
     pub(crate) sentence: Sentence<'a>,
@@ -47,7 +47,7 @@ fn behind_kind(bytes: &[u8]) -> Result<&[u8], LineCause>
     }
 }
 
-/// Reads the fields behind the address.
+/// Reads the fields after the address.
 #[inline(always)]
 #[tactic(auto, unfolding(crate::specs::Inner::LineCuts::cut_at))]
 pub(crate) fn read_fields(bytes: &[u8]) -> Result<Fields<'_>, LineCause>
@@ -119,7 +119,7 @@ fn read_letter(bytes: &[u8]) -> Result<(Option<u8>, &[u8]), LineCause>
     }
 }
 
-/// The fill, the sum that is told, and what stands behind it.
+/// The fill, the checksum, and what follows it.
 #[inline(always)]
 #[tactic(auto, unfolding(crate::specs::Inner::LineCuts::end_at))]
 fn read_end(bytes: &[u8]) -> Result<(u8, u8, &[u8]), LineCause>

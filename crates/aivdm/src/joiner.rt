@@ -1,7 +1,7 @@
 //! From sentences to messages.
 //!
-//! A message of several sentences is joined by the sequential identifier and the channel of its sentences. Of each such key
-//! at most one message is open: the parts 1 to k that came last. A sentence that does not continue it closes it.
+//! A message of several sentences is joined by the sequential identifier and the channel of its sentences. For each such
+//! key at most one message is open: the parts 1 to k that came last. A sentence that does not continue it closes it.
 ghost use Rattle.std.specs.Prelude.{◌≡◌, ◌≤◌, ◌++◌, ◌∷◌, [], List, length, position, IfOk, IsOk, OnOk, OnErr};
 ghost use Rattle.std.specs.Prelude.{Ok, Err, ◌==◌};
 ghost use Rattle.aivdm.specs.FragmentJoining.{joined_of, Taken};
@@ -37,7 +37,7 @@ pub(crate) struct Begun {
     seq: Option<u8>,
     channel: Option<u8>,
     total: u8,
-    /// How many parts came. 0 where the message is closed.
+    /// How many parts came. 0 if the message is closed.
     count: u8,
     /// When the first part came, in seconds.
     since: u64,
@@ -74,20 +74,26 @@ impl Joiner {
 
     /// Takes the next sentence, received at `time`, in seconds since the Unix epoch.
     ///
-    /// A sentence of total 1 is a message by itself; up to 72 bytes of its payload take no memory. Where there is no memory
+    /// A sentence of total 1 is a message by itself; up to 72 bytes of its payload take no memory. If there is no memory
     /// for a sentence, the joiner stays as it was.
     #[inline]
     pub fn take(&mut self, sentence: &Sentence<'_>, time: u64) -> Result<Joined, Memory>
         requires sentence { IsSentence (fields_seen sentence.now) }
-        ensures joined { IfOk result (λ joined. (taken : List Taken) → StandsFor self.old taken
-            → joined ≡ joined_of taken (record { sentence = fields_seen sentence.now; time = time })) }
-        ensures stands { OnOk result ((taken : List Taken) → StandsFor self.old taken
-            → StandsFor self.new (taken ++ record { sentence = fields_seen sentence.now; time = time } ∷ [])) }
+        ensures joined { IfOk result
+            (λ joined. (taken : List Taken) → StandsFor self.old taken
+            → joined ≡ joined_of taken
+            (record { sentence = fields_seen sentence.now; time = time })) }
+        ensures stands { OnOk result
+            ((taken : List Taken) → StandsFor self.old taken
+            → StandsFor self.new
+            (taken ++ record { sentence = fields_seen sentence.now; time = time } ∷ [])) }
         ensures single { sentence.now.total ≡ 1
-            → IfOk result (λ joined. joined ≡ Joined.Message (bits_of sentence.now.payload.now sentence.now.fill)) }
+            → IfOk result (λ joined. joined
+            ≡ Joined.Message (bits_of sentence.now.payload.now sentence.now.fill)) }
         ensures memory { OnErr result (self.new ≡ self.old) }
         ensures alone { sentence.now.total ≡ 1 → self.new ≡ self.old }
-        ensures inline { sentence.now.total ≡ 1 → length sentence.now.payload.now ≤ 72 → IsOk result }
+        ensures inline { sentence.now.total ≡ 1 → length sentence.now.payload.now ≤ 72
+            → IsOk result }
     {
         if sentence.total == 1 {
             return Ok(Joined::Message(whole(self.alloc, sentence)?));
@@ -116,10 +122,12 @@ impl Begun {
         self.seq == sentence.seq && self.channel == sentence.channel
     }
 
-    /// A message of which this is the first part.
+    /// A message that this part begins.
     fn new(alloc: Global, sentence: &Sentence<'_>, time: u64) -> Result<Begun, Memory>
         requires sentence { IsSentence (fields_seen sentence.now) }
-        ensures { IfOk result (λ begun. begun ≡ begun_by (record { sentence = fields_seen sentence.now; time = time })) }
+        ensures { IfOk result
+            (λ begun. begun ≡ begun_by
+            (record { sentence = fields_seen sentence.now; time = time })) }
     {
         let bits = whole(alloc, sentence)?;
         Ok(Begun {
@@ -134,7 +142,8 @@ impl Begun {
 
     /// Whether a sentence of its key is its next part, in time.
     fn awaits(&self, sentence: &Sentence<'_>, time: u64) -> bool
-        ensures { result ≡ awaits self.now (record { sentence = fields_seen sentence.now; time = time }) }
+        ensures { result ≡ awaits self.now
+            (record { sentence = fields_seen sentence.now; time = time }) }
     {
         self.total == sentence.total
             && self.count < sentence.number
@@ -145,8 +154,12 @@ impl Begun {
     /// Takes a sentence of its key that is not a first part.
     fn go_on(&mut self, alloc: Global, sentence: &Sentence<'_>, time: u64) -> Result<Joined, Memory>
         requires sentence { IsSentence (fields_seen sentence.now) }
-        ensures joined { IfOk result (λ joined. joined ≡ joined_on self.old (record { sentence = fields_seen sentence.now; time = time })) }
-        ensures run { OnOk result (self.new ≡ run_on self.old (record { sentence = fields_seen sentence.now; time = time })) }
+        ensures joined { IfOk result
+            (λ joined. joined
+            ≡ joined_on self.old (record { sentence = fields_seen sentence.now; time = time })) }
+        ensures run { OnOk result
+            (self.new ≡ run_on self.old
+            (record { sentence = fields_seen sentence.now; time = time })) }
         ensures err { OnErr result (self.new ≡ self.old) }
     {
         if !self.awaits(sentence, time) {
@@ -179,8 +192,13 @@ fn join(
     time: u64,
 ) -> Result<Joined, Memory>
     requires sentence { IsSentence (fields_seen sentence.now) }
-    ensures joined { IfOk result (λ joined. joined ≡ joined_next begun.old.items (record { sentence = fields_seen sentence.now; time = time })) }
-    ensures runs { OnOk result (begun.new.items ≡ runs_next begun.old.items (record { sentence = fields_seen sentence.now; time = time })) }
+    ensures joined { IfOk result
+        (λ joined. joined
+        ≡ joined_next begun.old.items
+        (record { sentence = fields_seen sentence.now; time = time })) }
+    ensures runs { OnOk result
+        (begun.new.items ≡ runs_next begun.old.items
+        (record { sentence = fields_seen sentence.now; time = time })) }
     ensures err { OnErr result (begun.new.items ≡ begun.old.items) }
 {
     let place = place_of(begun.as_slice(), sentence);
@@ -195,7 +213,7 @@ fn join(
     }
 }
 
-/// Keeps a message in place of the one of the sentence's key, or behind all.
+/// Keeps a message: it replaces the one of the sentence's key, or is added at the end.
 fn keep(
     begun: &mut Vec<Begun>,
     sentence: &Sentence<'_>,
@@ -203,7 +221,8 @@ fn keep(
     first: Begun,
 ) -> Result<(), Memory>
     requires { place ≡ position (has_key (fields_seen sentence.now)) begun.old.items }
-    ensures ok { OnOk result (begun.new.items ≡ put (fields_seen sentence.now) first begun.old.items) }
+    ensures ok { OnOk result
+        (begun.new.items ≡ put (fields_seen sentence.now) first begun.old.items) }
     ensures err { OnErr result (begun.new.items ≡ begun.old.items) }
 {
     if let Some(at) = place {

@@ -1,4 +1,4 @@
-//! Laws of reading and joining, which stand over the definitions alone.
+//! Laws of reading and joining, which follow from the definitions alone.
 ghost use Rattle.std.specs.Prelude.{◌≡◌, ◌<◌, ◌≤◌, ◌++◌, ◌∷◌, [], ℕ, Bool, List, IsTrue};
 ghost use Rattle.aivdm.specs.FragmentJoining.{have_one_key, joined_of, number_of_part, total_of, Taken};
 ghost use Rattle.aivdm.specs.LineReading.{IsReading};
@@ -9,12 +9,15 @@ ghost use Rattle.aivdm.specs.declared.joiner.Joined.TheVariants.{Message, Orphan
 /// Each line, of whatever bytes, has exactly one reading: `reading_of` gives it.
 pub fn one_reading()
     ensures one { (line : List ℕ) → IsReading line (reading_of line) }
-    ensures only { (line : List ℕ) (content : LineContent) → IsReading line content → content ≡ reading_of line }
+    ensures only { (line : List ℕ) (content : LineContent) → IsReading line content
+        → content ≡ reading_of line }
 {}
 
-/// A message of several sentences is closed once it is complete: a later sentence of the key begins anew with number 1.
+/// A message of several sentences is closed once it is complete: a later sentence of the key begins again with number
+/// 1.
 pub fn complete_message_is_closed()
-    ensures { (before : List Taken) (last next : Taken) (bits : List Bool) → 1 < total_of last → joined_of before last ≡ Message bits
-        → IsTrue (have_one_key next.sentence last.sentence) → 2 ≤ number_of_part next → number_of_part next ≤ total_of next
+    ensures { (before : List Taken) (last next : Taken) (bits : List Bool) → 1 < total_of last
+        → joined_of before last ≡ Message bits → IsTrue (have_one_key next.sentence last.sentence)
+        → 2 ≤ number_of_part next → number_of_part next ≤ total_of next
         → joined_of (before ++ last ∷ []) next ≡ Orphan }
 {}

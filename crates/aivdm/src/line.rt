@@ -16,7 +16,7 @@ use crate::tag_block::without_tag;
 const LONGEST_LINE: usize = 1024;
 
 /// Reads a line, without its line end: its tag block (NMEA 0183 4.10), if it has one, and the VDM or VDO sentence
-/// (IEC 61162-1:2010) behind it. The payload is a part of the line. No memory is taken.
+/// (IEC 61162-1:2010) after it. The payload is a part of the line. No memory is taken.
 ///
 /// A line that is no such sentence is dropped for the first cause that applies, in the order of [`LineCause`]. It keeps
 /// the stamp of its tag block, unless it is dropped as empty, as too long, or for the tag block itself.
@@ -61,7 +61,7 @@ fn dropped<'a>(cause: LineCause) -> Reading<'a>
     }
 }
 
-/// What stands behind the tag block.
+/// What stands after the tag block.
 #[inline(always)]
 fn body(bytes: &[u8]) -> Body<'_>
     ensures { body_seen result ≡ sentence_at bytes.now }
@@ -72,7 +72,7 @@ fn body(bytes: &[u8]) -> Body<'_>
     }
 }
 
-/// The sentence behind the tag block.
+/// The sentence after the tag block.
 #[inline(always)]
 #[tactic(auto, unfolding(crate::specs::Inner::LineCuts::sentence_at))]
 fn sentence(bytes: &[u8]) -> Result<Sentence<'_>, LineCause>
@@ -89,7 +89,7 @@ fn sentence(bytes: &[u8]) -> Result<Sentence<'_>, LineCause>
     Ok(fields.sentence)
 }
 
-/// What lies between the first byte of a sentence and the `*`, behind which stand two digits and a suffix of this length.
+/// What lies between the first byte of a sentence and the `*`, after which stand two digits and a suffix of this length.
 #[inline(always)]
 fn summed(bytes: &[u8], suffix: usize) -> &[u8]
     requires { suffix + 4 ≤ length bytes.now }

@@ -35,7 +35,7 @@ fn first_of_eight(byte: u8, bytes: &[u8], at: usize) -> Option<usize>
 }
 
 /// Where the byte first stands. 16 bytes are compared at a time: over single bytes, the searches of a line took most of its time. The last
-/// 16 are compared whole, also where some of them were before, since the end of a loop over single bytes is guessed wrong.
+/// 16 are compared whole, also if some of them were before, since the end of a loop over single bytes is guessed wrong.
 #[inline(always)]
 pub(crate) fn first_of(byte: u8, bytes: &[u8]) -> Option<usize>
     ensures { result ≡ position (λ other. other == byte) bytes.now }
@@ -77,7 +77,7 @@ fn first_of_few(byte: u8, bytes: &[u8]) -> Option<usize>
     }
 }
 
-/// The bytes before the first such byte and those after it: all and none where there is no such byte.
+/// The bytes before the first such byte and those after it: all and none if there is no such byte.
 #[inline(always)]
 pub(crate) fn cut(byte: u8, bytes: &[u8]) -> (&[u8], &[u8])
     ensures before { result.0.now ≡ before_byte byte bytes.now }

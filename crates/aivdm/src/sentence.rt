@@ -18,7 +18,7 @@ pub struct Sentence<'a> {
     pub fill: u8,
 }
 
-/// Why a line is no sentence. Where several causes apply, it is the first in this order.
+/// Why a line is no sentence. If several causes apply, it is the first in this order.
 #[derive(Clone, Copy, Debug, PartialEq, Eq)]
 pub enum LineCause {
     /// There is no byte.

@@ -21,7 +21,7 @@ pub(crate) struct Tagged<'a> {
     pub(crate) rest: &'a [u8],
 }
 
-/// Takes the tag block off a line, where it has one.
+/// Takes the tag block off a line, if it has one.
 #[inline(always)]
 #[tactic(auto, unfolding(crate::specs::Inner::LineCuts::tag_at))]
 pub(crate) fn without_tag(line: &[u8]) -> Result<Tagged<'_>, LineCause>
@@ -36,7 +36,7 @@ pub(crate) fn without_tag(line: &[u8]) -> Result<Tagged<'_>, LineCause>
     }
 }
 
-/// Reads a tag block behind its first backslash.
+/// Reads a tag block after its first backslash.
 #[tactic(auto, unfolding(crate::specs::Inner::LineCuts::block_at))]
 fn read_block(bytes: &[u8]) -> Result<Tagged<'_>, LineCause>
     ensures { tagged_seen result ≡ block_at bytes.now }
@@ -50,7 +50,7 @@ fn read_block(bytes: &[u8]) -> Result<Tagged<'_>, LineCause>
     Ok(Tagged { stamp, rest })
 }
 
-/// The sum behind the `*`, and what follows the second backslash.
+/// The sum after the `*`, and what follows the second backslash.
 #[tactic(auto, unfolding(crate::specs::Inner::LineCuts::block_end))]
 fn read_end(bytes: &[u8]) -> Result<(u8, &[u8]), LineCause>
     ensures { end_seen result ≡ block_end bytes.now }
@@ -93,7 +93,7 @@ fn first_field(fields: &[u8]) -> (&[u8], Option<&[u8]>)
     }
 }
 
-/// The time that a field tells, or none.
+/// The time in a field, or none.
 #[tactic(auto, unfolding(crate::specs::Inner::LineCuts::time_in))]
 fn time_in(field: &[u8]) -> Result<Option<u64>, LineCause>
     ensures { result ≡ time_in field.now }
@@ -136,12 +136,13 @@ const SECONDS_DIGITS: usize = 10;
 /// The number that decimal digits spell.
 fn decimal(digits: &[u8]) -> Option<u64>
     requires { length digits.now ≤ 15 }
-    ensures { result ≡ (if all_ascii_digits digits.now then Some (digits_value 10 digits.now) else None) }
+    ensures { result ≡ (if all_ascii_digits digits.now then Some (digits_value 10 digits.now)
+        else None) }
 {
     if !are_digits(digits) {
         return None;
     }
-    // Where the count is known ahead, the compiler writes the digits out one after the other.
+    // If the count is known ahead, the compiler writes the digits out one after the other.
     if digits.len() == SECONDS_DIGITS {
         Some(spelled(&digits[..SECONDS_DIGITS]))
     } else {

@@ -11,7 +11,7 @@ use crate::checksum::sum_of;
 use out_of_memory::Memory;
 use std::alloc::Global;
 
-/// Writes a message as a line: a tag block with `c:` alone where there is a stamp, in seconds since the Unix epoch, and one
+/// Writes a message as a line: a tag block with `c:` alone if there is a stamp, in seconds since the Unix epoch, and one
 /// `!AIVDM` sentence of total 1 without sequential identifier. Hexadecimal digits are capitals, fill bits are zero, and there is no
 /// line end.
 pub fn write_sentence(
@@ -63,7 +63,7 @@ fn tag_block(alloc: Global, stamp: Option<u64>) -> Result<Vec<u8>, Memory>
     Ok(tag)
 }
 
-/// The field that tells a time.
+/// The field that holds a time.
 fn time_field(alloc: Global, time: u64) -> Result<String, Memory>
     ensures { IfOk result (λ field. string_bytes field ≡ codes "c:" ++ decimal time) }
 {
@@ -75,7 +75,9 @@ fn time_field(alloc: Global, time: u64) -> Result<String, Memory>
 
 /// What stands between `!` and `*`.
 fn sentence_content(alloc: Global, bits: &Bits, channel: u8) -> Result<Vec<u8>, Memory>
-    ensures { IfOk result (λ content. content.items ≡ sentence_content channel (payload_of bits.now) (fill_of bits.now)) }
+    ensures { IfOk result
+        (λ content. content.items
+        ≡ sentence_content channel (payload_of bits.now) (fill_of bits.now)) }
 {
     let mut content = Vec::new(alloc);
     push(&mut content, b"AIVDM,1,1,,")?;

@@ -72,7 +72,7 @@ abbrev pub plan_fields : ℕ → ℕ → ℕ → ℕ → ℕ → ℕ → Fields
 plan_fields number leg course speed first last =
     codes "plan" ∷ decimal number ∷ decimal leg ∷ decimal course ∷ decimal speed ∷ decimal first ∷ decimal last ∷ []
 
--- how many plans there are, all of which fail
+-- how many plans there are, if every plan fails
 abbrev pub no_plan_fields : ℕ → Fields
 no_plan_fields plans = codes "none" ∷ decimal plans ∷ [] ∷ [] ∷ [] ∷ [] ∷ [] ∷ []
 

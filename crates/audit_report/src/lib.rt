@@ -4,7 +4,7 @@
 //! behind each row. [`ReportText`] takes rows one after the other and holds the text of all; [`row_bytes`] gives that of one.
 //!
 //! That rule `r14a` is broken by 200000001 towards 200000002 at step 23 alone is the row `verdict,200000001,200000002,r14a,broken,23,23`.
-//! When a row is written has no place here.
+//! Out of scope: when a row is written.
 #![tactic(auto)]
 
 mod report_row;

@@ -6,7 +6,7 @@ use log_lines::LineOutcome;
 use meetings::Pair;
 use sectors::Class;
 
-/// One row of a report. Names are borrowed from whoever keeps them. Distances are in 0.1 mm, times in seconds since the Unix epoch,
+/// One row of a report. Names are borrowed from their owner. Distances are in 0.1 mm, times in seconds since the Unix epoch,
 /// speeds in 1/10 knot, courses in 1/10 degree.
 #[derive(Clone, Copy)]
 pub enum ReportRow<'a> {
@@ -37,7 +37,7 @@ pub enum ReportRow<'a> {
         first: u32,
         last: u32,
     },
-    /// A breach of a rule, told at the first step that decides it.
+    /// A breach of a rule, reported at the first step that decides it.
     Alarm {
         pair: Pair,
         /// The rule's name.
@@ -47,26 +47,26 @@ pub enum ReportRow<'a> {
         /// The step that decides it.
         decided: u32,
     },
-    /// A vessel that was heard of.
+    /// A vessel that is held.
     Vessel {
         mmsi: u32,
         name: Option<&'a Text20>,
-        /// The type of ship (ITU-R M.1371), 0 where it is not known.
+        /// The type of ship (ITU-R M.1371), 0 if it is not known.
         kind: u8,
-        /// Her length in metres, 0 where it is not known.
+        /// Her length in metres, 0 if it is not known.
         length: u32,
         /// How many of her reports were accepted.
         reports: u64,
         /// How many legs join them.
         legs: u64,
     },
-    /// What a rule comes to over all traces.
+    /// The counts of a rule over all traces.
     Total {
         /// The rule's name.
         name: &'a [u8],
         total: Total,
     },
-    /// How many lines of the log came to an outcome.
+    /// How many lines of the log had an outcome.
     Lines {
         outcome: LineOutcome,
         count: u64,

@@ -16,7 +16,7 @@ use report_csv::{digits, optional_digits, short_digits, signed_digits};
 use sectors::Class;
 use std::alloc::Global;
 
-/// A kind of encounter, by the name of its atom.
+/// Returns a kind of encounter by the name of its atom.
 fn kind_name(kind: Class) -> &'static str
     ensures { result.now ≡ kind_name kind }
 {
@@ -31,14 +31,14 @@ fn kind_name(kind: Class) -> &'static str
     }
 }
 
-/// What a stretch of a rule is called. The lifetime is the caller's, since the name stands in a row beside borrowed ones.
+/// Returns the name of a kind of stretch of a rule. The lifetime is the caller's, since a row has this name beside borrowed ones.
 fn verdict_name<'a>(undecided: bool) -> &'a str
     ensures { result.now ≡ verdict_name undecided }
 {
     if undecided { "open" } else { "broken" }
 }
 
-/// The bytes of a name, or nothing.
+/// Returns the bytes of a name, or nothing.
 fn optional_name<'a>(name: Option<&'a Text20>) -> &'a [u8]
     ensures { result.now ≡ optional_name (option_copied name.entry) }
 {
@@ -48,8 +48,7 @@ fn optional_name<'a>(name: Option<&'a Text20>) -> &'a [u8]
     }
 }
 
-/// The text of the rows that were written so far. It stands for that text. One writer takes all rows, so that a row needs no memory of
-/// its own.
+/// The text of the rows that were written so far. One writer takes all rows, so a row needs no memory of its own.
 #[derive(Drop)]
 pub struct ReportText {
     writer: Writer<Vec<u8>>,
@@ -61,7 +60,7 @@ impl ReportText {
     ghost use Rattle.audit_report.specs.ReportRows.{alarm_fields, count_fields, meeting_fields, no_plan_fields, plan_fields, point_fields, total_fields, verdict_fields, vessel_fields};
     ghost use Rattle.audit_report.specs.ReportTexts.{HasText};
 
-    /// The text of no rows. This takes no memory.
+    /// Returns the text of no rows. This takes no memory.
     pub fn new(alloc: Global) -> ReportText
         ensures { HasText result [] }
     {
@@ -70,7 +69,7 @@ impl ReportText {
         }
     }
 
-    /// Writes a row of these fields. A writer over memory fails for want of memory alone; the text may then only be dropped.
+    /// Writes a row of these fields. A writer over memory fails only if memory runs out; the text may then only be dropped.
     #[tactic(auto, unfolding(report_csv::specs::CsvRows::row_of))]
     #[inline(always)]
     pub fn write_fields(&mut self, fields: &[&[u8]]) -> Result<(), Memory>
@@ -112,8 +111,7 @@ impl ReportText {
         ])
     }
 
-    /// Writes the row of a meeting: the kind of the engagement at its first step, its first and its last step, and the least distance.
-    pub fn write_meeting(
+    fn write_meeting(
         &mut self,
         pair: Pair,
         kind: Class,
@@ -140,8 +138,7 @@ impl ReportText {
         ])
     }
 
-    /// Writes the row of a stretch at which the rule of this name is broken, or stays undecided: its first and its last step.
-    pub fn write_verdict(
+    fn write_verdict(
         &mut self,
         pair: Pair,
         name: &[u8],
@@ -149,8 +146,10 @@ impl ReportText {
         first: u32,
         last: u32,
     ) -> Result<(), Memory>
-        ensures { OnOk result ((text : List ℕ) → HasText self.old text
-            → HasText self.new (text ++ row_of (verdict_fields pair name.now undecided first last))) }
+        ensures { OnOk result
+            ((text : List ℕ) → HasText self.old text
+            → HasText self.new
+            (text ++ row_of (verdict_fields pair name.now undecided first last))) }
     {
         let mut subject = Buffer::new();
         let mut other = Buffer::new();
@@ -167,8 +166,7 @@ impl ReportText {
         ])
     }
 
-    /// Writes the row of an alarm: the step at which the rule of this name is broken, and the step that decides it.
-    pub fn write_alarm(
+    fn write_alarm(
         &mut self,
         pair: Pair,
         name: &[u8],
@@ -202,8 +200,11 @@ impl ReportText {
         reports: u64,
         legs: u64,
     ) -> Result<(), Memory>
-        ensures { OnOk result ((text : List ℕ) → HasText self.old text
-            → HasText self.new (text ++ row_of (vessel_fields mmsi (option_copied name.entry) kind length reports legs))) }
+        ensures { OnOk result
+            ((text : List ℕ) → HasText self.old text
+            → HasText self.new
+            (text ++ row_of (vessel_fields mmsi
+            (option_copied name.entry) kind length reports legs))) }
     {
         let mut mmsi_digits = Buffer::new();
         let mut kind_digits = Buffer::new();
@@ -302,10 +303,12 @@ impl ReportText {
         ])
     }
 
-    /// Writes a row behind those that were written. The text may only be dropped after want of memory.
+    /// Writes a row after those before it. If memory runs out, the text may only be dropped.
     #[inline(always)]
     pub fn write(&mut self, row: &ReportRow<'_>) -> Result<(), Memory>
-        ensures { OnOk result ((text : List ℕ) → HasText self.old text → HasText self.new (text ++ report_row_text row.now)) }
+        ensures { OnOk result
+            ((text : List ℕ) → HasText self.old text
+            → HasText self.new (text ++ report_row_text row.now)) }
     {
         match *row {
             ReportRow::Point {
@@ -357,7 +360,7 @@ impl ReportText {
         }
     }
 
-    /// The text of all rows.
+    /// Returns the text of all rows.
     pub fn into_bytes(self) -> Result<Vec<u8>, Memory>
         ensures { IfOk result (λ bytes. (text : List ℕ) → HasText self text → bytes.items ≡ text) }
     {

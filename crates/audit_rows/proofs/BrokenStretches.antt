@@ -57,7 +57,7 @@ runs_more (x ∷ y ∷ ys) m (suc n) e = let rest = runs_more (y ∷ ys) m n (om
 pub stretches_first : (m : Mark) → broken_stretches (m ∷ []) ≡ broken_stretches [] + cond (is_broken m) 1 0
 stretches_first m = are_runs (m ∷ []) ∙ (one_run m ∙ omega arith)
 
--- a mark behind one that is broken as it is, or neither is
+-- a mark after one that is broken as it is, or neither is
 pub stretches_same : (marks : List Mark) (m : Mark) (n : ℕ) → n + 1 ≡ length marks → is_broken (mark_at marks n) ≡ is_broken m → broken_stretches (marks ++ m ∷ []) ≡ broken_stretches marks
 stretches_same marks m n e same =
     let none : cond {A = ℕ} (is_broken m && not (is_broken (mark_at marks n))) 1 0 ≡ 0 = ap (λ (b : Bool). cond (is_broken m && not b) 1 0) same ∙ never (is_broken m) in
@@ -67,7 +67,7 @@ stretches_same marks m n e same =
     never true = refl
     never false = refl
 
--- a mark that is not broken where the last one is
+-- a mark that is not broken if the last one is
 pub stretches_more : (marks : List Mark) (m : Mark) (n : ℕ) → n + 1 ≡ length marks → (is_broken m ≡ true → is_broken (mark_at marks n) ≡ false)
     → broken_stretches (marks ++ m ∷ []) ≡ broken_stretches marks + cond (is_broken m) 1 0
 stretches_more marks m n e other =

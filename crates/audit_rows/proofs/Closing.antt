@@ -189,7 +189,7 @@ told_at_end track stretch row h is =
 
 -- ---- what the next mark closes
 
--- A row that the next mark closes was closed, or reaches the end and does not tell of the mark.
+-- A row that the next mark closes was closed, or reaches the end and does not report the mark.
 pub newly_closed : (track : Track) (mark : Mark) (row : Row) → IsClosedOf (longer track mark) row
     → IsClosedOf track row ⊎ (IsRowOf track row × (last_step_of row + 1 ≡ next_step track) × (TellsOf row mark → ⊥))
 newly_closed track mark row ((from, to, t), lt) =
@@ -204,7 +204,7 @@ newly_closed track mark row ((from, to, t), lt) =
       )
     ]
 
--- A row that reaches the end is closed by a mark that it does not tell of.
+-- A row that reaches the end is closed by a mark that it does not report.
 pub now_closed : (track : Track) (mark : Mark) (row : Row) → IsRowOf track row → last_step_of row + 1 ≡ next_step track → (TellsOf row mark → ⊥)
     → IsClosedOf (longer track mark) row
 now_closed track mark row (from, to, t) e other =
@@ -256,7 +256,7 @@ same_sort_closes track mark stretch h e = stays track mark (λ row r last other.
 pub first_closes : (track : Track) (mark : Mark) → track.marks ≡ [] → Closes track mark None
 first_closes track mark e = stays track mark (λ row (from, to, t) last other. let w = t.stretch.within in let l = ap length e in omega arith)
 
--- a mark of another sort closes the row of the latest stretch, if rows tell of that
+-- a mark of another sort closes the row of the latest stretch, if rows report it
 pub other_sort_closes : (track : Track) (mark : Mark) (stretch : Stretch) → IsLatest track stretch → (sort_of stretch.mark ≡ sort_of mark → ⊥) → Closes track mark (row_of track.topic stretch)
 other_sort_closes track mark stretch h other = record {
   rows = λ row. (
@@ -313,7 +313,7 @@ stands_same lane track mark opened h e same =
       counts = rw next (counts_same lane.counts opened mark (next_step track) track.marks (omega arith) same (ends_as track (ended opened (next_step track)) l) (counts_before lane track (Some opened) h e));
     }
 
--- A mark of the sort of the latest stretch leaves the lane as it is, unless it tells of an engagement.
+-- A mark of the sort of the latest stretch leaves the lane unchanged, unless it marks an engagement.
 pub stands_still : (lane : Lane) (track : Track) (mark : Mark) (opened : Opened) → Stands lane track → lane.latest ≡ Some opened → sort_of opened.mark ≡ sort_of mark → ¬ MarksEngagement mark
     → Stands lane (longer track mark)
 stands_still lane track mark opened h e same other =

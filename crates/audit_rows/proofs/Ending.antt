@@ -1,4 +1,4 @@
--- The end of all tracks: one more mark of each, with nothing to tell.
+-- The end of all tracks: one more mark of each, with nothing to report.
 use Rattle.std.proofs.Common.{◌≡◌, ℕ, zero, suc, ◌+◌, ◌<◌, ◌≤◌, List, [], ◌∷◌, ◌++◌, length, get_or, refl, ap, subst, ◌∙◌, arith, ◌⊎◌, inl, inr, Some, None, add-one}
 use Rattle.std.specs.Prelude.{Option}
 use Rattle.std.specs.List.{slice_get, AllZip}

@@ -12,14 +12,13 @@ use Rattle.audit_rows.specs.Tracks.{AreSettled, Continue, IsNew, IsNextAt, Track
 use Rattle.audit_rows.proofs.Queues.{given_rows}
 use Rattle.audit_rows.proofs.Fronts.{sorted_filter}
 use Rattle.outside.proofs.Members.{in_cons, in_head, in_none, in_tail}
-use Rattle.audit_rows.proofs.StrictOrder.{all_different}
 use Rattle.audit_rows.proofs.Stretches.{closed_front, closed_further}
 -- the laws, and that rows below a settled bound are those of whatever the tracks become
 pub use Rattle.audit_rows.proofs.Fronts.{one_list, front_of_all, still_below, from_filter, in_filter}
 pub use Rattle.audit_rows.proofs.Tracks.{settled_by_reach}
 -- the order of rows, and lists in strict order
 pub use Rattle.audit_rows.proofs.Places.{earlier_first, place_total}
-pub use Rattle.audit_rows.proofs.StrictOrder.{less_than, same_list, tail_sorted}
+pub use Rattle.audit_rows.proofs.StrictOrder.{all_different, less_than, same_list, tail_sorted}
 -- a mark of a track among others, and one that repeats the last
 pub use Rattle.audit_rows.proofs.Repeats.{marked_there, repeated}
 
@@ -69,7 +68,7 @@ different_keys rows ordered = all_different sort_key_of place_cmp place_total ro
 pub ordered_filter : (p : Row → Bool) (rows : List Row) → InOrder rows → InOrder (filter p rows)
 ordered_filter p rows ordered = sorted_filter p sort_key_of place_cmp rows ordered
 
--- ---- a row behind which a mark stands is a row whatever marks follow, and only then
+-- ---- a row after which a mark stands is a row whatever marks follow, and only then
 
 pub row_stays : (track : Track) (more : List Mark) (row : Row) → last_step_of row + 1 < next_step track → IsRowOf track row → IsRowOf (record track { marks = track.marks ++ more }) row
 row_stays track more row lt h = (closed_further track more row (h, lt)).0

@@ -74,7 +74,7 @@ module _ (k : SortKey) (v : Row) where
         ]
       ] h
 
--- The place of a row is free where no row stands there.
+-- The place of a row is free if no row stands there.
 pub free_place : (row : Row) (es : List (SortKey × Row)) → ArePlaced es → ((other : Row) → Contains (values_of es) other → topic_of row ≡ topic_of other → last_step_of row ≡ last_step_of other → ⊥)
     → IsFree (sort_key_of row) es
 free_place row [] h none = tt

@@ -44,7 +44,7 @@ enough_popped bound old rows es place h le all = record {
     keys : AllByRecursion (IsLeBy place_cmp place) (map sort_key_of (values_of es))
     keys = subst (AllByRecursion (IsLeBy place_cmp place)) (keys_are_places es h.placed) (recursion_from_All (IsLeBy place_cmp place) (keys_of es) (subst (λ (cmp : SortKey → SortKey → Ordering). All (IsLeBy cmp place) (keys_of es)) derived_is all))
 
--- The first entry is the one that was looked at.
+-- The first entry is the one that was checked.
 pub first_place : (es rest : List (SortKey × Row)) (e : SortKey × Row) (p : SortKey) (v : Row) → es ≡ e ∷ rest → slice_get es 0 ≡ Some (p, v) → e.0 ≡ p
 first_place es rest e p v is at = ap (λ (o : Option (SortKey × Row)). key o) (ap (λ (xs : List (SortKey × Row)). slice_get xs 0) (sym is) ∙ at)
   where

@@ -1,4 +1,4 @@
--- A mark that repeats the last one of its track leaves a queue as it is, unless it tells of an engagement.
+-- A mark that repeats the last one of its track leaves a queue unchanged, unless it marks an engagement.
 use Rattle.std.proofs.Common.{◌≡◌, ℕ, ◌-◌, List, [], ◌∷◌, ◌++◌, length, refl, sym, ap, subst, ◌∙◌, arith, Some, None}
 use Rattle.std.specs.Prelude.{Option}
 use Rattle.std.specs.List.{AllZip, slice_get}

@@ -1,4 +1,4 @@
--- Rows by the sort of marks that they tell of, and the row of a lane's stretch.
+-- Rows by the sort of marks that they report, and the row of a lane's stretch.
 use Rattle.std.proofs.Common.{◌≡◌, ℕ, ◌-◌, ◌≤◌, true, false, List, length, refl, sym, ap, subst, ◌∙◌, arith, ◌⊎◌, inl, inr, Some, None}
 use Rattle.std.specs.Prelude.{Option}
 use Rattle.std.specs.Option.{IfSome}
@@ -15,7 +15,7 @@ use Rattle.audit_rows.specs.Order.{first_step_of, last_step_of, topic_of}
 use Rattle.audit_rows.specs.Rows.{Measures, TellsOf}
 use Rattle.audit_rows.specs.Stretches.{HasKindAndLeast, MarksEngagement}
 
--- the sort of marks that a row tells of
+-- the sort of marks that a row reports
 abbrev pub told_sort : Row → Sort
 told_sort (row.Meeting pair kind first last least) = Engaged
 told_sort (row.Verdict pair rule true first last) = Undecided
@@ -57,7 +57,7 @@ sort_join (mark.Engaged kind least) mark.Broken = refl
 sort_join (mark.Engaged kind least) mark.Undecided = refl
 sort_join (mark.Engaged kind least) (mark.Engaged other distance) = refl
 
--- A mark of the same sort leaves a mark as it is, unless it tells of an engagement.
+-- A mark of the same sort leaves a mark unchanged, unless it marks an engagement.
 pub join_still : (a b : Mark) → sort_of a ≡ sort_of b → (MarksEngagement b → ⊥) → join a b ≡ a
 join_still mark.Nothing b e other = refl
 join_still mark.Broken b e other = refl
@@ -110,7 +110,7 @@ is_told (topic.Verdict pair rule) mark.Undecided first last r e =
     subst (IsToldOf (topic.Verdict pair rule) mark.Undecided first last) same (record { topic = refl; begins = refl; ends = refl; sort = refl; measures = λ marks from h. tt })
 is_told (topic.Verdict pair rule) (mark.Engaged kind least) first last r e = absurd (cc)
 
--- a row that tells of the stretch is its row
+-- a row that reports the stretch is its row
 module _ (marks : List Mark) (from to first last : ℕ) where
   module _ (about : Topic) where
     pub told_by : (r : Row) (m : Mark) → topic_of r ≡ about → first_step_of r ≡ first → last_step_of r ≡ last → told_sort r ≡ sort_of m → Measures r marks from to → IsWhole marks from m → to ≡ length marks - 1
@@ -135,7 +135,7 @@ module _ (marks : List Mark) (from to first last : ℕ) where
     told_by (row.Verdict pair rule false f l) mark.Undecided t b e s h w end = absurd (cc)
     told_by (row.Verdict pair rule false f l) (mark.Engaged class distance) t b e s h w end = absurd (cc)
 
--- rows tell of no stretch of nothing
+-- no row reports a stretch of nothing
 pub nothing_told : (about : Topic) (first last : ℕ) → row_of_mark about mark.Nothing first last ≡ None
 nothing_told (topic.Meeting pair) first last = refl
 nothing_told (topic.Verdict pair rule) first last = refl

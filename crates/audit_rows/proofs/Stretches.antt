@@ -13,7 +13,7 @@ use Rattle.audit_rows.specs.Rows.{IsRowOf, Measures, TellsStretch, TellsOf}
 use Rattle.audit_rows.specs.Stretches.{HasKindAndLeast, IsStretch, distance_of, marked_kind, mark_at}
 use Rattle.audit_rows.specs.Tracks.{Track}
 
--- a track with more marks behind its own
+-- a track with more marks after its own
 abbrev pub further : Track → List Mark → Track
 further track more = record track { marks = track.marks ++ more }
 

@@ -33,7 +33,7 @@ is_undecided (Engaged kind least) = false
 abbrev pub passing : (Mark → Bool) → List Mark → ℕ
 passing test marks = length (filter test marks)
 
--- The mark at an index is broken, and the one behind it, if there is one, is not.
+-- The mark at an index is broken, and the next one, if there is one, is not.
 abbrev pub ends_broken : List Mark → ℕ → Bool
 ends_broken marks k = is_broken (mark_at marks k) && not (is_broken (mark_at marks (k + 1)))
 

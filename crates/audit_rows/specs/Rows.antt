@@ -13,7 +13,7 @@ abbrev pub verdict_mark : Bool → Mark
 verdict_mark true = Undecided
 verdict_mark false = Broken
 
--- A meeting tells of engaged positions, a verdict of broken ones or of undecided ones.
+-- A meeting reports engaged positions, a verdict broken ones or undecided ones.
 abbrev pub TellsOf : Row → Mark → Type 0
 TellsOf (Meeting pair kind first last least) mark = MarksEngagement mark
 TellsOf (Verdict pair rule undecided first last) mark = mark ≡ verdict_mark undecided
@@ -23,7 +23,7 @@ abbrev pub Measures : Row → List Mark → ℕ → ℕ → Type 0
 Measures (Meeting pair kind first last least) marks from to = HasKindAndLeast marks from to kind least
 Measures (Verdict pair rule undecided first last) marks from to = Unit {0}
 
--- The row tells of the maximal stretch between two indexes of a track of its topic.
+-- The row reports the maximal stretch between two indexes of a track of its topic.
 pub record TellsStretch (track : Track) (row : Row) (from to : ℕ) : Type 0 where
   pub topic : topic_of row ≡ track.topic
   pub first : first_step_of row ≡ track.first + from

@@ -9,7 +9,7 @@ use Rattle.audit_rows.specs.declared.mark.Mark.TheVariants.{Nothing, Broken, Und
 abbrev pub mark_at : List Mark → ℕ → Mark
 mark_at marks k = slice_index_or marks k Nothing
 
--- The marks at two indexes and between them have a property, and the neighbours of these, where there are any, do not.
+-- The marks at two indexes and between them have a property, and the neighbours of these, if there are any, do not.
 pub record IsStretch (Property : Mark → Type 0) (marks : List Mark) (from to : ℕ) : Type 0 where
   pub ordered : from ≤ to
   pub within : to < length marks

@@ -35,7 +35,7 @@ marked [] index mark = []
 marked (track ∷ tracks) zero mark = longer track mark ∷ tracks
 marked (track ∷ tracks) (suc index) mark = track ∷ marked tracks index mark
 
--- The mark is that at the end of the track, and tells of no engagement.
+-- The mark is that at the end of the track, and marks no engagement.
 pub record Repeats (track : Track) (mark : Mark) : Type 0 where
   pub some : 0 < length track.marks
   pub same : mark_at track.marks (length track.marks - 1) ≡ mark
@@ -51,11 +51,11 @@ EndAt end tracks = AllByRecursion (λ track. end ≡ next_step track) tracks
 
 -- ---- what no further mark changes
 
--- Each track has a mark behind each of its steps below the bound, so that a stretch that ends there is known to end.
+-- Each track has a mark after each of its steps below the bound, so that a stretch that ends there is known to end.
 abbrev pub AreSettled : ℕ → List Track → Type 0
 AreSettled bound tracks = AllByRecursion (λ track. bound ≤ track.first + (length track.marks - 1)) tracks
 
--- The later tracks are the tracks with more marks behind theirs, and then new ones that begin at the bound at the earliest.
+-- The later tracks are the tracks with more marks after theirs, and then new ones that begin at the bound at the earliest.
 abbrev pub Continue : ℕ → List Track → List Track → Type 0
 Continue bound [] later = AllByRecursion (λ track. bound ≤ track.first) later
 Continue bound (track ∷ tracks) [] = ⊥

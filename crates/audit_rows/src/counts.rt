@@ -9,11 +9,11 @@ use crate::mark::Mark;
 pub struct MarkCounts {
     /// All marks.
     pub all: u32,
-    /// Those that tell of nothing.
+    /// Those with nothing to report.
     pub nothing: u32,
     /// Those at which the rule is broken.
     pub broken: u32,
-    /// Those at which what the rule comes to is open.
+    /// Those at which the rule's outcome is open.
     pub undecided: u32,
     /// The maximal stretches of broken marks.
     pub runs: u32,
@@ -33,7 +33,7 @@ impl MarkCounts {
         }
     }
 
-    /// The same with a stretch of so many marks more, all of this mark's sort. A count stands still at its type's end.
+    /// The same with a stretch of this many marks more, all of this mark's sort. A count stands still at its type's end.
     pub(crate) fn with(self, mark: Mark, many: u32) -> MarkCounts
         ensures { result ≡ with_more self mark many }
     {

@@ -33,12 +33,14 @@ impl Lane {
         }
     }
 
-    /// Takes the next mark, which is for the step. Gives the row of the stretch that it ends, if rows tell of that. Most marks go on
-    /// with the stretch, so that case is in line.
+    /// Takes the next mark, which is for the step. Returns the row of the stretch that it ends, if rows report it. Most marks
+    /// continue the stretch, so that case is inline.
     #[inline(always)]
     pub(crate) fn push(&mut self, step: u32, mark: Mark) -> Option<Row>
-        ensures stands { (track : Track) → Stands self.old track → step ≡ next_step track → Stands self.new (longer track mark) }
-        ensures closes { (track : Track) → Stands self.old track → step ≡ next_step track → Closes track mark result }
+        ensures stands { (track : Track) → Stands self.old track → step ≡ next_step track
+            → Stands self.new (longer track mark) }
+        ensures closes { (track : Track) → Stands self.old track → step ≡ next_step track
+            → Closes track mark result }
     {
         let Some(stretch) = &mut self.latest else {
             self.turn(step, mark);
@@ -56,21 +58,24 @@ impl Lane {
 
     /// Begins a stretch with this mark.
     fn turn(&mut self, step: u32, mark: Mark)
-        ensures { self.new ≡ record self.old { latest = Some (record { first = step; mark = mark }) } }
+        ensures { self.new
+            ≡ record self.old { latest = Some (record { first = step; mark = mark }) } }
     {
         self.latest = Some(Opened { first: step, mark });
     }
 
     /// Counts the marks of a stretch that ended before the step.
     fn count(&mut self, stretch: Opened, step: u32)
-        ensures { self.new ≡ record self.old { counts = with_stretch self.old.counts stretch step } }
+        ensures { self.new
+            ≡ record self.old { counts = with_stretch self.old.counts stretch step } }
     {
         self.counts = self.counts.with(stretch.mark, stretch.length(step));
     }
 
     /// The row of the stretch that the track's end, before the step, ends.
     pub(crate) fn end(&self, step: u32) -> Option<Row>
-        ensures { (track : Track) → Stands self.now track → step ≡ next_step track → Closes track Nothing result }
+        ensures { (track : Track) → Stands self.now track → step ≡ next_step track
+            → Closes track Nothing result }
     {
         let stretch = self.latest?;
         stretch.ended(step).row(self.topic)
@@ -85,7 +90,8 @@ impl Lane {
 
     /// The counts of all marks of the track, whose next one would be for the step.
     pub(crate) fn counts(&self, step: u32) -> MarkCounts
-        ensures { (track : Track) → Stands self.now track → step ≡ next_step track → AreCounts result track.marks }
+        ensures { (track : Track) → Stands self.now track → step ≡ next_step track
+            → AreCounts result track.marks }
     {
         match self.latest {
             None => self.counts,

@@ -1,4 +1,4 @@
-//! Laws of rows, which stand over the definitions alone.
+//! Laws of rows, which follow from the definitions alone.
 ghost use Rattle.std.specs.Prelude.{◌≡◌, ◌+◌, ◌-◌, ◌≤◌, ◌++◌, ℕ, List};
 ghost use Rattle.std.specs.List.{AllByRecursion};
 ghost use Rattle.audit_rows.specs.declared.row.Row.{Row};
@@ -7,18 +7,21 @@ ghost use Rattle.audit_rows.specs.Tracks.{AreSettled, Continue, Track, next_step
 
 /// Tracks have one list of rows at most.
 pub fn one_list()
-    ensures { (tracks : List Track) (rows others : List Row) → AreRows tracks rows → AreRows tracks others → rows ≡ others }
+    ensures { (tracks : List Track) (rows others : List Row) → AreRows tracks rows
+        → AreRows tracks others → rows ≡ others }
 {}
 
 /// What ends below a bound up to which the tracks are settled is the front of the list of rows of whatever the tracks become.
 pub fn front_of_all()
-    ensures { (bound : ℕ) (tracks later : List Track) (rows all : List Row) → AreSettled bound tracks → Continue bound tracks later
-        → AreRowsBelow bound tracks rows → AreRows later all → (rest : List Row) × (all ≡ rows ++ rest) }
+    ensures { (bound : ℕ) (tracks later : List Track) (rows all : List Row)
+        → AreSettled bound tracks → Continue bound tracks later → AreRowsBelow bound tracks rows
+        → AreRows later all → (rest : List Row) × (all ≡ rows ++ rest) }
 {}
 
-/// Where no track's marks end more than `reach` before step `k`, the tracks are settled up to `k - reach - 1`: each row whose
+/// If no track's marks end more than `reach` before step `k`, the tracks are settled up to `k - reach - 1`: each row whose
 /// last step is at most `k - reach - 2` is decided.
 pub fn settled_by_reach()
-    ensures { (k reach : ℕ) (tracks : List Track) → AllByRecursion (λ track. k ≤ next_step track + reach) tracks
+    ensures { (k reach : ℕ) (tracks : List Track)
+        → AllByRecursion (λ track. k ≤ next_step track + reach) tracks
         → AreSettled (k - (reach + 1)) tracks }
 {}

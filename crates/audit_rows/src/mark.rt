@@ -7,11 +7,11 @@ use sectors::Class;
 /// What stands at one step of a track.
 #[derive(Clone, Copy, Debug, PartialEq, Eq)]
 pub enum Mark {
-    /// Nothing that rows tell of.
+    /// Nothing that rows report.
     Nothing,
     /// The rule is broken there.
     Broken,
-    /// What the rule comes to there is open.
+    /// The rule's outcome there is open.
     Undecided,
     /// The vessels are engaged.
     Engaged {

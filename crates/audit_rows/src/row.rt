@@ -23,7 +23,7 @@ pub enum Row {
         /// The least distance of all its steps.
         least: u64,
     },
-    /// A rule is broken at each step of the stretch, or what it comes to is open at each, and it is not so at either neighbour.
+    /// A rule is broken at each step of the stretch, or its outcome is open at each, and it is not so at either neighbour.
     Verdict {
         /// Whose duties are audited, and towards whom.
         pair: Pair,

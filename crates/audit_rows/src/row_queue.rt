@@ -26,7 +26,9 @@ fn pop_below(
     pending: &mut BTreeMap<SortKey, Row>,
     bound: u32,
 ) -> Result<Vec<Row>, Memory>
-    ensures { IfOk result (λ rows. ArePlaced pending.old.entries → IsPopped bound pending.old.entries rows.items pending.new.entries) }
+    ensures { IfOk result
+        (λ rows. ArePlaced pending.old.entries
+        → IsPopped bound pending.old.entries rows.items pending.new.entries) }
 {
     let mut rows = Vec::new(alloc);
     while let Some((place, _)) = pending.first_key_value() {
@@ -40,7 +42,7 @@ fn pop_below(
     Ok(rows)
 }
 
-/// Takes all rows off, and puts them behind others.
+/// Takes all rows off, and appends them to others.
 fn pop_all(pending: &mut BTreeMap<SortKey, Row>, rows: &mut Vec<Row>) -> Result<(), Memory>
     ensures { OnOk result (rows.new.items ≡ rows.old.items ++ values_of pending.old.entries) }
 {
@@ -52,8 +54,10 @@ fn pop_all(pending: &mut BTreeMap<SortKey, Row>, rows: &mut Vec<Row>) -> Result<
 
 /// Adds the rows that the end of all tracks closes.
 fn end_all(lanes: &[Lane], end: u32, pending: &mut BTreeMap<SortKey, Row>) -> Result<(), Memory>
-    ensures { OnOk result ((tracks : List Track) (bound : ℕ) (given : List Row) → AllZip Stands lanes.now tracks → EndAt end tracks
-        → Holds pending.old.entries tracks bound given → AreRows tracks (given ++ values_of pending.new.entries)) }
+    ensures { OnOk result
+        ((tracks : List Track) (bound : ℕ) (given : List Row) → AllZip Stands lanes.now tracks
+        → EndAt end tracks → Holds pending.old.entries tracks bound given
+        → AreRows tracks (given ++ values_of pending.new.entries)) }
 {
     for lane in lanes {
         if let Some(row) = lane.end(end) {
@@ -89,21 +93,26 @@ impl RowQueue {
     /// Begins a track and gives its index: how many were begun before it. No other track may be of its topic, and it may begin
     /// at no step below the bound of the rows that were handed out.
     pub fn begin(&mut self, topic: Topic) -> Result<usize, Memory>
-        ensures index { IfOk result (λ index. (tracks : List Track) (bound : ℕ) (given : List Row) → QueueStandsFor self.old tracks bound given
-            → index ≡ length tracks) }
-        ensures stands { OnOk result ((tracks : List Track) (bound first : ℕ) (given : List Row) → QueueStandsFor self.old tracks bound given
-            → IsNew topic tracks → bound ≤ first → QueueStandsFor self.new (tracks ++ begun topic first ∷ []) bound given) }
+        ensures index { IfOk result
+            (λ index. (tracks : List Track) (bound : ℕ) (given : List Row)
+            → QueueStandsFor self.old tracks bound given → index ≡ length tracks) }
+        ensures stands { OnOk result
+            ((tracks : List Track) (bound first : ℕ) (given : List Row)
+            → QueueStandsFor self.old tracks bound given → IsNew topic tracks → bound ≤ first
+            → QueueStandsFor self.new (tracks ++ begun topic first ∷ []) bound given) }
     {
         let index = self.lanes.len();
         self.lanes.push(Lane::new(topic))?;
         Ok(index)
     }
 
-    /// Takes the next mark, which is for the step, of the track at the index. Where there is no such track it does nothing.
+    /// Takes the next mark, which is for the step, of the track at the index. If there is no such track it does nothing.
     #[inline(always)]
     pub fn mark(&mut self, index: usize, step: u32, mark: Mark) -> Result<(), Memory>
-        ensures { OnOk result ((tracks : List Track) (bound : ℕ) (given : List Row) → QueueStandsFor self.old tracks bound given
-            → IsNextAt tracks index step → QueueStandsFor self.new (marked tracks index mark) bound given) }
+        ensures { OnOk result
+            ((tracks : List Track) (bound : ℕ) (given : List Row)
+            → QueueStandsFor self.old tracks bound given → IsNextAt tracks index step
+            → QueueStandsFor self.new (marked tracks index mark) bound given) }
     {
         let Some(lane) = self.lanes.get_mut(index) else {
             return Ok(());
@@ -116,25 +125,31 @@ impl RowQueue {
 
     /// Hands out the further rows that end below the bound, up to which the tracks must be settled. The bound may not sink.
     pub fn rows_below(&mut self, bound: u32) -> Result<Vec<Row>, Memory>
-        ensures stands { IfOk result (λ rows. (tracks : List Track) (old : ℕ) (given : List Row) → QueueStandsFor self.old tracks old given
-            → old ≤ bound → AreSettled bound tracks → QueueStandsFor self.new tracks bound (given ++ rows.items)) }
-        ensures rows { IfOk result (λ rows. (tracks : List Track) (old : ℕ) (given : List Row) → QueueStandsFor self.old tracks old given
-            → old ≤ bound → AreSettled bound tracks → AreRowsBelow bound tracks (given ++ rows.items)) }
+        ensures stands { IfOk result
+            (λ rows. (tracks : List Track) (old : ℕ) (given : List Row)
+            → QueueStandsFor self.old tracks old given → old ≤ bound → AreSettled bound tracks
+            → QueueStandsFor self.new tracks bound (given ++ rows.items)) }
+        ensures rows { IfOk result
+            (λ rows. (tracks : List Track) (old : ℕ) (given : List Row)
+            → QueueStandsFor self.old tracks old given → old ≤ bound → AreSettled bound tracks
+            → AreRowsBelow bound tracks (given ++ rows.items)) }
     {
         pop_below(self.alloc, &mut self.pending, bound)
     }
 
     /// How many tracks there are.
     pub fn track_count(&self) -> usize
-        ensures { (tracks : List Track) (bound : ℕ) (given : List Row) → QueueStandsFor self.now tracks bound given → result ≡ length tracks }
+        ensures { (tracks : List Track) (bound : ℕ) (given : List Row)
+            → QueueStandsFor self.now tracks bound given → result ≡ length tracks }
     {
         self.lanes.len()
     }
 
-    /// What the marks of the track at the index are of, how many it has of each sort and how many stretches of broken ones, where the
-    /// next mark of each track would be for the step. `None` where there is no such track.
+    /// What the marks of the track at the index are of, how many it has of each sort and how many stretches of broken ones, if the
+    /// next mark of each track would be for the step. `None` if there is no such track.
     pub fn counts(&self, index: usize, end: u32) -> Option<(Topic, MarkCounts)>
-        ensures { (tracks : List Track) (bound : ℕ) (given : List Row) → QueueStandsFor self.now tracks bound given → EndAt end tracks
+        ensures { (tracks : List Track) (bound : ℕ) (given : List Row)
+            → QueueStandsFor self.now tracks bound given → EndAt end tracks
             → IsCountOf result (slice_get tracks index) }
     {
         let lane = self.lanes.get(index)?;
@@ -143,18 +158,22 @@ impl RowQueue {
 
     /// Ends all tracks, whose next marks would be for the step, and hands out the rows that are left.
     pub fn finish(self, end: u32) -> Result<Vec<Row>, Memory>
-        ensures { IfOk result (λ rows. (tracks : List Track) (bound : ℕ) (given : List Row) → QueueStandsFor self tracks bound given
-            → EndAt end tracks → AreRows tracks (given ++ rows.items)) }
+        ensures { IfOk result
+            (λ rows. (tracks : List Track) (bound : ℕ) (given : List Row)
+            → QueueStandsFor self tracks bound given → EndAt end tracks
+            → AreRows tracks (given ++ rows.items)) }
     {
         let mut rows = Vec::new(self.alloc);
         self.finish_into(end, &mut rows)?;
         Ok(rows)
     }
 
-    /// Ends all tracks, whose next marks would be for the step, and puts the rows that are left behind others.
+    /// Ends all tracks, whose next marks would be for the step, and appends the remaining rows to others.
     pub fn finish_into(mut self, end: u32, rows: &mut Vec<Row>) -> Result<(), Memory>
-        ensures { OnOk result ((rest : List Row) × (rows.new.items ≡ rows.old.items ++ rest)
-            × ((tracks : List Track) (bound : ℕ) (given : List Row) → QueueStandsFor self tracks bound given → EndAt end tracks
+        ensures { OnOk result
+            ((rest : List Row) × (rows.new.items ≡ rows.old.items ++ rest)
+            × ((tracks : List Track) (bound : ℕ) (given : List Row)
+            → QueueStandsFor self tracks bound given → EndAt end tracks
             → AreRows tracks (given ++ rest))) }
     {
         end_all(&self.lanes, end, &mut self.pending)?;

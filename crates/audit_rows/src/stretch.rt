@@ -7,8 +7,8 @@ use crate::mark::Mark;
 use crate::row::Row;
 use crate::topic::Topic;
 
-/// A stretch that goes on, of marks of one sort, which are joined to one. Where it will end is not kept, so that a further mark of
-/// its sort, unless it tells of an engagement, leaves it as it is.
+/// An open stretch of marks of one sort, which are joined to one. Where it will end is not kept, so a further mark of
+/// its sort, unless it marks an engagement, leaves it unchanged.
 #[derive(Clone, Copy)]
 pub(crate) struct Opened {
     pub(crate) first: u32,
@@ -24,7 +24,7 @@ impl Opened {
         self.mark = self.mark.join(mark);
     }
 
-    /// The stretch, where the next mark, which is not of it, is for the step.
+    /// The stretch, if the next mark, which is not of it, is for the step.
     pub(crate) fn ended(self, step: u32) -> Stretch
         ensures { result ≡ ended self step }
     {
@@ -35,7 +35,7 @@ impl Opened {
         }
     }
 
-    /// How many marks it has, where the next mark is for the step.
+    /// How many marks it has, if the next mark is for the step.
     pub(crate) fn length(self, step: u32) -> u32
         ensures { result ≡ step - self.first }
     {
@@ -52,7 +52,7 @@ pub(crate) struct Stretch {
 }
 
 impl Stretch {
-    /// Its row, if rows of the topic tell of such a stretch.
+    /// Returns its row, if rows of the topic report such a stretch.
     pub(crate) fn row(&self, topic: Topic) -> Option<Row>
         ensures { result ≡ row_of topic self.now }
     {

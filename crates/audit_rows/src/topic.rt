@@ -1,12 +1,12 @@
-//! What rows tell of.
+//! What rows report.
 use meetings::Pair;
 
-/// What a track's marks are of, and its rows tell of. In their order meetings stand before verdicts; then it goes by the subject,
+/// What a track's marks are about, and its rows report. Meetings come before verdicts; then the order is by the subject,
 /// by the other, and by the rule.
 #[derive(Clone, Copy, Debug, PartialEq, Eq, PartialOrd, Ord)]
 pub enum Topic {
     /// The meeting of an ordered pair.
     Meeting(Pair),
-    /// What a rule, by its index, comes to for an ordered pair.
+    /// The outcome of a rule, by its index, for an ordered pair.
     Verdict(Pair, u32),
 }

@@ -4,11 +4,11 @@ use Rattle.std.specs.List.{Contains}
 use Rattle.mtl_formulas.specs.FormulaTree.{FormulaTree}
 use Rattle.audit_rows.specs.Tracks.{EndAt, Track}
 use Rattle.traces.specs.Audited.{AuditNumbers}
+use Rattle.traces.specs.Keeping.{IsAtStep}
 use Rattle.traces.specs.Known.{Known}
 use Rattle.auditor.specs.TraceKeeping.{AreRuleMarksWhole, AreRuleTracks, AreTracks}
 use Rattle.auditor.specs.SettledRows.{formulas_of}
 use Rattle.auditor.specs.Inner.AuditKeeping.{AreTracksOfAll}
-use Rattle.auditor.specs.Inner.TracesKept.{IsAtStep}
 use Rattle.outside.proofs.Members.{in_head, in_tail}
 
 -- The trace has so many steps and rows that its next ones would be at this step.

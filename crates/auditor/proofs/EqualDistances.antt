@@ -97,7 +97,7 @@ atom_of class.Passing = atom.Passing
 atom_of class.Unclassified = atom.Unclassified
 
 module _ (terms : Terms) where
-  -- The atom of a kind tells whether they are engaged with that kind.
+  -- The atom of a kind says whether they are engaged with that kind.
   of_kind : (by_rank : ByRank) (state : EngagementState) (seen : Option PairStep) (answers : Atom → Verdict) → AreAnswers terms by_rank state seen answers
       → (kind : Class) → Tells (kind_of state ≡ Some kind) (answers (atom_of kind))
   of_kind by_rank state seen answers values class.Overtaking = values atom.Overtaking

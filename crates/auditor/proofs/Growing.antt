@@ -26,6 +26,12 @@ tracks_push AreMarks numbers [] known tracks mine all t =
 tracks_push AreMarks numbers (k ∷ ks) known tracks mine (its, others, all) t =
     (its, others ++ mine, (record { whole = ap (λ (ts : List Track). ts ++ mine) all.0.whole ∙ append_assoc its others mine }, all.1, tracks_push AreMarks numbers ks known others mine all.2 t))
 
+pub tracks_append : (AreMarks : FormulaTree → Trace → List Mark → Type 0) (numbers : AuditNumbers) (knowns others : List Known) (tracks more : List Track)
+    → AreTracksOfAll AreMarks numbers knowns tracks → AreTracksOfAll AreMarks numbers others more → AreTracksOfAll AreMarks numbers (knowns ++ others) (tracks ++ more)
+tracks_append AreMarks numbers [] others tracks more all their = subst (λ (ts : List Track). AreTracksOfAll AreMarks numbers others (ts ++ more)) (sym all) their
+tracks_append AreMarks numbers (k ∷ ks) others tracks more (its, rest, all) their =
+    (its, rest ++ more, (record { whole = ap (λ (ts : List Track). ts ++ more) all.0.whole ∙ append_assoc its rest more }, all.1, tracks_append AreMarks numbers ks others rest more all.2 their))
+
 opened_rules : (pair : Pair) (start rule : ℕ) (rules : List NamedTree)
     → AreRuleTracks AreRuleMarksSoFar (opened pair start) rule (map (λ (r : NamedTree). r.tree) rules) (begun_rules pair start rule (length rules))
 opened_rules pair start rule [] = tt
@@ -56,8 +62,3 @@ unknown numbers knowns tracks pair all new =
     let f = found_trace AreRuleMarksSoFar numbers knowns tracks track all i in
     let own = own_pair numbers f.known f.mine track f.tracks f.held in
     new (subst (λ (p : Pair). Contains (pairs_of knowns) p) (sym own ∙ e) (in_map (λ (k : Known). k.pair) knowns f.known f.among)))
-
--- what a slice of all elements leaves when it is written
-pub whole_written : {X : Type 0} (n : ℕ) (xs ys : List X) → n ≡ length ys → length xs ≡ length ys → take n (xs ++ drop (length xs) ys) ≡ xs
-whole_written {X} n xs ys e f =
-    ap (λ (zs : List X). take n (xs ++ zs)) (drop_all (length xs) ys (omega arith)) ∙ (ap (λ (zs : List X). take n zs) (append-nil xs) ∙ take_all n xs (omega arith))

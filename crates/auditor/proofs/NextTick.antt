@@ -11,7 +11,6 @@ use Rattle.traces.specs.Known.{AreKnown, Known}
 use Rattle.outside.proofs.Members.{in_cons}
 use Rattle.traces.proofs.ForCallers.{known_within, steps_count}
 use Rattle.auditor.specs.Inner.AuditKeeping.{AreAllTracks}
-use Rattle.auditor.specs.Inner.TracesKept.{IsAtStep}
 use Rattle.auditor.specs.SettledRows.{settled_by}
 use Rattle.auditor.specs.TraceKeeping.{AreRuleMarksSoFar, AreTracksSoFar}
 use Rattle.auditor.specs.SettledRows.{formulas_of}
@@ -19,16 +18,6 @@ use Rattle.auditor.proofs.Growing.{each_track}
 use Rattle.auditor.proofs.TracksOf.{found_rule, found_trace}
 
 module _ (numbers : AuditNumbers) (ticks : List Sighting) where
-  pub at_step : (knowns : List Known) (step : ℕ) → AreKnown numbers ticks knowns → step ≡ length ticks - 1 → (known : Known) → Contains knowns known → IsAtStep step known
-  at_step knowns step are e known i =
-      let is = are.each known i in
-      let count = steps_count numbers ticks known is in
-      let within = known_within numbers ticks known is in
-      (omega arith, omega arith)
-
-  pub few_steps : (knowns : List Known) → AreKnown numbers ticks knowns → (known : Known) → Contains knowns known → length known.steps ≤ length ticks
-  few_steps knowns are known i = let count = steps_count numbers ticks known (are.each known i) in omega arith
-
   greatest : (rules : List NamedTree) (k : ℕ) → k < length rules → reach_of (rule_at rules k).tree ≤ greatest_reach (map (λ (r : NamedTree). r.tree) rules)
   greatest [] k lt = absurd (omega arith)
   greatest (r ∷ rs) zero lt = omega arith

@@ -23,7 +23,7 @@ use Rattle.traces.proofs.ForCallers.{different_from_map, from_map, one_beginning
 module _ (numbers : AuditNumbers) (ticks : List Sighting) where
   -- ---- rows
 
-  -- tracks of which each of the rows is one, and of which all rows are the audit's
+  -- Each of the rows is one of these tracks, and all rows of the tracks are the audit's.
   record HaveTracks (rows : List Row) : Type 0 where
     pub tracks : List Track
     pub among : (row : Row) → Contains rows row → IsRow tracks row
@@ -53,7 +53,7 @@ module _ (numbers : AuditNumbers) (ticks : List Sighting) where
   -- ---- traces
 
   -- A pair has one trace.
-  same_traced : (t other : Traced) → t.pair ≡ other.pair → IsTraceOf numbers ticks t.pair t.start t.trace → IsTraceOf numbers ticks other.pair other.start other.trace → t ≡ other
+  pub same_traced : (t other : Traced) → t.pair ≡ other.pair → IsTraceOf numbers ticks t.pair t.start t.trace → IsTraceOf numbers ticks other.pair other.start other.trace → t ≡ other
   same_traced t other e h k =
       let here : IsTraceOf numbers ticks other.pair t.start t.trace = subst (λ (p : Pair). IsTraceOf numbers ticks p t.start t.trace) e h in
       let begun : t.start ≡ other.start = one_beginning numbers ticks other.pair t.start other.start here.begins k.begins in

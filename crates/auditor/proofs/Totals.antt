@@ -1,4 +1,4 @@
--- What the totals tell of the tracks.
+-- What the totals say of the tracks.
 use Rattle.std.proofs.Common.{◌≡◌, ℕ, zero, suc, ◌+◌, ◌<◌, Bool, true, false, cond, eqb, inl, inr, List, [], ◌∷◌, ◌++◌, length, get_or, take, refl, ap, sym, subst, ◌∙◌, arith, add-one, Some, None}
 use Rattle.std.specs.Prelude.{Option, IsSomeAnd}
 use Rattle.std.specs.List.{slice_get}

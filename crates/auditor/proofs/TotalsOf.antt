@@ -22,7 +22,7 @@ use Rattle.traces.specs.Known.{AreKnown, Known, pairs_of}
 use Rattle.auditor.specs.AuditTotals.{AreTotals, AreTraces, IsTotal, Traced, is_value, positions_with}
 use Rattle.auditor.specs.AuditTracks.{IsTraceOf}
 use Rattle.auditor.specs.Inner.AuditKeeping.{AreTracksOfAll}
-use Rattle.auditor.specs.Inner.TracesKept.{AreEnded}
+use Rattle.auditor.specs.Inner.TracesMarked.{AreEnded}
 use Rattle.auditor.specs.RuleCounts.{told}
 use Rattle.audit_rows.specs.MarkCounts.{is_any, is_broken, is_nothing, is_undecided, passing}
 use Rattle.audit_rows.specs.Rows.{AreRows}

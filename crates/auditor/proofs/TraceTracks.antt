@@ -43,7 +43,7 @@ mark_last : (marks : List Mark) (mark : Mark) → mark_at (marks ++ mark ∷ [])
 mark_last [] mark = refl
 mark_last (m ∷ marks) mark = mark_last marks mark
 
--- What holds at each of some marks, and at one more behind them, holds at each of all.
+-- What holds at each of some marks, and at one more after them, holds at each of all.
 pub marks_then : (P : ℕ → Mark → Type 0) (marks : List Mark) (mark : Mark) → ((i : ℕ) → i < length marks → P i (mark_at marks i)) → P (length marks) mark
     → (i : ℕ) → i < length (marks ++ mark ∷ []) → P i (mark_at (marks ++ mark ∷ []) i)
 marks_then P marks mark each last i lt =

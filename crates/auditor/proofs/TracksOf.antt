@@ -133,7 +133,7 @@ have_rows numbers ticks knowns are known i = (are.each known i).rows
 module _ (Rest : List Mark → Type 0) (AreMarks : FormulaTree → Trace → List Mark → Type 0) (none : Rest [])
     (go_on : (tree : FormulaTree) (trace : Trace) (marks : List Mark) → AreMarks tree trace marks → GoesOn Rest tree trace marks)
     (numbers : AuditNumbers) (ticks : List Sighting) where
-  -- ---- a track that is kept goes on to one of the definition
+  -- ---- a track that is kept is the beginning of one of the definition
 
   pub record Becomes (track : Track) : Type 0 where
     pub more : List Mark

@@ -9,7 +9,7 @@ use Rattle.traces.specs.Audited.{AuditNumbers, Sighting}
 use Rattle.auditor.specs.AuditTracks.{IsTrack}
 
 module _ (numbers : AuditNumbers) (ticks : List Sighting) where
-  -- The row tells of a maximal stretch in what stands at the positions of some trace.
+  -- The row is a maximal stretch in the marks at the positions of some trace.
   abbrev pub IsAuditRow : Row → Type 0
   IsAuditRow row = (track : Track) × (IsTrack numbers ticks track × IsRowOf track row)
 

@@ -1,4 +1,4 @@
 pub mod TrackCounts
 pub mod RowAnswers
 pub mod AuditKeeping
-pub mod TracesKept
+pub mod TracesMarked

@@ -3,11 +3,11 @@ use Rattle.std.specs.Prelude.{ℕ, ◌-◌, ◌^◌, ◌==◌, ◌&&◌, min, Bo
 use Rattle.audit_rows.specs.declared.row.Row.{Row}
 use Rattle.audit_rows.specs.declared.row.Row.TheVariants as row
 
--- the row tells that the rule is broken
+-- the row says that the rule is broken
 abbrev pub is_run_of : ℕ → Row → Bool
 is_run_of rule (row.Meeting pair kind first last least) = false
 is_run_of rule (row.Verdict pair other undecided first last) = (other == rule) && not undecided
 
--- a number as a total tells it: it stands still at its type's end
+-- a number as a total counts it: it stays at its type's greatest number
 abbrev pub told : ℕ → ℕ
 told n = min n (2 ^ 64 - 1)

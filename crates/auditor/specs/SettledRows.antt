@@ -13,6 +13,6 @@ abbrev pub audit_reach : AuditNumbers → ℕ
 audit_reach numbers = greatest_reach (formulas_of numbers)
 
 -- The rows whose last step is below this bound are decided once tick k was given: the farthest rule looks so far ahead, and one
--- further position tells that a stretch has ended.
+-- further position shows that a stretch has ended.
 abbrev pub settled_by : AuditNumbers → ℕ → ℕ
 settled_by numbers k = k - (audit_reach numbers + 1)

@@ -1,14 +1,13 @@
 -- What an audit stands for: its numbers, the vessels seen at the ticks that it was given, and the rows that it has given.
-use Rattle.std.specs.Prelude.{ℕ, ◌≡◌, ◌-◌, ◌≤◌, ◌++◌, List, length, All}
-use Rattle.mtl_monitor.specs.Following.{IsProgramOf, count_of}
+use Rattle.std.specs.Prelude.{ℕ, ◌≡◌, ◌++◌, List}
 use Rattle.audit_rows.specs.declared.row.Row.{Row}
 use Rattle.traces.specs.Audited.{AuditNumbers, SeenVessels, Sighting}
-use Rattle.traces.specs.Known.{AreKnown, Known}
+use Rattle.traces.specs.Known.{Known}
 use Rattle.traces.specs.Standing as followed
+use Rattle.traces.specs.Window.{IsSoundWindow, WindowStandsFor}
 use Rattle.auditor.specs.AuditRows.{AreAuditRows}
 use Rattle.auditor.specs.AuditTotals.{AreTotals}
-use Rattle.auditor.specs.Inner.TracesKept.{Holds, IsReady}
-use Rattle.auditor.specs.SettledRows.{formulas_of, settled_by}
+use Rattle.auditor.specs.Inner.TracesMarked.{audit_keeper}
 use Rattle.auditor.specs.declared.audit.Audit.{Audit}
 use Rattle.auditor.specs.declared.total.Total.{Total}
 
@@ -16,31 +15,25 @@ use Rattle.auditor.specs.declared.total.Total.{Total}
 
 -- how many ticks it was given, and how many the window has
 abbrev pub given_of : Audit → ℕ
-given_of audit = followed.given_of audit.traces
+given_of audit = followed.given_of audit.window.traces
 
 abbrev pub last_tick_of : Audit → ℕ
-last_tick_of audit = followed.last_tick_of audit.traces
+last_tick_of audit = followed.last_tick_of audit.window.traces
 
 -- the vessels seen at the latest tick
 abbrev pub latest_vessels : Audit → SeenVessels
-latest_vessels audit = followed.latest_vessels audit.traces
+latest_vessels audit = followed.latest_vessels audit.window.traces
 
 -- ---- what each call finds and leaves, whatever it stands for
 
-pub record IsSound (audit : Audit) : Type 0 where
-  pub traces : followed.IsSound audit.traces
-  pub rules : count_of audit.program ≤ 17
-  pub many : length audit.values.items ≡ followed.traces_of audit.traces
-  pub ready : All (IsReady audit.program (given_of audit)) audit.values.items
+abbrev pub IsSound : Audit → Type 0
+IsSound audit = IsSoundWindow (audit_keeper audit.window.keeper) audit.window.traces audit.window.kept.items
 
 -- ---- what it stands for
 
 pub record StandsFor (audit : Audit) (numbers : AuditNumbers) (ticks : List Sighting) (given : List Row) : Type 0 where
-  pub program : IsProgramOf audit.program (formulas_of numbers)
   pub knowns : List Known
-  pub are_known : AreKnown numbers ticks knowns
-  pub traces : followed.StandsFor audit.traces numbers ticks knowns
-  pub holds : Holds audit.program audit.values.items audit.queue numbers knowns (settled_by numbers (length ticks - 1)) given
+  pub window : WindowStandsFor (audit_keeper audit.window.keeper) audit.window.traces audit.window.kept.items numbers ticks knowns given
 
 -- It has ended with these totals, and put the rows that were not given behind others.
 pub record HasEnded (audit : Audit) (before after : List Row) (totals : List Total) : Type 0 where

@@ -1,6 +1,5 @@
 -- What is kept of one trace so far, and its tracks.
 use Rattle.std.specs.Prelude.{ℕ, ◌≡◌, ◌+◌, ◌-◌, ◌<◌, List, [], ◌∷◌, ◌++◌, length, Option}
-use Rattle.std.specs.Option.{option_copied}
 use Rattle.mtl_formulas.specs.FormulaTree.{FormulaTree}
 use Rattle.mtl_formulas.specs.FormulaMeasures.{reach_of}
 use Rattle.mtl_formulas.specs.declared.atom.Atom.{Atom}
@@ -8,16 +7,12 @@ use Rattle.mtl_formulas.specs.declared.verdict.Verdict.{Verdict}
 use Rattle.mtl_formulas.specs.Traces.{Trace, value_in}
 use Rattle.mtl_monitor.specs.Following as monitor
 use Rattle.mtl_monitor.specs.declared.program.Program.{Program}
-use Rattle.encounters.specs.Standing.{IsStateAfter}
 use Rattle.encounters.specs.declared.pair_step.PairStep.{PairStep}
-use Rattle.meetings.specs.Answers.{answer_of}
-use Rattle.meetings.specs.Atoms.{IsRankedRow}
-use Rattle.meetings.specs.declared.by_rank.ByRank.{ByRank}
 use Rattle.audit_rows.specs.Stretches.{mark_at}
 use Rattle.audit_rows.specs.Tracks.{Track}
 use Rattle.audit_rows.specs.declared.mark.Mark.{Mark}
 use Rattle.audit_rows.specs.declared.topic.Topic.TheVariants as topic
-use Rattle.traces.specs.Audited.{AuditNumbers, terms_of}
+use Rattle.traces.specs.Audited.{AuditNumbers}
 use Rattle.traces.specs.Known.{Known, watched}
 use Rattle.auditor.specs.SettledRows.{formulas_of}
 use Rattle.auditor.specs.AuditTracks.{IsMeetingMark}
@@ -26,7 +21,6 @@ use Rattle.audit_rows.specs.declared.row.Row.{Row}
 use Rattle.audit_rows.specs.Standing.{QueueStandsFor}
 use Rattle.audit_rows.specs.declared.row_queue.RowQueue.{RowQueue}
 use Rattle.auditor.specs.declared.trace.AuditTrace.{AuditTrace}
-use Rattle.auditor.specs.declared.trace.NextRow.{NextRow}
 
 -- ---- its tracks
 
@@ -91,14 +85,6 @@ pub record StandsFor (program : Program) (numbers : AuditNumbers) (trace : Audit
   pub values : monitor.Follows program trace.values (formulas_of numbers) known.trace
 
 -- ---- what a step and the end come to, among the tracks of other traces
-
--- The row is that of this step of the trace, where the ranks say this at its steps, with the state of the engagement before the step
--- and at it.
-pub record IsNextRow (numbers : AuditNumbers) (ranks : ℕ → ByRank) (known : Known) (step : Option PairStep) (next : NextRow) : Type 0 where
-  pub seen : option_copied next.seen ≡ step
-  pub was : IsStateAfter numbers.detect known.steps next.was.now
-  pub is : IsStateAfter numbers.detect (known.steps ++ step ∷ []) next.is.now
-  pub row : IsRankedRow (terms_of numbers) ranks (known.steps ++ step ∷ []) (length known.steps) (answer_of next.row.now)
 
 -- With the next step and its answers the trace has these tracks.
 pub record Steps (program : Program) (numbers : AuditNumbers) (trace : AuditTrace) (known : Known) (seen : Option PairStep) (answers : Atom → Verdict) (queue : RowQueue)

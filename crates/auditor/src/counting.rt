@@ -33,7 +33,8 @@ fn take_rule(totals: &mut [Total], rule: usize, counts: MarkCounts)
 /// Counts all tracks, whose next marks would be for the step.
 fn take_tracks(totals: &mut [Total], queue: &RowQueue, end: u32)
     ensures as_many { length totals.new ≡ length totals.old }
-    ensures tallies { (rules bound : ℕ) (tracks : List Track) (given : List Row) → QueueStandsFor queue.now tracks bound given → EndAt end tracks
+    ensures tallies { (rules bound : ℕ) (tracks : List Track) (given : List Row)
+        → QueueStandsFor queue.now tracks bound given → EndAt end tracks
         → AreTallies totals.old rules [] → AreTallies totals.new rules tracks }
 {
     for index in 0..queue.track_count() {
@@ -50,7 +51,9 @@ pub fn totals_of(
     rules: usize,
     end: u32,
 ) -> Result<Vec<Total>, Memory>
-    ensures { IfOk result (λ totals. (tracks : List Track) (bound : ℕ) (given : List Row) → QueueStandsFor queue.now tracks bound given → EndAt end tracks
+    ensures { IfOk result
+        (λ totals. (tracks : List Track) (bound : ℕ) (given : List Row)
+        → QueueStandsFor queue.now tracks bound given → EndAt end tracks
         → AreTallies totals.items rules tracks) }
 {
     let mut totals = vec![in alloc; Total::default(); rules]?;

@@ -15,20 +15,22 @@ ghost use Rattle.auditor.specs.AuditTotals.{AreTotals};
 
 /// An audit has one list of rows at most.
 pub fn one_list_of_rows()
-    ensures { (numbers : AuditNumbers) (ticks : List Sighting) (rows others : List Row) → AreAuditRows numbers ticks rows → AreAuditRows numbers ticks others
-        → rows ≡ others }
+    ensures { (numbers : AuditNumbers) (ticks : List Sighting) (rows others : List Row)
+        → AreAuditRows numbers ticks rows → AreAuditRows numbers ticks others → rows ≡ others }
 {}
 
 /// With its rows an audit has one list of totals at most, in whatever order its traces are listed.
 pub fn one_list_of_totals()
-    ensures { (numbers : AuditNumbers) (ticks : List Sighting) (rows : List Row) (totals others : List Total) → AreTotals numbers ticks rows totals
+    ensures { (numbers : AuditNumbers) (ticks : List Sighting) (rows : List Row)
+        (totals others : List Total) → AreTotals numbers ticks rows totals
         → AreTotals numbers ticks rows others → totals ≡ others }
 {}
 
 /// Passing at a safe distance (Rule 8(d)) with four equal distances, one per kind of encounter, is the same at every position
 /// as with that one distance.
 pub fn equal_distances_are_one()
-    ensures { (terms : Terms) (ranks : ℕ → ByRank) (steps : List (Option PairStep)) (trace : Trace) (metres i : ℕ) →
-        AreRankedRows terms ranks steps trace →
-        value_in trace (passes_safely (PerKind metres metres metres metres)) i ≡ value_in trace (passes_safely (One metres)) i }
+    ensures { (terms : Terms) (ranks : ℕ → ByRank) (steps : List (Option PairStep)) (trace : Trace)
+        (metres i : ℕ) → AreRankedRows terms ranks steps trace
+        → value_in trace (passes_safely (PerKind metres metres metres metres)) i
+        ≡ value_in trace (passes_safely (One metres)) i }
 {}

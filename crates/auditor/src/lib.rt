@@ -5,22 +5,22 @@
 //! further tick can change it.
 //!
 //! In the shipped head-on encounter each of the two vessels breaks `r14a` at step 23 and `r8d` from step 56 to step 62, and has a meeting as
-//! `head_on` from step 23 to step 66. The rows come in this order, that of their last steps. The total of `r8d` has 134 positions, of which
-//! 120 hold and 14 are broken, in 2 stretches.
-//! Reports, clocks and files have no place here: a tick is a list of vessels with their states.
+//! `head_on` from step 23 to step 66. The rows come in this order, that of their last steps. The total of `r8d` has 134 positions: 120
+//! hold and 14 are broken, in 2 stretches.
+//! Reports, clocks and files are out of scope: a tick is a list of vessels with their states.
 #![tactic(auto)]
 
 mod audit;
+mod audit_keeper;
 mod counting;
-mod each_trace;
 pub mod laws;
 mod total;
 mod trace;
 
 pub use audit::{Audit, AuditEnd};
+pub use audit_keeper::begin_tracks;
 pub use audit_rows::Row;
 pub use counting::totals_of;
-pub use each_trace::begin_tracks;
 pub use total::Total;
-pub use trace::{AuditTrace, NextRow};
-pub use traces::{MOST_TRACES, TickFault as AuditFault};
+pub use trace::AuditTrace;
+pub use traces::{MOST_TRACES, NextRow, TickFault as AuditFault};

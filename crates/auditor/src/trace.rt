@@ -13,16 +13,17 @@ ghost use Rattle.auditor.specs.ValueMarks.{mark_of};
 use audit_rows::{Mark, RowQueue};
 use closest_approach::least;
 use encounters::{EngagementState, PairStep};
-use meetings::AtomRow;
 use mtl_formulas::Verdict;
 use mtl_monitor::{Program, TraceState};
 use out_of_memory::Memory;
 use std::alloc::Global;
+use traces::NextRow;
 
 /// What the meeting's track has at a step: the kind of the engagement, and the least distance within the step.
 #[inline(always)]
 fn meeting_mark(state: &EngagementState, seen: Option<&PairStep>) -> Mark
-    ensures { (detect : Detect) (steps : List (Option PairStep)) → IsStateAfter detect (steps ++ option_copied seen.entry ∷ []) state.now
+    ensures { (detect : Detect) (steps : List (Option PairStep))
+        → IsStateAfter detect (steps ++ option_copied seen.entry ∷ []) state.now
         → IsMeetingMark detect (steps ++ option_copied seen.entry ∷ []) (length steps) result }
 {
     match (state, seen) {
@@ -54,27 +55,16 @@ fn mark_or_repeat(
     mark: Mark,
     repeats: bool,
 ) -> Result<(), Memory>
-    ensures { OnOk result ((bound : ℕ) (before after : List Track) (track : Track) (given : List Row)
-        → QueueStandsFor queue.old (before ++ track ∷ after) bound given → index ≡ length before → step ≡ next_step track
-        → (repeats ≡ true → Repeats track mark) → QueueStandsFor queue.new (before ++ longer track mark ∷ after) bound given) }
+    ensures { OnOk result
+        ((bound : ℕ) (before after : List Track) (track : Track) (given : List Row)
+        → QueueStandsFor queue.old (before ++ track ∷ after) bound given → index ≡ length before
+        → step ≡ next_step track → (repeats ≡ true → Repeats track mark)
+        → QueueStandsFor queue.new (before ++ longer track mark ∷ after) bound given) }
 {
     if repeats {
         return Ok(());
     }
     queue.mark(index, step, mark)
-}
-
-/// What the next step of a trace brings.
-#[derive(Clone, Copy)]
-pub struct NextRow<'a> {
-    /// The step: `None` where either vessel is not seen at either tick.
-    pub seen: Option<&'a PairStep>,
-    /// What it answers to the atoms.
-    pub row: &'a AtomRow,
-    /// The state of the engagement before the step.
-    pub was: &'a EngagementState,
-    /// The state at it.
-    pub is: &'a EngagementState,
 }
 
 /// One trace: its first step, and the values of the rules' formulas so far. It stands for what the steps so far answer to the atoms.
@@ -96,17 +86,20 @@ impl AuditTrace {
     ghost use Rattle.mtl_monitor.specs.Reaches.{greatest_reach};
     ghost use Rattle.mtl_monitor.specs.declared.program.Program.{Program};
     ghost use Rattle.traces.specs.Audited.{AuditNumbers};
+    ghost use Rattle.traces.specs.Keeping.{IsNextRow};
     ghost use Rattle.traces.specs.Known.{Known, opened};
     ghost use Rattle.auditor.specs.Inner.RowAnswers.{MarksRule, MarksRules};
-    ghost use Rattle.auditor.specs.TraceKeeping.{AreTracksSoFar, HasTracksOf, IsNextRow, IsReady, StandsFor, Steps, steps_of};
+    ghost use Rattle.auditor.specs.TraceKeeping.{AreTracksSoFar, HasTracksOf, IsReady, StandsFor, Steps, steps_of};
     ghost use Rattle.auditor.specs.SettledRows.{formulas_of};
 
-    /// The trace that begins at a step, of which there are none yet.
+    /// Returns the trace that begins at a step, before its first step.
     pub fn new(alloc: Global, program: &Program, start: u32) -> Result<AuditTrace, Memory>
         requires early { start < 2 ^ 31 }
         ensures ready { IfOk result (IsReady program.now) }
         ensures steps { IfOk result (λ trace. steps_of trace ≡ 0) }
-        ensures stands { IfOk result (λ trace. (numbers : AuditNumbers) (pair : Pair) → IsProgramOf program.now (formulas_of numbers)
+        ensures stands { IfOk result
+            (λ trace. (numbers : AuditNumbers) (pair : Pair)
+            → IsProgramOf program.now (formulas_of numbers)
             → StandsFor program.now numbers trace (opened pair start)) }
     {
         Ok(AuditTrace {
@@ -144,7 +137,8 @@ impl AuditTrace {
         requires fits { Fits program.now self.now.values }
         requires few { fed_of self.now.values ≤ 2 ^ 31 }
         requires room { first + count_of program.now < 2 ^ 64 }
-        ensures { OnOk result (MarksRules program.now self.now first (count_of program.now) queue.old queue.new) }
+        ensures { OnOk result
+            (MarksRules program.now self.now first (count_of program.now) queue.old queue.new) }
     {
         for rule in 0..program.formula_count() {
             self.mark_rule(program, queue, first + rule, rule)?;
@@ -155,7 +149,8 @@ impl AuditTrace {
     /// Whether each formula has answered to a row before that of the step.
     #[inline(always)]
     fn has_answered(&self, program: &Program, step: u32) -> bool
-        ensures { result ≡ true → (formulas : List FormulaTree) → IsProgramOf program.now formulas → self.now.start + greatest_reach formulas < step }
+        ensures { result ≡ true → (formulas : List FormulaTree) → IsProgramOf program.now formulas
+            → self.now.start + greatest_reach formulas < step }
     {
         program.reach() < step.saturating_sub(self.start)
     }
@@ -173,9 +168,9 @@ impl AuditTrace {
         }
     }
 
-    /// Takes the row of the next step: its tracks, of which the meeting's is the one at this index, get the marks that it decides.
-    /// Where no formula's value changes, its rules' marks are those before, so that nothing is to be done for them. Nor is it for the
-    /// meeting's where the vessels stay apart.
+    /// Takes the row of the next step: its tracks get the marks that the row decides. The meeting's track is the one at this index.
+    /// If no formula's value changes, the marks of the rules repeat and need no work. Nor does the mark of the meeting if the vessels
+    /// stay apart.
     #[inline(always)]
     pub fn step(
         &mut self,
@@ -190,10 +185,14 @@ impl AuditTrace {
         requires room { first + count_of program.now + 1 < 2 ^ 64 }
         ensures ready { IsReady program.now self.new }
         ensures steps { steps_of self.new ≡ steps_of self.old + 1 }
-        ensures stands { OnOk result ((numbers : AuditNumbers) (ranks : ℕ → ByRank) (known : Known) (seen : Option PairStep) (before mine after : List Track) (bound : ℕ) (given : List Row)
-            → StandsFor program.now numbers self.old known → step ≡ known.start + length known.steps → IsNextRow numbers ranks known seen next.entry
-            → AreTracksSoFar numbers known mine → first ≡ length before → QueueStandsFor queue.old (before ++ mine ++ after) bound given
-            → Steps program.now numbers self.new known seen (answer_of next.entry.row.now) queue.new before after bound given) }
+        ensures stands { OnOk result
+            ((numbers : AuditNumbers) (ranks : ℕ → ByRank) (known : Known) (seen : Option PairStep)
+            (before mine after : List Track) (bound : ℕ) (given : List Row)
+            → StandsFor program.now numbers self.old known → step ≡ known.start + length known.steps
+            → IsNextRow numbers ranks known seen next.entry → AreTracksSoFar numbers known mine
+            → first ≡ length before → QueueStandsFor queue.old (before ++ mine ++ after) bound given
+            → Steps program.now numbers self.new known seen
+            (answer_of next.entry.row.now) queue.new before after bound given) }
     {
         let NextRow { seen, row, was, is } = next;
         let changes = self.values.feed(program, row);
@@ -215,8 +214,10 @@ impl AuditTrace {
         requires ready { IsReady program.now self.old }
         requires few { steps_of self.old ≤ 2 ^ 31 }
         requires room { first + count_of program.now + 1 < 2 ^ 64 }
-        ensures { OnOk result ((numbers : AuditNumbers) (known : Known) (before mine after : List Track) (bound : ℕ) (given : List Row)
-            → StandsFor program.now numbers self.old known → AreTracksSoFar numbers known mine → first ≡ length before
+        ensures { OnOk result
+            ((numbers : AuditNumbers) (known : Known) (before mine after : List Track) (bound : ℕ)
+            (given : List Row) → StandsFor program.now numbers self.old known
+            → AreTracksSoFar numbers known mine → first ≡ length before
             → QueueStandsFor queue.old (before ++ mine ++ after) bound given
             → HasTracksOf numbers known queue.new before after bound given) }
     {

@@ -1,1 +1,2 @@
 pub mod WorkedMeeting
+pub mod CountedRows

@@ -1,7 +1,7 @@
 //! Whole audits of a few vessels.
 ghost use Rattle.std.specs.Prelude.{ℤ, ◌≡◌, ◌+◌, ◌*◌, ◌<◌, ◌≤◌, ◌-ℤ◌, pos, [], IfOk, OnOk};
 ghost use Rattle.traces.specs.Audited.{AreAscending, ArePlaced, MoveLittle};
-ghost use Rattle.auditor_rows.specs.WorkedMeeting.{head_on_at, overtaking_at, seen_at};
+ghost use Rattle.auditor_rows.specs.WorkedMeeting.{head_on_at, overtaking_at, own_at, seen_at};
 ghost use Rattle.auditor.specs.Standing.{IsSound, given_of, last_tick_of, latest_vessels};
 
 use crate::compared::is;
@@ -114,20 +114,25 @@ fn other_north(k: u32) -> i64
     18_520_000 - 926_000 * i64::from(k)
 }
 
+/// The first vessel, which heads north at 18 knots, at a tick.
+fn own_at(k: u32) -> TickState
+    requires { k ≤ 40 }
+    ensures { result ≡ own_at k }
+{
+    TickState {
+        point: Point { x: 0, y: north(k) },
+        direction: Some(0),
+        speed: Some(180),
+    }
+}
+
 /// Two vessels that meet head-on at 18 knots each, 18.52 metres aside of each other, at a tick.
 pub(crate) fn head_on(k: u32) -> [(u32, TickState); 2]
     requires { k ≤ 40 }
     ensures { result ≡ head_on_at k }
 {
     [
-        (
-            OWN,
-            TickState {
-                point: Point { x: 0, y: north(k) },
-                direction: Some(0),
-                speed: Some(180),
-            },
-        ),
+        (OWN, own_at(k)),
         (
             OTHER,
             TickState {
@@ -148,14 +153,7 @@ fn overtaking(k: u32) -> [(u32, TickState); 2]
     ensures { result ≡ overtaking_at k }
 {
     [
-        (
-            OWN,
-            TickState {
-                point: Point { x: 0, y: north(k) },
-                direction: Some(0),
-                speed: Some(180),
-            },
-        ),
+        (OWN, own_at(k)),
         (
             OTHER,
             TickState {
@@ -231,7 +229,8 @@ fn take(
     ensures sound { OnOk result (IsSound audit.new) }
     ensures at { OnOk result (given_of audit.new ≡ k + 1) }
     ensures last { OnOk result (last_tick_of audit.new ≡ last_tick_of audit.old) }
-    ensures moves { OnOk result (MoveLittle (latest_vessels audit.new) (seen_at encounter.now.still (k + 1))) }
+    ensures moves { OnOk result
+        (MoveLittle (latest_vessels audit.new) (seen_at encounter.now.still (k + 1))) }
 {
     let seen = seen_at(encounter.still, k);
     let ranks = if k == 0 {

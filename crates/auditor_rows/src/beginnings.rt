@@ -2,16 +2,19 @@
 ghost use Rattle.std.specs.Prelude.{◌≤◌, IfOk, OnOk};
 ghost use Rattle.traces.specs.Audited.{MoveLittle};
 ghost use Rattle.traces.specs.Standing.{IsSound, latest_vessels};
+ghost use Rattle.traces.specs.Window.{IsSoundWindow};
+ghost use Rattle.auditor_rows.specs.CountedRows.{counted_rows};
 ghost use Rattle.auditor_rows.specs.WorkedMeeting.{head_on_at};
 
 use crate::audits::{ACT, ALL, BACK, DETECT, PAIR, UNRANKED, head_on};
 use crate::compared::is;
+use crate::row_counter::RowCounter;
 use encounters::EngagementState;
 use meetings::Pair;
 use sectors::Class;
 use std::alloc::Global;
 use std::process::Abort;
-use traces::{AllTraces, TickFault};
+use traces::{AllTraces, TickFault, TraceWindow};
 
 /// The traces of the meeting after its first tick, in a window of so many ticks.
 fn begun(alloc: Global, last_tick: u32) -> Result<AllTraces, TickFault>
@@ -100,5 +103,29 @@ fn the_first_step_of_a_meeting_begins_an_engagement(rt: HostRuntime) -> Result<(
     let mut traces = begun(rt.alloc(), 4)?;
     let stepped = take_first_step(&mut traces, 1);
     is(&rt, stepped, Some((None, Some(Class::HeadOn), true)));
+    Ok(())
+}
+
+/// The window of the meeting after its first three ticks, whose keeper counts rows.
+fn counted(alloc: Global) -> Result<TraceWindow<RowCounter>, TickFault>
+    ensures { IfOk result (λ window. IsSoundWindow counted_rows window.traces window.kept.items) }
+{
+    let traces = AllTraces::new(alloc, DETECT, ACT, &ALL, 10, 4)?;
+    let counter = RowCounter {
+        ended: Vec::new(alloc),
+    };
+    let mut window = TraceWindow::new(alloc, traces, counter);
+    let (first, second, third) = (head_on(0), head_on(1), head_on(2));
+    window.tick(&first, &UNRANKED)?;
+    window.tick(&second, &UNRANKED)?;
+    window.tick(&third, &UNRANKED)?;
+    Ok(window)
+}
+
+#[test]
+fn each_of_two_traces_has_a_row_for_each_step(rt: HostRuntime) -> Result<(), TickFault> {
+    let window = counted(rt.alloc())?;
+    let counter = window.end()?;
+    is(&rt, counter.ended.as_slice(), [2, 2].as_slice());
     Ok(())
 }

@@ -46,8 +46,8 @@ fn fleet(alloc: Global, points: &[(i32, i32)]) -> Result<Vec<(u32, TickState)>, 
 
 static POINTS: [(i32, i32); 5] = [(3001, 4000), (0, 0), (3000, 4000), (-5000, 0), (-5001, 0)];
 
-/// The vessels at the points of which one is a subject, or all where there are no subjects, are in contact in these pairs, at a watch
-/// distance of 5000.
+/// Checks that the vessels at the points are in contact in these pairs, at a watch distance of 5000. One vessel of a pair is a
+/// subject, if there are any.
 fn are_in_contact(
     rt: &impl Abort,
     alloc: Global,

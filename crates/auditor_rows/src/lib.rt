@@ -18,6 +18,8 @@ mod queues;
 #[cfg(test)]
 mod ranked;
 #[cfg(test)]
+mod row_counter;
+#[cfg(test)]
 mod row_texts;
 #[cfg(test)]
 mod stretches;

@@ -15,7 +15,7 @@ fn broken_by_rank(totals: &[Total]) -> Option<u64> {
     Some(totals.get(11)?.no)
 }
 
-/// These are the rows of 40 ticks, none of which comes with the end, and so many positions broke the last of twelve rules.
+/// Checks that these are the rows of 40 ticks, that none comes with the end, and how many positions broke the last of twelve rules.
 fn comes_to(
     rt: &impl Abort,
     alloc: Global,

@@ -28,7 +28,7 @@ from_start : (px py wx wy : ℤ) (a b : ℕ) → norm2_of (pos b *ℤ px +ℤ po
     ≡ pos (b * b) *ℤ norm2_of px py +ℤ pos (2 * (a * b)) *ℤ dot_of px py wx wy +ℤ pos (a * a) *ℤ norm2_of wx wy
 from_start px py wx wy a b = rw (← diff_of px, ← diff_of py, ← diff_of wx, ← diff_of wy) (simp polynomials (diff_same _ _ _ _ (omega arith)))
 
--- from the instant n, where a and c make b n
+-- from the instant n, if a and c make b n
 from_end : (px py wx wy : ℤ) (n b c : ℕ)
     → norm2_of (pos b *ℤ px +ℤ (pos (b * n) -ℤ pos c) *ℤ wx) (pos b *ℤ py +ℤ (pos (b * n) -ℤ pos c) *ℤ wy)
     ≡ pos (b * b) *ℤ norm2_of (px +ℤ pos n *ℤ wx) (py +ℤ pos n *ℤ wy) -ℤ pos (2 * (b * c)) *ℤ (dot_of px py wx wy +ℤ pos n *ℤ norm2_of wx wy) +ℤ pos (c * c) *ℤ norm2_of wx wy

@@ -11,7 +11,7 @@ use Rattle.closest_approach.proofs.Order.{times-le, once}
 use Rattle.closest_approach.proofs.LeastDistance.{norm2-nonneg, least_at_start, least_at_end, square_within, least_within}
 use Rattle.closest_approach.proofs.Choice.{by_choice, nearest_of-is, back_is, size_is, some_length, in_time}
 
--- what is known of the moment of least distance up to so many ticks
+-- what is known of the moment of least distance up to this many ticks
 pub record IsLeastFor (step : RelativeMove) (ticks : ℕ) (moment : Moment) : Type 0 where
   pub some : 0 < moment.b
   pub within : moment.a ≤ moment.b * ticks

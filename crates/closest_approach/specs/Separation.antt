@@ -21,7 +21,7 @@ IsNearer step r a b = norm2_of (displacement_at step a b) <ℤ (pos (b * b) *ℤ
 unfoldable pub IsSeparated : RelativeMove → ℕ → Type 0
 IsSeparated step r = (a b : ℕ) → a ≤ b → 0 < b → IsApart step r a b
 
--- Separation by the two ends of the step and one comparison of squares: where the vessels are nearest between the ends,
+-- Separation by the two ends of the step and one comparison of squares: if the vessels are nearest between the ends,
 -- the square of the turn is at least r^2 times that of the change.
 pub record IsSeparatedByEnds (step : RelativeMove) (r : ℕ) : Type 0 where
   pub start : pos (r * r) ≤ℤ norm2_of step.p
@@ -29,7 +29,7 @@ pub record IsSeparatedByEnds (step : RelativeMove) (r : ℕ) : Type 0 where
   pub between : dot_of step.p step.w <ℤ pos 0 → neg_ℤ (dot_of step.p step.w) <ℤ norm2_of step.w
       → (pos (r * r) *ℤ norm2_of step.w) ≤ℤ (turn_of step.p step.w *ℤ turn_of step.p step.w)
 
--- At some instant a / b up to so many ticks after the beginning the distance is less than r.
+-- At some instant a / b up to this many ticks after the beginning the distance is less than r.
 pub record EntersWithin (step : RelativeMove) (r ticks : ℕ) : Type 0 where
   pub a : ℕ
   pub b : ℕ
@@ -42,8 +42,8 @@ abbrev pub IsNearest : RelativeMove → Moment → Type 0
 IsNearest step moment = (a b : ℕ) → a ≤ b → 0 < b →
     (pos (b * b) *ℤ norm2_of (displacement_at step moment.a moment.b)) ≤ℤ (pos (moment.b * moment.b) *ℤ norm2_of (displacement_at step a b))
 
--- the moment of least distance up to so many ticks after the beginning: the beginning, where the vessels draw apart from
--- it on; the end, where they close up to it; else - p.w / |w|^2
+-- the moment of least distance up to this many ticks after the beginning: the beginning, if the vessels draw apart from
+-- it on; the end, if they close up to it; otherwise - p.w / |w|^2
 unfoldable pub nearest_of : RelativeMove → ℕ → Moment
 nearest_of step ticks =
     if int_le (pos 0) (dot_of step.p step.w) then record { a = 0; b = 1 }

@@ -23,7 +23,7 @@ pub(crate) struct SquaredDistance {
     pub(crate) under: u128,
 }
 
-/// The dot product of the displacement and its change: below 0 where the vessels close.
+/// The dot product of the displacement and its change: below 0 if the vessels close.
 fn along(step: &Step) -> i128
     ensures value { result ≡ dot_of step.now.p step.now.w }
     ensures small { unsigned_abs result ≤ 2 ^ 61 }

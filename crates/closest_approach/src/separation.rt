@@ -25,7 +25,7 @@ pub fn separated(step: &Step, r: u64) -> bool
 }
 
 /// Whether the distance is less than `r` tenths of a millimetre at some rational instant up to `ticks` ticks after the
-/// beginning, at most 7200, where both vessels go on as in the step.
+/// beginning, at most 7200, if both vessels go on as in the step.
 pub fn enters_within(step: &Step, r: u64, ticks: u32) -> bool
     requires r { r < 2 ^ 31 }
     requires ticks { ticks ≤ 7200 }
@@ -44,8 +44,8 @@ pub fn least(step: &Step) -> u64
     isqrt(square.over / square.under)
 }
 
-/// The instant of least distance, at which the distance is less than `r` tenths of a millimetre: `0 / 1` where the vessels draw apart, `1 / 1`
-/// where they close up to the end, and else `-p.w / |w|^2`, not reduced. `None` where the step is separated by `r`.
+/// The instant of least distance, at which the distance is less than `r` tenths of a millimetre: `0 / 1` if the vessels draw apart, `1 / 1`
+/// if they close up to the end, and otherwise `-p.w / |w|^2`, not reduced. `None` if the step is separated by `r`.
 pub fn entry(step: &Step, r: u64) -> Option<Moment>
     requires { r < 2 ^ 31 }
     ensures none { IsNone result ↔ IsSeparated step.now r }

@@ -2,7 +2,7 @@
 #![tactic(auto)]
 
 use colregs_program::{Status, run};
-use command_line::{Told, told_text, told_word};
+use command_line::{InfoRequest, info_request, info_text};
 use out_of_memory::Memory;
 use outside::{FileShelf, StdSink, StdSource, Word, put_all};
 use std::alloc::AllocError;
@@ -10,15 +10,15 @@ use std::process::ExitCode;
 use std::{env, io};
 use thiserror::Error;
 
-/// The exit status where the runtime does not give the words. `run` never gives it.
+/// The exit status if the runtime does not give the arguments. `run` never gives it.
 const NO_WORDS: u8 = 20;
 
-/// Why the words are not to be had.
+/// Why the arguments are not available.
 #[derive(Debug, Drop, Error)]
 enum WordsFault {
-    #[error("the words of the command line are not to be had: {0}")]
+    #[error("cannot read the command-line arguments: {0}")]
     Runtime(#[from] io::Error),
-    #[error("there is no memory for the words of the command line")]
+    #[error("out of memory while reading the command-line arguments")]
     Memory,
 }
 
@@ -34,7 +34,7 @@ impl From<Memory> for WordsFault {
     }
 }
 
-/// The words behind the program's name.
+/// The arguments after the program's name.
 fn words(rt: &HostRuntime) -> Result<Vec<Word>, WordsFault> {
     let mut words = Vec::new(rt.alloc());
     for word in env::args(rt)?.skip(1) {
@@ -46,9 +46,9 @@ fn words(rt: &HostRuntime) -> Result<Vec<Word>, WordsFault> {
     Ok(words)
 }
 
-/// Writes what the program tells of itself to standard output.
-fn tell(rt: &HostRuntime, told: Told) -> Status {
-    let Ok(text) = told_text(rt.alloc(), told) else {
+/// Writes what the program says about itself to standard output.
+fn write_info(rt: &HostRuntime, request: InfoRequest) -> Status {
+    let Ok(text) = info_text(rt.alloc(), request) else {
         let _ = eprintln!(rt; "memory");
         return Status::Memory;
     };
@@ -67,8 +67,8 @@ fn main(rt: HostRuntime) -> ExitCode {
             return ExitCode::from(NO_WORDS);
         }
     };
-    if let Some(told) = told_word(words.as_slice()) {
-        return ExitCode::from(tell(&rt, told).number());
+    if let Some(request) = info_request(words.as_slice()) {
+        return ExitCode::from(write_info(&rt, request).number());
     }
     let Ok(files) = rt.clone() else {
         return ExitCode::from(Status::Memory.number());

@@ -44,7 +44,7 @@ if_some : (found : Option (List ℕ)) (P Q : List ℕ → Type 0) → ((bytes : 
 if_some None P Q more holds = holds
 if_some (Some bytes) P Q more holds = more bytes holds
 
--- the same run, of which less is said
+-- the same run, with a weaker statement about its rows
 runs_also : (words : List (List ℕ)) (files : Files) (Q : ReportRequest → Type 0) (P P' : ReportRequest → List ℕ → Scenario → Type 0)
     → ((request : ReportRequest) (rows : List ℕ) (scenario : Scenario) → P request rows scenario → P' request rows scenario)
     → Runs words (Some files) Q P → Runs words (Some files) (λ _. Unit {0}) P'

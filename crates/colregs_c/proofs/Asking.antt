@@ -1,7 +1,7 @@
 -- The arguments that stand for numbers in their ranges have the plain form, and ask for what the numbers say.
 use Rattle.std.proofs.Common.{ℕ, ◌≡◌, ◌==◌, ◌≤◌, ◌&&◌, ◌||◌, ◌++◌, Bool, true, false, not, nat_le, IsTrue, List, [], ◌∷◌, codes, Some, None, refl, arith, if◌then◌else◌}
 use Rattle.std.proofs.lemmas.Bool.Decides.{nat_tests}
-use Rattle.command_line.specs.CommandLine.{Setting, Value, a_flag, a_number, mode_text, rows_file, seed, start, ticks, why}
+use Rattle.command_line.specs.CommandLine.{CommandOption, Value, a_flag, a_number, mode_text, rows_file, seed, start, ticks, why}
 use Rattle.command_line.specs.GivenArguments.{AreOnce, ArePlain, MayAllBeGiven, value_among, value_of}
 use Rattle.command_line.specs.Requests.{IsPlain, request_by}
 use Rattle.command_line.specs.declared.arguments.Arguments.{Arguments}
@@ -29,7 +29,7 @@ or_first false b either none = cc (either, none)
 
 -- ---- the options that are given, by what stands for the scenario's own
 
-abbrev given_by : Bool → Bool → Bool → ℕ → ℕ → ℕ → List (Setting × Value)
+abbrev given_by : Bool → Bool → Bool → ℕ → ℕ → ℕ → List (CommandOption × Value)
 given_by own_begin own_ticks silent begin count number =
     (if own_begin then [] else (start, a_number begin) ∷ [])
     ++ ((if own_ticks then [] else (ticks, a_number count) ∷ []) ++ (((seed, a_number number) ∷ []) ++ (if silent then [] else (why, a_flag true) ∷ [])))
@@ -67,7 +67,7 @@ may_by false true false begin count number first second third = ((from_zero begi
 may_by false false true begin count number first second third = ((from_zero begin, first refl), (second refl, ((from_zero number, third), tt)))
 may_by false false false begin count number first second third = ((from_zero begin, first refl), (second refl, ((from_zero number, third), (refl, tt))))
 
-values_by : (a b d : Bool) (begin count number : ℕ) (s : Setting) → value_of s (options_by a b d begin count number) ≡ value_among s (given_by a b d begin count number)
+values_by : (a b d : Bool) (begin count number : ℕ) (s : CommandOption) → value_of s (options_by a b d begin count number) ≡ value_among s (given_by a b d begin count number)
 values_by true true true begin count number start = refl
 values_by true true true begin count number ticks = refl
 values_by true true true begin count number seed = refl

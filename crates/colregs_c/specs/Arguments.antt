@@ -1,9 +1,9 @@
 -- The arguments of the program that a call's numbers stand for.
 use Rattle.std.specs.Prelude.{ℕ, ◌≡◌, ◌==◌, ◌-◌, ◌^◌, ◌&&◌, ◌||◌, ◌++◌, Bool, true, false, not, nat_le, nat_lt, codes, List, [], ◌∷◌, map, unwrap_or, slice_get, Option, Some, None, if◌then◌else◌}
 use Rattle.std.specs.List.{flat_map}
-use Rattle.command_line.specs.CommandLine.{Setting, Value, a_flag, a_number, mode_text, modes, seed, start, ticks, why}
+use Rattle.command_line.specs.CommandLine.{CommandOption, Value, a_flag, a_number, mode_text, modes, seed, start, ticks, why}
 use Rattle.command_line.specs.GivenArguments.{setting_words}
-use Rattle.command_line.specs.Requests.{task_by}
+use Rattle.tasks.specs.Tasks.{task_by}
 use Rattle.command_line.specs.declared.mode.ModeArgument.{ModeArgument}
 use Rattle.command_line.specs.declared.mode.ModeArgument.TheVariants as argument
 use Rattle.command_line.specs.declared.request.Request.{Request}
@@ -28,19 +28,19 @@ asked_mode number options = if are_in_range options then slice_get modes number 
 
 -- ---- the options that are given, each with its value
 
-abbrev pub start_given : ℕ → List (Setting × Value)
+abbrev pub start_given : ℕ → List (CommandOption × Value)
 start_given n = if n == own_start then [] else (start, a_number n) ∷ []
 
-abbrev pub ticks_given : ℕ → List (Setting × Value)
+abbrev pub ticks_given : ℕ → List (CommandOption × Value)
 ticks_given n = if n == 0 then [] else (ticks, a_number n) ∷ []
 
-abbrev pub seed_given : ℕ → List (Setting × Value)
+abbrev pub seed_given : ℕ → List (CommandOption × Value)
 seed_given n = (seed, a_number n) ∷ []
 
-abbrev pub why_given : ℕ → List (Setting × Value)
+abbrev pub why_given : ℕ → List (CommandOption × Value)
 why_given n = if n == 0 then [] else (why, a_flag true) ∷ []
 
-abbrev pub given : OptionNumbers → List (Setting × Value)
+abbrev pub given : OptionNumbers → List (CommandOption × Value)
 given options = start_given options.start ++ (ticks_given options.ticks ++ (seed_given options.seed ++ why_given options.flags))
 
 -- the mode's name, the scenario's, and then the options

@@ -34,7 +34,8 @@ fn push_number(
 
 /// Appends the start, unless it is the scenario's own.
 fn push_start(alloc: Global, words: &mut Vec<Word>, start: u64) -> Result<(), Memory>
-    ensures { OnOk result (words.new.items ≡ words.old.items ++ flat_map setting_words (start_given start)) }
+    ensures { OnOk result
+        (words.new.items ≡ words.old.items ++ flat_map setting_words (start_given start)) }
 {
     if start == OWN_START {
         return Ok(());
@@ -44,7 +45,8 @@ fn push_start(alloc: Global, words: &mut Vec<Word>, start: u64) -> Result<(), Me
 
 /// Appends the length of the window, unless it is the scenario's own.
 fn push_ticks(alloc: Global, words: &mut Vec<Word>, ticks: u32) -> Result<(), Memory>
-    ensures { OnOk result (words.new.items ≡ words.old.items ++ flat_map setting_words (ticks_given ticks)) }
+    ensures { OnOk result
+        (words.new.items ≡ words.old.items ++ flat_map setting_words (ticks_given ticks)) }
 {
     if ticks == OWN_TICKS {
         return Ok(());
@@ -54,7 +56,8 @@ fn push_ticks(alloc: Global, words: &mut Vec<Word>, ticks: u32) -> Result<(), Me
 
 /// Appends the question why there is no plan, if it is asked.
 fn push_why(alloc: Global, words: &mut Vec<Word>, flags: u32) -> Result<(), Memory>
-    ensures { OnOk result (words.new.items ≡ words.old.items ++ flat_map setting_words (why_given flags)) }
+    ensures { OnOk result
+        (words.new.items ≡ words.old.items ++ flat_map setting_words (why_given flags)) }
 {
     if flags == 0 {
         return Ok(());

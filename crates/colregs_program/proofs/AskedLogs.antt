@@ -1,4 +1,4 @@
--- What is said of a log that is read or made, as it is said of the log of a request.
+-- What holds of a log that is read or made holds of the log of a request.
 use Rattle.std.proofs.Common.{ℕ, ◌≡◌, inl, inr, Bool, List, [], length, false, Option, None, Some, IfSome, Err, refl, IsTrue, ap, sym, subst, arith, ◌∙◌}
 use Rattle.std.specs.Io.KnownBytes.{Appends}
 use Rattle.outside.specs.Streams.{AppendsPart}
@@ -107,7 +107,7 @@ cause_of_read request rows scenario left left' contents contents' (fault.Unrepor
 nothing_in_part : (contents contents' : Option (List ℕ)) (text : List ℕ) → text ≡ [] → AppendsPart contents contents' text → ⊥
 nothing_in_part contents contents' text empty part = let lt = part.1 in let none : length text ≡ 0 = ap length empty in omega (arith, lt, none)
 
--- what was read of a log that is told is a front of it
+-- what was read of a log with known bytes is a front of it
 front_left : (m : Mode) (scenario : Scenario) (log : List ℕ) (left' contents contents' : Option (List ℕ)) → LeavesSettled m scenario (Some log) left' contents contents' → GainsFront m scenario log contents contents'
 front_left m scenario log None contents contents' leaves = absurd leaves.taken
 front_left m scenario log (Some rest) contents contents' leaves = record { front = leaves.read; rest = rest; whole = leaves.taken; gains = leaves.gains }

@@ -72,7 +72,7 @@ rows_due : (needs : Bool) (held : Files) (name rows : List ℕ) → AreRowsWhere
 rows_due true held name rows are = (held, are.0, refl, are.1, are.2)
 rows_due false held name rows are = ap Ok are
 
--- where the shelf tells a scenario, it tells the rows too
+-- if the shelf has a known scenario, its rows are known too
 rows_told : (request : ReportRequest) (files : Option Files) (scenario : Scenario) (rows : List ℕ) → HasScenario files request scenario → AreRows files request rows → AreRowsDue request files (Ok rows)
 rows_told request files scenario rows lies are =
     subst (λ (f : Option Files). AreRowsDue request f (Ok rows)) (sym lies.2)

@@ -47,7 +47,7 @@ module _ (name : List ℕ) (v : Vec ℕ Global) (why : ScenarioFault)
   held_due held fetch due (inr (inr (inr (is, lies)))) =
       subst (IsAnswered why) (sym is) (can_not why refl (of_found held name v.items MayBe fetch.0 lies).1)
 
-  -- where the shelf tells nothing, nothing is due
+  -- if nothing on the shelf is known, nothing is due
   untold : (due : Status) → IsMigrationDue name None due → IsAnswered why due
   untold due (inl (is, missing)) = absurd missing
   untold due (inr (inl (is, lies))) = cc lies.2

@@ -44,7 +44,7 @@ use Rattle.colregs_program.specs.declared.status.Which.TheVariants as which
 use Rattle.colregs_program.proofs.Due.{Follows, set_up_due, usage_due}
 use Rattle.colregs_program.proofs.SettingUp.{GivesDue}
 
--- An answer is told as it is, or as want of memory.
+-- An answer is reported as it is, or as memory that ran out.
 abbrev pub IsTold : Status → Status → Type 0 → Type 0
 IsTold told answer Made = (told ≡ answer) ⊎ ((told ≡ status.Memory) × Made)
 
@@ -59,7 +59,7 @@ memory_told told Made (inr memory) = memory.0
 rose : (before now : ℕ) → now ≡ one_more before → Rose before now
 rose before now is = omega (arith, is)
 
--- setting up came to what is due, or to want of memory
+-- setting up ended with the answer that is due, or memory ran out
 came_due : (words : List (List ℕ)) (files : Option Files) (log : Option (List ℕ)) (request : ReportRequest) (due : Status) (before now : ℕ) (came : Result SetFor SetUpFault)
     → AskFor words (asks.Report request) → IsDue words files log due → GivesDue request files before now came → ¬ Rose before now
     → Follows log request due came ⊎ (came ≡ Err fault.Memory)
@@ -229,7 +229,7 @@ module _ (request : ReportRequest) (rows : List ℕ) (scenario : Scenario) (left
       if_some (λ bytes. Reports (task_of request rows) scenario bytes none contents contents') (λ bytes. IsAnswered (task_of request rows) scenario bytes answer × GainsReport (task_of request rows) scenario bytes contents contents')
       (log_of request scenario left) (λ bytes reported. (record { came = Ok none; met = reported.met; is = is }, reported.gains)) reports
 
-  -- ---- what is told of a log
+  -- ---- what is known of a log
 
   abbrev Either : Status → Type 0
   Either answer = StopsWith request scenario left contents contents' answer ⊎ EndsWith request rows scenario left left' contents contents' answer
@@ -362,7 +362,7 @@ module _ (request : ReportRequest) (rows : List ℕ) (scenario : Scenario) (left
   nothing_told (stream.Unreported (why.Entry index)) limit told Made (inl same) is cause = cause.1
   nothing_told (stream.Unreported why.Memory) limit told Made (inl same) is cause = (let no = subst (λ (s : Status). IsTrue (WritesNothing s)) same is in cc no)
 
-  -- ---- want of memory
+  -- ---- memory that ran out
 
   abbrev Front : Type 0
   Front = IfSome (log_of request scenario left) (λ log. GainsFront (task_mode request.task) scenario log contents contents')
@@ -407,7 +407,7 @@ module _ (request : ReportRequest) (rows : List ℕ) (scenario : Scenario) (left
 
 -- ---- a run that writes
 
--- What is told of the bytes under a name follows.
+-- What is known of the bytes under a name follows.
 held_so : (files : Option Files) (name : List ℕ) (P Q : List ℕ → Type 0) → ((text : List ℕ) → P text → Q text) → HoldsUnder files name P → HoldsUnder files name Q
 held_so None name P Q so holds = tt
 held_so (Some held) name P Q so (text, found, p) = (text, found, so text p)
@@ -450,7 +450,7 @@ pub drill_told : (told answer : Status) (Made : Type 0) → IsTold told answer M
 drill_told told answer Made (inl same) is = subst (λ (s : Status). IsTrue (IsOfDrill s)) (sym same) is
 drill_told told answer Made (inr memory) is = subst (λ (s : Status). IsTrue (IsOfDrill s)) (sym memory.0) refl
 
--- what a drill's fault is told as
+-- how a drill's fault is reported
 pub drill_status : (because : StreamFault) (limit : ℕ) → IsTrue (is_of_drill because) → IsTrue (IsOfDrill (stream_status because limit))
 drill_status stream.NotRead limit is = cc is
 drill_status stream.NotWritten limit is = refl
@@ -471,7 +471,7 @@ drill_done false is = refl
 
 module _ (words : List (List ℕ)) (asked : Result Request WordsFault) (why : WordsFault) (told : Status) (Made : Type 0) (failed : asked ≡ Err why)
     (is_told : IsTold told (words_fault.answer_of why) Made) where
-  -- words that ask for a request fail for want of memory alone
+  -- arguments that ask for a request fail only if memory runs out
   pub memory_failed : (request : Request) → (asked ≡ Ok request) ⊎ (asked ≡ Err unasked.Memory) → told ≡ status.Memory
   memory_failed request (inl had) = cc (had, failed)
   memory_failed request (inr memory) =

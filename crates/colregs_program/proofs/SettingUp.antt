@@ -47,7 +47,7 @@ or_within : (P : ℕ → Type 0) (o : Option ℕ) (n : ℕ) → IfSome o P → P
 or_within P None n given own = own
 or_within P (Some m) n given own = given
 
--- in place of values in their ranges they are in the same
+-- instead of values in their ranges they are in the same
 pub in_range : (options : WindowOptions) (scenario : Scenario) → AreOptions options → IsInRange scenario → IsInRange (with_options options scenario)
 in_range options scenario are range =
     let ticks : (1 ≤ unwrap_or options.ticks scenario.window.ticks) × (unwrap_or options.ticks scenario.window.ticks ≤ 20000) =

@@ -136,7 +136,7 @@ module _ (session : Session) (first left left' contents now : Option (List ℕ))
         gains = gains_so_far session has.fed has.given contents now has.stands has.gained;
       }
 
--- what holds but for want of memory
+-- what holds unless memory ran out
 unless : (P : Type 0) (because : SessionFault) → (because ≡ why.Memory → ⊥) → UnlessMemory because P → P
 unless P why.Vessels some holds = holds
 unless P why.Pairs some holds = holds

@@ -35,11 +35,11 @@ Requested words P = (request : Request) × AskFor words request × P request
 abbrev pub ReportRequested : List (List ℕ) → (ReportRequest → Type 0) → Type 0
 ReportRequested words P = (request : ReportRequest) × AskFor words (asked.Report request) × P request
 
--- The shelf tells its files, and P holds of the bytes that lie under the name.
+-- The files of the shelf are known, and P holds of the bytes that lie under the name.
 abbrev pub LiesUnder : Option Files → List ℕ → (List ℕ → Type 0) → Type 0
 LiesUnder files name P = (held : Files) × (text : List ℕ) × (files ≡ Some held) × (content_of name held ≡ Some text) × P text
 
--- P holds of the bytes that lie under the name, where the shelf tells its files; nothing is said where it does not.
+-- If the files of the shelf are known, P holds of the bytes that lie under the name.
 abbrev pub HoldsUnder : Option Files → List ℕ → (List ℕ → Type 0) → Type 0
 HoldsUnder None name P = Unit {0}
 HoldsUnder (Some held) name P = (text : List ℕ) × (content_of name held ≡ Some text) × P text
@@ -64,7 +64,7 @@ AreRowsWhere false files name rows = rows ≡ []
 abbrev pub AreRows : Option Files → ReportRequest → List ℕ → Type 0
 AreRows files request rows = AreRowsWhere (needs_rows (task_mode request.task)) files (task_rows request.task) rows
 
--- The words ask for a report on a log, and Q holds of the request; and where the shelf tells its files, the bytes under the request's
+-- The words ask for a report on a log, and Q holds of the request; and if the files of the shelf are known, the bytes under the request's
 -- name are those of a scenario, and P holds of the request, of the rows that it needs and of the scenario's values.
 abbrev pub Runs : List (List ℕ) → Option Files → (ReportRequest → Type 0) → (ReportRequest → List ℕ → Scenario → Type 0) → Type 0
 Runs words files Q P =
@@ -76,7 +76,7 @@ Runs words files Q P =
 abbrev pub AskForMigration : List (List ℕ) → List ℕ → Type 0
 AskForMigration words name = AskFor words (asked.Migration name)
 
--- The words ask for a migration; and where the shelf tells its files, the bytes under the request's name are those of a scenario of
+-- The words ask for a migration; and if the files of the shelf are known, the bytes under the request's name are those of a scenario of
 -- version 1, and P holds of some text that is the same scenario in version 2.
 abbrev pub Migrates : List (List ℕ) → Option Files → (List ℕ → Type 0) → Type 0
 Migrates words files P =
@@ -87,7 +87,7 @@ Migrates words files P =
 abbrev pub IsReadBy : Mode → Option (List ℕ) → Type 0
 IsReadBy mode left = IsTrue (reads_log mode) → IsAtEnd left
 
--- The request's log is answered so, where it is told.
+-- The request's log has this answer, if its bytes are known.
 abbrev pub MetIn : ReportRequest → List ℕ → Scenario → Option (List ℕ) → Status → Type 0
 MetIn request rows scenario given answer = IfSome (log_of request scenario given) (λ bytes. IsAnswered (task_of request rows) scenario bytes answer)
 
@@ -107,11 +107,11 @@ WritesPart request rows scenario given left contents contents' =
     (IsTrue (reads_log (task_mode request.task)) × LeavesPart (task_mode request.task) scenario given left contents contents')
     ⊎ (IsReadBy (task_mode request.task) left × IfSome (log_of request scenario given) (λ bytes. GainsPart (task_of request rows) scenario bytes contents contents'))
 
--- The shelf tells a scenario under the request's name.
+-- A known scenario lies under the request's name.
 abbrev pub HasScenario : Option Files → ReportRequest → Scenario → Type 0
 HasScenario files request scenario = LiesUnder files request.name (λ text. IsScenario request text scenario)
 
--- The words ask for a report on a log, the shelf tells a scenario under the request's name, and the rows that it needs, and its log is told.
+-- The words ask for a report on a log; the scenario under the request's name, the rows that it needs and its log are known.
 pub record IsReady (words : List (List ℕ)) (files : Option Files) (given : Option (List ℕ))
     (request : ReportRequest) (rows : List ℕ) (scenario : Scenario) (bytes : List ℕ) : Type 0 where
   pub asked : AskFor words (asked.Report request)
@@ -129,12 +129,12 @@ MeetsAnswer words files log answer =
 abbrev pub CanMigrate : List ℕ → Type 0
 CanMigrate text = (key : Key) (cause : Cause) → ¬ IsNotMigrated text key cause
 
--- The words ask for a migration, and the shelf tells bytes under the request's name that can be migrated.
+-- The words ask for a migration, and the bytes under the request's name are known and can be migrated.
 abbrev pub MayMigrate : List (List ℕ) → Option Files → Type 0
 MayMigrate words files =
     (name : List ℕ) × AskForMigration words name × LiesUnder files name (λ text. (length text ≤ greatest_scenario) × CanMigrate text)
 
--- The request's mode needs rows, of a scenario that the shelf tells, and P holds of their name.
+-- The request's mode needs rows, its scenario is known, and P holds of the rows' name.
 abbrev pub LooksForRows : Option Files → ReportRequest → (List ℕ → Type 0) → Type 0
 LooksForRows files request P =
     IsTrue (needs_rows (task_mode request.task)) × ((scenario : Scenario) × HasScenario files request scenario) × P (task_rows request.task)
@@ -148,7 +148,7 @@ MissesFile files request =
 abbrev pub HasLongRows : Option Files → ReportRequest → Type 0
 HasLongRows files request = LooksForRows files request (λ name. LiesUnder files name (λ text. GREATEST_TEXT < length text))
 
--- The answer that words, shelf and log call for, where the shelf and the log tell what they hold: the first that stands in
+-- The answer that words, shelf and log call for, if the contents of the shelf and the log are known: the first that stands in
 -- the way of a run; and where nothing does, `NoManoeuvre` where every plan fails, and `Done` else.
 abbrev pub IsDue : List (List ℕ) → Option Files → Option (List ℕ) → Status → Type 0
 IsDue words files log status.Usage = AskForNothing words

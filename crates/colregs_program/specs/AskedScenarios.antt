@@ -11,7 +11,7 @@ use Rattle.tasks.specs.Modes.{needs_rows, reads_log}
 use Rattle.tasks.specs.Tasks.{says_why, task_mode, task_seed}
 use Rattle.sessions.specs.Tasks.{Task}
 
--- the window, with the start and the length that are given in place of its own
+-- the window, with the start and the length that are given instead of its own
 abbrev pub window_with : WindowOptions → Window → Window
 window_with options window = record window { start = unwrap_or options.start window.start; ticks = unwrap_or options.ticks window.ticks }
 

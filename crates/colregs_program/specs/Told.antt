@@ -1,10 +1,10 @@
--- What is told of a source or a sink, and what a line on standard error does to it.
+-- What is known of a source or a sink, and what a line on standard error does to it.
 use Rattle.std.specs.Prelude.{ℕ, List, Option}
 use Rattle.std.specs.Io.KnownBytes.{Appends}
 use Rattle.outside.specs.Causes.{Rose}
 use Rattle.outside.specs.Streams.{AppendsFront}
 
--- the bytes of a source or a sink, where it tells them, and how often it has failed
+-- the bytes of a source or a sink, if they are known, and how often it has failed
 pub record Told : Type 0 where
   pub bytes : Option (List ℕ)
   pub faults : ℕ

@@ -18,7 +18,8 @@ pub(crate) enum FaultLine {
 
 /// The line of a fault whose words hold no number, so that no memory is needed for it; nothing where the run is finished.
 fn fixed_line(status: &Status) -> Option<&'static str>
-    ensures { MatchOption result (IsTrue (is_made status.now)) (λ line. line.now ≡ fault_line status.now) }
+    ensures { MatchOption result (IsTrue (is_made status.now))
+        (λ line. line.now ≡ fault_line status.now) }
 {
     match status {
         Status::Done | Status::NoManoeuvre => Some(""),

@@ -25,7 +25,8 @@ pub(crate) fn fetch_text<H: Shelf>(
     shelf: &mut H,
 ) -> Result<Vec<u8>, FetchFault>
     ensures content { Fetches (H.files shelf.old) name.now limit (fetched_of result) }
-    ensures cause { FetchCause (H.files shelf.old) name.now (H.faults shelf.old) (H.faults shelf.new) (fetched_of result) }
+    ensures cause { FetchCause (H.files shelf.old) name.now (H.faults shelf.old)
+        (H.faults shelf.new) (fetched_of result) }
     ensures same { H.files shelf.new ≡ H.files shelf.old }
     ensures counted { H.fetches shelf.new ≡ one_more (H.fetches shelf.old) }
 {

@@ -6,7 +6,7 @@
 //!
 //! Over an empty log `points` writes 21 rows, each with the count 0, from `lines,empty,0` to `lines,point,0`, however the scenario's reads
 //! are cut. A scenario without a version writes nothing, and is answered by the fault `version: missing`.
-//! What a report says has no place here, and neither has the world: shelf, source and sink are given.
+//! Out of scope: what a report says, and the world. The caller gives shelf, source and sink.
 #![tactic(auto)]
 
 mod fault_line;

@@ -26,8 +26,10 @@ use std::alloc::Global;
 
 /// The scenario of a name, as one of version 2.
 fn migrated<H: Shelf>(alloc: Global, name: &Word, shelf: &mut H) -> Result<Vec<u8>, SetUpFault>
-    ensures migrated { IfOk result (λ text. HoldsMigrated (H.files shelf.old) name.now (λ migrated. migrated ≡ text.items)) }
-    ensures cause { IfErr result (MigrationCause name.now (H.files shelf.old) (H.faults shelf.old) (H.faults shelf.new)) }
+    ensures migrated { IfOk result
+        (λ text. HoldsMigrated (H.files shelf.old) name.now (λ migrated. migrated ≡ text.items)) }
+    ensures cause { IfErr result
+        (MigrationCause name.now (H.files shelf.old) (H.faults shelf.old) (H.faults shelf.new)) }
     ensures due { (due : Status) → IsMigrationDue name.now (H.files shelf.old) due
         → (H.faults shelf.new ≡ one_more (H.faults shelf.old)) ⊎ ComesTo result due }
     ensures fetched { H.fetches shelf.new ≡ one_more (H.fetches shelf.old) }
@@ -48,23 +50,32 @@ pub(crate) fn run_migration<H: Shelf, K: Sink, E: Sink>(
     out: &mut K,
     err: &mut E,
 ) -> Status
-    ensures done { IsTrue (IsFinished result) → (result ≡ Status.Done) × HoldsMigrated (H.files shelf.old) name.now
+    ensures done { IsTrue (IsFinished result)
+        → (result ≡ Status.Done)
+        × HoldsMigrated (H.files shelf.old) name.now
         (λ text. Appends (K.contents out.old) (K.contents out.new) text) }
     ensures due { (due : Status) → IsMigrationDue name.now (H.files shelf.old) due
         → ¬ Rose (H.faults shelf.old) (H.faults shelf.new)
         → ¬ Rose (K.faults out.old) (K.faults out.new)
         → (result ≡ due) ⊎ (result ≡ Status.Memory) }
-    ensures shelf_fault { result ≡ Status.ShelfFault → (H.faults shelf.new ≡ one_more (H.faults shelf.old)) ⊎ IsMissing (H.files shelf.old) name.now }
-    ensures scenario_limit { (most : ℕ) → result ≡ Status.Limit which.Scenario most → (most ≡ greatest_scenario)
+    ensures shelf_fault { result ≡ Status.ShelfFault
+        → (H.faults shelf.new ≡ one_more (H.faults shelf.old))
+        ⊎ IsMissing (H.files shelf.old) name.now }
+    ensures scenario_limit { (most : ℕ) → result ≡ Status.Limit which.Scenario most
+        → (most ≡ greatest_scenario)
         × HoldsUnder (H.files shelf.old) name.now (λ text. most < length text) }
     ensures refused { (key : Key) (cause : Cause) → result ≡ Status.Scenario key cause
-        → HoldsUnder (H.files shelf.old) name.now (λ text. (length text ≤ greatest_scenario) × IsNotMigrated text key cause) }
-    ensures write_fault { result ≡ Status.WriteFault → (K.faults out.new ≡ one_more (K.faults out.old))
-        × HoldsMigrated (H.files shelf.old) name.now (λ text. AppendsPart (K.contents out.old) (K.contents out.new) text) }
+        → HoldsUnder (H.files shelf.old) name.now
+        (λ text. (length text ≤ greatest_scenario) × IsNotMigrated text key cause) }
+    ensures write_fault { result ≡ Status.WriteFault
+        → (K.faults out.new ≡ one_more (K.faults out.old))
+        × HoldsMigrated (H.files shelf.old) name.now
+        (λ text. AppendsPart (K.contents out.old) (K.contents out.new) text) }
     ensures answers { IsTrue (IsOfMigration result) }
     ensures no_usage { result ≢ Status.Usage }
     ensures fetched { H.fetches shelf.new ≡ one_more (H.fetches shelf.old) }
-    ensures unwritten { IsFinished result ≡ false → result ≢ Status.WriteFault → Keeps (K.contents out.old) (K.contents out.new) }
+    ensures unwritten { IsFinished result ≡ false → result ≢ Status.WriteFault
+        → Keeps (K.contents out.old) (K.contents out.new) }
     ensures calm { result ≢ Status.WriteFault → K.faults out.new ≡ K.faults out.old }
     ensures shelf_calm { result ≢ Status.ShelfFault → H.faults shelf.new ≡ H.faults shelf.old }
     ensures limits { TellsLimit result }

@@ -43,10 +43,10 @@ use std::alloc::Global;
 /// came to each outcome. `audit SCENARIO` writes the report of `audit`: a row for each meeting and for each stretch on which a rule is
 /// broken or undecided, in their order, then the vessels, what each rule comes to, and the outcomes. `plan SCENARIO` takes the last tick
 /// as now and writes the report of `plan`: own ship and the vessels near her, the legs of the first of her plans that newly breaks no rule
-/// and enters no domain, or that there is none, and the outcomes. `drill SCENARIO` makes the log of forty vessels in place of reading one,
+/// and enters no domain, or that there is none, and the outcomes. `drill SCENARIO` makes the log of forty vessels instead of reading one,
 /// audits it, and writes what each rule comes to, and the outcomes. `migrate SCENARIO` writes the scenario as one of version 2, and looks
 /// at no log. `recheck SCENARIO` reads rows `why` from the shelf too, under the name that `--rows` gives, and writes that there is no plan where they say
-/// rightly why, without a search. `--start` and `--ticks` stand in place of the scenario's own start and length of the window.
+/// rightly why, without a search. `--start` and `--ticks` replace the scenario's own start and length of the window.
 ///
 /// What `err` gets names the fault. A run that stops before the log's end has written what the log before that place decides.
 pub fn run<H: Shelf, S: Source, K: Sink, E: Sink>(
@@ -61,10 +61,16 @@ pub fn run<H: Shelf, S: Source, K: Sink, E: Sink>(
     // which makes its log, and `out` gained exactly the report, which is that of the answer: `NoManoeuvre` comes exactly where every plan
     // fails. A printed plan is safe.
     // A finished migration wrote the same scenario in version 2.
-    ensures headline { IsTrue (IsFinished result) → Runs words.now (H.files shelf.old) (λ request. IsReadBy (task_mode request.task) (S.left log.new))
-        (λ request rows scenario. IfSome (log_of request scenario (S.left log.old)) (λ bytes. IsAnswered (task_of request rows) scenario bytes result
-        × GainsReport (task_of request rows) scenario bytes (K.contents out.old) (K.contents out.new)))
-        ⊎ ((result ≡ Status.Done) × Migrates words.now (H.files shelf.old) (λ text. Appends (K.contents out.old) (K.contents out.new) text)) }
+    ensures headline { IsTrue (IsFinished result)
+        → Runs words.now (H.files shelf.old)
+        (λ request. IsReadBy (task_mode request.task) (S.left log.new))
+        (λ request rows scenario. IfSome (log_of request scenario (S.left log.old))
+        (λ bytes. IsAnswered (task_of request rows) scenario bytes result
+        × GainsReport (task_of request rows) scenario bytes (K.contents out.old)
+        (K.contents out.new)))
+        ⊎ ((result ≡ Status.Done)
+        × Migrates words.now (H.files shelf.old)
+        (λ text. Appends (K.contents out.old) (K.contents out.new) text)) }
 
     // Completeness: the answer that words, shelf and log call for comes, where no call fails. Memory alone is free.
     ensures due { (due : Status) → IsDue words.now (H.files shelf.old) (S.left log.old) due
@@ -76,54 +82,89 @@ pub fn run<H: Shelf, S: Source, K: Sink, E: Sink>(
     // When each other answer comes.
     ensures usage { result ≡ Status.Usage → AskForNothing words.now }
     ensures no_usage { (request : Request) → AskFor words.now request → result ≢ Status.Usage }
-    ensures shelf_fault { result ≡ Status.ShelfFault → Requested words.now (λ request.
-        (H.faults shelf.new ≡ one_more (H.faults shelf.old)) ⊎ (IsMissing (H.files shelf.old) (scenario_name request)
-        ⊎ OfReport request (λ report. IsTrue (needs_rows (task_mode report.task)) × IsMissing (H.files shelf.old) (task_rows report.task)))) }
-    ensures scenario_limit { (most : ℕ) → result ≡ Status.Limit which.Scenario most → (most ≡ greatest_scenario)
-        × Requested words.now (λ request. HoldsUnder (H.files shelf.old) (scenario_name request) (λ text. most < length text)) }
+    ensures shelf_fault { result ≡ Status.ShelfFault
+        → Requested words.now
+        (λ request. (H.faults shelf.new ≡ one_more (H.faults shelf.old))
+        ⊎ (IsMissing (H.files shelf.old) (scenario_name request)
+        ⊎ OfReport request
+        (λ report. IsTrue (needs_rows (task_mode report.task))
+        × IsMissing (H.files shelf.old) (task_rows report.task)))) }
+    ensures scenario_limit { (most : ℕ) → result ≡ Status.Limit which.Scenario most
+        → (most ≡ greatest_scenario)
+        × Requested words.now
+        (λ request. HoldsUnder (H.files shelf.old) (scenario_name request)
+        (λ text. most < length text)) }
     ensures rows_limit { (most : ℕ) → result ≡ Status.Limit which.Rows most → (most ≡ GREATEST_TEXT)
         × ReportRequested words.now (λ request. IsTrue (needs_rows (task_mode request.task))
         × HoldsUnder (H.files shelf.old) (task_rows request.task) (λ text. most < length text)) }
     ensures refused { (key : Key) (cause : Cause) → result ≡ Status.Scenario key cause
-        → Requested words.now (λ request. HoldsUnder (H.files shelf.old) (scenario_name request) (λ text.
-        (length text ≤ greatest_scenario) × IsRefusedBy request text key cause)) }
+        → Requested words.now
+        (λ request. HoldsUnder (H.files shelf.old) (scenario_name request)
+        (λ text. (length text ≤ greatest_scenario) × IsRefusedBy request text key cause)) }
     // A run that a fault or a refusal stops has written what the bytes before it settle. Own ship's lacks, her targets and an entry that is not
     // right come at the log's end.
-    ensures read_fault { result ≡ Status.ReadFault → (S.faults log.new ≡ one_more (S.faults log.old))
-        × Runs words.now (H.files shelf.old) (λ request. IsTrue (reads_log (task_mode request.task)))
-        (λ request rows scenario. LeavesSettled (task_mode request.task) scenario (S.left log.old) (S.left log.new) (K.contents out.old) (K.contents out.new)) }
-    ensures log_limit { (most : ℕ) → result ≡ Status.Limit which.Log most → Runs words.now (H.files shelf.old)
-        (λ request. IsTrue (reads_log (task_mode request.task)) → StopsAt most 0 (S.left log.old) (S.left log.new) read.TooLong)
+    ensures read_fault { result ≡ Status.ReadFault
+        → (S.faults log.new ≡ one_more (S.faults log.old))
+        × Runs words.now (H.files shelf.old)
+        (λ request. IsTrue (reads_log (task_mode request.task)))
+        (λ request rows scenario. LeavesSettled (task_mode request.task) scenario (S.left log.old)
+        (S.left log.new) (K.contents out.old) (K.contents out.new)) }
+    ensures log_limit { (most : ℕ) → result ≡ Status.Limit which.Log most
+        → Runs words.now (H.files shelf.old)
+        (λ request. IsTrue (reads_log (task_mode request.task))
+        → StopsAt most 0 (S.left log.old) (S.left log.new) read.TooLong)
         (λ request rows scenario. (most ≡ scenario.log.max_bytes)
-        × StopsWith request scenario (S.left log.old) (K.contents out.old) (K.contents out.new) (Status.Limit which.Log most)) }
-    ensures vessel_limit { (most : ℕ) → result ≡ Status.Limit which.Vessels most → Runs words.now (H.files shelf.old) (λ _. Unit {0})
-        (λ request rows scenario. StopsWith request scenario (S.left log.old) (K.contents out.old) (K.contents out.new) (Status.Limit which.Vessels most)
-        ⊎ EndsWith request rows scenario (S.left log.old) (S.left log.new) (K.contents out.old) (K.contents out.new) (Status.Limit which.Vessels most)) }
-    ensures pair_limit { (most : ℕ) → result ≡ Status.Limit which.Pairs most → Runs words.now (H.files shelf.old) (λ _. Unit {0})
-        (λ request rows scenario. StopsWith request scenario (S.left log.old) (K.contents out.old) (K.contents out.new) (Status.Limit which.Pairs most)
-        ⊎ EndsWith request rows scenario (S.left log.old) (S.left log.new) (K.contents out.old) (K.contents out.new) (Status.Limit which.Pairs most)) }
-    ensures own_unready { (why : Unready) → result ≡ Status.OwnUnready why → Runs words.now (H.files shelf.old) (λ _. Unit {0})
-        (λ request rows scenario. EndsWith request rows scenario (S.left log.old) (S.left log.new) (K.contents out.old) (K.contents out.new) (Status.OwnUnready why)) }
-    ensures target_limit { (most : ℕ) → result ≡ Status.Limit which.Targets most → Runs words.now (H.files shelf.old) (λ _. Unit {0})
-        (λ request rows scenario. EndsWith request rows scenario (S.left log.old) (S.left log.new) (K.contents out.old) (K.contents out.new) (Status.Limit which.Targets most)) }
-    ensures bad_entry { (index : ℕ) → result ≡ Status.BadEntry index → Runs words.now (H.files shelf.old) (λ _. Unit {0})
-        (λ request rows scenario. EndsWith request rows scenario (S.left log.old) (S.left log.new) (K.contents out.old) (K.contents out.new) (Status.BadEntry index)) }
-    ensures write_fault { result ≡ Status.WriteFault → (K.faults out.new ≡ one_more (K.faults out.old))
+        × StopsWith request scenario (S.left log.old) (K.contents out.old) (K.contents out.new)
+        (Status.Limit which.Log most)) }
+    ensures vessel_limit { (most : ℕ) → result ≡ Status.Limit which.Vessels most
+        → Runs words.now (H.files shelf.old) (λ _. Unit {0})
+        (λ request rows scenario. StopsWith request scenario (S.left log.old) (K.contents out.old)
+        (K.contents out.new) (Status.Limit which.Vessels most)
+        ⊎ EndsWith request rows scenario (S.left log.old) (S.left log.new) (K.contents out.old)
+        (K.contents out.new) (Status.Limit which.Vessels most)) }
+    ensures pair_limit { (most : ℕ) → result ≡ Status.Limit which.Pairs most
+        → Runs words.now (H.files shelf.old) (λ _. Unit {0})
+        (λ request rows scenario. StopsWith request scenario (S.left log.old) (K.contents out.old)
+        (K.contents out.new) (Status.Limit which.Pairs most)
+        ⊎ EndsWith request rows scenario (S.left log.old) (S.left log.new) (K.contents out.old)
+        (K.contents out.new) (Status.Limit which.Pairs most)) }
+    ensures own_unready { (why : Unready) → result ≡ Status.OwnUnready why
+        → Runs words.now (H.files shelf.old) (λ _. Unit {0})
+        (λ request rows scenario. EndsWith request rows scenario (S.left log.old) (S.left log.new)
+        (K.contents out.old) (K.contents out.new) (Status.OwnUnready why)) }
+    ensures target_limit { (most : ℕ) → result ≡ Status.Limit which.Targets most
+        → Runs words.now (H.files shelf.old) (λ _. Unit {0})
+        (λ request rows scenario. EndsWith request rows scenario (S.left log.old) (S.left log.new)
+        (K.contents out.old) (K.contents out.new) (Status.Limit which.Targets most)) }
+    ensures bad_entry { (index : ℕ) → result ≡ Status.BadEntry index
+        → Runs words.now (H.files shelf.old) (λ _. Unit {0})
+        (λ request rows scenario. EndsWith request rows scenario (S.left log.old) (S.left log.new)
+        (K.contents out.old) (K.contents out.new) (Status.BadEntry index)) }
+    ensures write_fault { result ≡ Status.WriteFault
+        → (K.faults out.new ≡ one_more (K.faults out.old))
         × (Runs words.now (H.files shelf.old) (λ _. Unit {0})
-        (λ request rows scenario. WritesPart request rows scenario (S.left log.old) (S.left log.new) (K.contents out.old) (K.contents out.new))
-        ⊎ Migrates words.now (H.files shelf.old) (λ text. AppendsPart (K.contents out.old) (K.contents out.new) text)) }
-    ensures memory { result ≡ Status.Memory → Keeps (K.contents out.old) (K.contents out.new) ⊎ Runs words.now (H.files shelf.old) (λ _. Unit {0})
-        (λ request rows scenario. IfSome (log_of request scenario (S.left log.old)) (λ bytes.
-        GainsFront (task_mode request.task) scenario bytes (K.contents out.old) (K.contents out.new))) }
-    ensures drill { (request : ReportRequest) → AskFor words.now (asks.Report request) → reads_log (task_mode request.task) ≡ false
-        → IsTrue (IsOfDrill result) }
-    ensures migration { (name : List ℕ) → AskForMigration words.now name → IsTrue (IsOfMigration result) }
+        (λ request rows scenario. WritesPart request rows scenario (S.left log.old) (S.left log.new)
+        (K.contents out.old) (K.contents out.new))
+        ⊎ Migrates words.now (H.files shelf.old)
+        (λ text. AppendsPart (K.contents out.old) (K.contents out.new) text)) }
+    ensures memory { result ≡ Status.Memory
+        → Keeps (K.contents out.old) (K.contents out.new)
+        ⊎ Runs words.now (H.files shelf.old) (λ _. Unit {0})
+        (λ request rows scenario. IfSome (log_of request scenario (S.left log.old))
+        (λ bytes. GainsFront (task_mode request.task) scenario bytes (K.contents out.old)
+        (K.contents out.new))) }
+    ensures drill { (request : ReportRequest) → AskFor words.now (asks.Report request)
+        → reads_log (task_mode request.task) ≡ false → IsTrue (IsOfDrill result) }
+    ensures migration { (name : List ℕ) → AskForMigration words.now name
+        → IsTrue (IsOfMigration result) }
 
     // What is asked for and what is written then.
     ensures unfetched { AskForNothing words.now → H.fetches shelf.new ≡ H.fetches shelf.old }
     ensures fetched { (request : Request) → AskFor words.now request → asks_rows request ≡ false
-        → (H.fetches shelf.new ≡ one_more (H.fetches shelf.old)) ⊎ ((result ≡ Status.Memory) × (H.fetches shelf.new ≡ H.fetches shelf.old)) }
-    ensures fetched_rows { (request : Request) → AskFor words.now request → IsTrue (asks_rows request)
+        → (H.fetches shelf.new ≡ one_more (H.fetches shelf.old))
+        ⊎ ((result ≡ Status.Memory) × (H.fetches shelf.new ≡ H.fetches shelf.old)) }
+    ensures fetched_rows { (request : Request) → AskFor words.now request
+        → IsTrue (asks_rows request)
         → (H.fetches shelf.new ≡ one_more (one_more (H.fetches shelf.old)))
         ⊎ ((IsTrue (MayPrecedeRows result) × (H.fetches shelf.new ≡ one_more (H.fetches shelf.old)))
         ⊎ ((result ≡ Status.Memory) × (H.fetches shelf.new ≡ H.fetches shelf.old))) }
@@ -131,12 +172,13 @@ pub fn run<H: Shelf, S: Source, K: Sink, E: Sink>(
         → Keeps (S.left log.old) (S.left log.new) × (S.faults log.new ≡ S.faults log.old) }
     ensures unread { (request : Request) → AskFor words.now request → asks_log request ≡ false
         → Keeps (S.left log.old) (S.left log.new) × (S.faults log.new ≡ S.faults log.old) }
-    ensures unwritten { IsTrue (WritesNothing result) → Keeps (K.contents out.old) (K.contents out.new) }
-    // The count of faults of each rises with its answer alone, and so tells which of them has failed.
+    ensures unwritten { IsTrue (WritesNothing result)
+        → Keeps (K.contents out.old) (K.contents out.new) }
+    // The count of faults of each device rises with its answer alone, and so shows which of them has failed.
     ensures calm { result ≢ Status.WriteFault → K.faults out.new ≡ K.faults out.old }
     ensures log_calm { result ≢ Status.ReadFault → S.faults log.new ≡ S.faults log.old }
     ensures shelf_calm { result ≢ Status.ShelfFault → H.faults shelf.new ≡ H.faults shelf.old }
-    // Whatever is told, a limit that no scenario sets has its number.
+    // Whatever is known, a limit that no scenario sets has its number.
     ensures limits { TellsLimit result }
     ensures line { Gains (record { bytes = E.contents err.old; faults = E.faults err.old })
         (record { bytes = E.contents err.new; faults = E.faults err.new }) (fault_line result) }

@@ -30,7 +30,7 @@ fn made_fault(fault: StreamFault) -> StreamFault
     }
 }
 
-/// Writes the report that a request asks for. Tells whether it is one without a manoeuvre.
+/// Writes the report that a request asks for. Returns whether it is one without a manoeuvre.
 pub(crate) fn report_on<S: Source, K: Sink>(
     alloc: Global,
     request: &ReportRequest,
@@ -40,11 +40,14 @@ pub(crate) fn report_on<S: Source, K: Sink>(
 ) -> Result<bool, StreamFault>
     requires in_range { IsInRange set_up.scenario }
     requires own { IsTrue (needs_own (task_mode request.now.task)) → IsSome set_up.scenario.own }
-    requires unneeded { needs_own (task_mode request.now.task) ≡ false → set_up.scenario.own ≡ None }
+    requires unneeded { needs_own (task_mode request.now.task) ≡ false
+        → set_up.scenario.own ≡ None }
     requires rows { length set_up.rows.items ≤ GREATEST_TEXT }
     requires seed { task_seed request.now.task ≤ 999999 }
-    ensures report { IfOk result (λ none. IfSome (log_of request.now set_up.scenario (S.left log.old)) (λ bytes.
-        Reports (task_of request.now set_up.rows.items) set_up.scenario bytes none (K.contents out.old) (K.contents out.new))) }
+    ensures report { IfOk result
+        (λ none. IfSome (log_of request.now set_up.scenario (S.left log.old))
+        (λ bytes. Reports (task_of request.now set_up.rows.items) set_up.scenario bytes none
+        (K.contents out.old) (K.contents out.new))) }
     ensures end { OnOk result (IsReadBy (task_mode request.now.task) (S.left log.new)) }
     ensures untouched { reads_log (task_mode request.now.task) ≡ false
         → Keeps (S.left log.old) (S.left log.new) × (S.faults log.new ≡ S.faults log.old) }
@@ -52,8 +55,10 @@ pub(crate) fn report_on<S: Source, K: Sink>(
         (S.left log.old) (S.left log.new) (K.contents out.old) (K.contents out.new)) }
     ensures drill { reads_log (task_mode request.now.task) ≡ false
         → MatchResult result (λ none. none ≡ false) (λ fault. IsTrue (is_of_drill fault)) }
-    ensures log_faults { MatchResult result (λ _. S.faults log.new ≡ S.faults log.old) (LogCount (S.faults log.old) (S.faults log.new)) }
-    ensures out_faults { MatchResult result (λ _. K.faults out.new ≡ K.faults out.old) (OutCount (K.faults out.old) (K.faults out.new)) }
+    ensures log_faults { MatchResult result (λ _. S.faults log.new ≡ S.faults log.old)
+        (LogCount (S.faults log.old) (S.faults log.new)) }
+    ensures out_faults { MatchResult result (λ _. K.faults out.new ≡ K.faults out.old)
+        (OutCount (K.faults out.old) (K.faults out.new)) }
 {
     let SetUp { scenario, rows } = set_up;
     let mode = request.task.mode();

@@ -82,7 +82,7 @@ impl From<SetUpFault> for Status {
     }
 }
 
-/// The scenario with the values that are given in place of its own.
+/// Returns the scenario with the values that are given instead of its own.
 fn with_options(mut scenario: Scenario, options: &WindowOptions) -> Scenario
     ensures { result ≡ with_options options.now scenario }
 {
@@ -113,13 +113,20 @@ fn scenario_of<H: Shelf>(
     shelf: &mut H,
 ) -> Result<Scenario, SetUpFault>
     requires { AreOptions request.now.window }
-    ensures scenario { IfOk result (λ scenario. HoldsUnder (H.files shelf.old) request.now.name (λ text. IsScenario request.now text scenario)) }
+    ensures scenario { IfOk result
+        (λ scenario. HoldsUnder (H.files shelf.old) request.now.name
+        (λ text. IsScenario request.now text scenario)) }
     ensures in_range { IfOk result IsInRange }
-    ensures own { IfOk result (λ scenario. IsTrue (needs_own (task_mode request.now.task)) → IsSome scenario.own) }
-    ensures unneeded { IfOk result (λ scenario. needs_own (task_mode request.now.task) ≡ false → scenario.own ≡ None) }
-    ensures cause { IfErr result (SetUpCause request.now (H.files shelf.old) (H.faults shelf.old) (H.faults shelf.new)) }
-    ensures due { (due : Result Scenario SetUpFault) → IsScenarioDue request.now (H.files shelf.old) due
-        → (H.faults shelf.new ≡ one_more (H.faults shelf.old)) ⊎ ((result ≡ due) ⊎ (result ≡ Err SetUpFault.Memory)) }
+    ensures own { IfOk result
+        (λ scenario. IsTrue (needs_own (task_mode request.now.task)) → IsSome scenario.own) }
+    ensures unneeded { IfOk result
+        (λ scenario. needs_own (task_mode request.now.task) ≡ false → scenario.own ≡ None) }
+    ensures cause { IfErr result
+        (SetUpCause request.now (H.files shelf.old) (H.faults shelf.old) (H.faults shelf.new)) }
+    ensures due { (due : Result Scenario SetUpFault)
+        → IsScenarioDue request.now (H.files shelf.old) due
+        → (H.faults shelf.new ≡ one_more (H.faults shelf.old))
+        ⊎ ((result ≡ due) ⊎ (result ≡ Err SetUpFault.Memory)) }
     ensures early { IfErr result (λ why. IsTrue (precedes_rows why)) }
     ensures same { H.files shelf.new ≡ H.files shelf.old }
     ensures fetched { H.fetches shelf.new ≡ one_more (H.fetches shelf.old) }
@@ -140,12 +147,17 @@ fn rows_of<H: Shelf>(
 ) -> Result<Vec<u8>, SetUpFault>
     ensures rows { IfOk result (λ rows. AreRows (H.files shelf.old) request.now rows.items) }
     ensures few { IfOk result (λ rows. length rows.items ≤ GREATEST_TEXT) }
-    ensures cause { IfErr result (SetUpCause request.now (H.files shelf.old) (H.faults shelf.old) (H.faults shelf.new)) }
-    ensures due { (due : Result (List ℕ) SetUpFault) → AreRowsDue request.now (H.files shelf.old) due
-        → (H.faults shelf.new ≡ one_more (H.faults shelf.old)) ⊎ ((rows_had result ≡ due) ⊎ (rows_had result ≡ Err SetUpFault.Memory)) }
-    ensures steps { (H.faults shelf.new ≡ H.faults shelf.old) ⊎ (H.faults shelf.new ≡ one_more (H.faults shelf.old)) }
-    ensures fetched { H.fetches shelf.new ≡
-        (if needs_rows (task_mode request.now.task) then one_more (H.fetches shelf.old) else H.fetches shelf.old) }
+    ensures cause { IfErr result
+        (SetUpCause request.now (H.files shelf.old) (H.faults shelf.old) (H.faults shelf.new)) }
+    ensures due { (due : Result (List ℕ) SetUpFault)
+        → AreRowsDue request.now (H.files shelf.old) due
+        → (H.faults shelf.new ≡ one_more (H.faults shelf.old))
+        ⊎ ((rows_had result ≡ due) ⊎ (rows_had result ≡ Err SetUpFault.Memory)) }
+    ensures steps { (H.faults shelf.new ≡ H.faults shelf.old)
+        ⊎ (H.faults shelf.new ≡ one_more (H.faults shelf.old)) }
+    ensures fetched { H.fetches shelf.new
+        ≡ (if needs_rows (task_mode request.now.task) then one_more (H.fetches shelf.old)
+        else H.fetches shelf.old) }
     ensures calm { result ≢ Err SetUpFault.NotHad → H.faults shelf.new ≡ H.faults shelf.old }
 {
     let name = match request.task.rows() {
@@ -174,15 +186,21 @@ pub(crate) fn set_up<H: Shelf>(
     shelf: &mut H,
 ) -> Result<SetUp, SetUpFault>
     requires { AreOptions request.now.window }
-    ensures scenario { IfOk result (λ made. HoldsUnder (H.files shelf.old) request.now.name (λ text. IsScenario request.now text made.scenario)) }
+    ensures scenario { IfOk result
+        (λ made. HoldsUnder (H.files shelf.old) request.now.name
+        (λ text. IsScenario request.now text made.scenario)) }
     ensures rows { IfOk result (λ made. AreRows (H.files shelf.old) request.now made.rows.items) }
     ensures few { IfOk result (λ made. length made.rows.items ≤ GREATEST_TEXT) }
     ensures in_range { IfOk result (λ made. IsInRange made.scenario) }
-    ensures own { IfOk result (λ made. IsTrue (needs_own (task_mode request.now.task)) → IsSome made.scenario.own) }
-    ensures unneeded { IfOk result (λ made. needs_own (task_mode request.now.task) ≡ false → made.scenario.own ≡ None) }
-    ensures cause { IfErr result (SetUpCause request.now (H.files shelf.old) (H.faults shelf.old) (H.faults shelf.new)) }
+    ensures own { IfOk result
+        (λ made. IsTrue (needs_own (task_mode request.now.task)) → IsSome made.scenario.own) }
+    ensures unneeded { IfOk result
+        (λ made. needs_own (task_mode request.now.task) ≡ false → made.scenario.own ≡ None) }
+    ensures cause { IfErr result
+        (SetUpCause request.now (H.files shelf.old) (H.faults shelf.old) (H.faults shelf.new)) }
     ensures due { (due : Result SetFor SetUpFault) → IsSetUpDue request.now (H.files shelf.old) due
-        → (H.faults shelf.new ≡ one_more (H.faults shelf.old)) ⊎ ((came_of result ≡ due) ⊎ (came_of result ≡ Err SetUpFault.Memory)) }
+        → (H.faults shelf.new ≡ one_more (H.faults shelf.old))
+        ⊎ ((came_of result ≡ due) ⊎ (came_of result ≡ Err SetUpFault.Memory)) }
     ensures fetched { HaveFetched request.now (H.fetches shelf.old) (H.fetches shelf.new) result }
     ensures calm { result ≢ Err SetUpFault.NotHad → H.faults shelf.new ≡ H.faults shelf.old }
 {

@@ -76,9 +76,12 @@ fn zeros(alloc: Global, count: usize) -> Result<Vec<u8>, AllocError>
 
 /// Writes the rows of a text.
 fn put_text<K: Sink>(text: ReportText, out: &mut K) -> Result<(), StreamFault>
-    ensures put { OnOk result ((bytes : List ℕ) → HasText text bytes → Appends (K.contents out.old) (K.contents out.new) bytes) }
+    ensures put { OnOk result
+        ((bytes : List ℕ) → HasText text bytes
+        → Appends (K.contents out.old) (K.contents out.new) bytes) }
     ensures cause { IfErr result (PutCause text (K.contents out.old) (K.contents out.new)) }
-    ensures faults { MatchResult result (λ _. K.faults out.new ≡ K.faults out.old) (OutCount (K.faults out.old) (K.faults out.new)) }
+    ensures faults { MatchResult result (λ _. K.faults out.new ≡ K.faults out.old)
+        (OutCount (K.faults out.old) (K.faults out.new)) }
 {
     let bytes = text.into_bytes()?;
     if put_all(out, bytes.as_slice()) {
@@ -88,7 +91,7 @@ fn put_text<K: Sink>(text: ReportText, out: &mut K) -> Result<(), StreamFault>
     }
 }
 
-/// Writes the rows that were decided before a refusal, but for want of memory, which may have spoiled them. Tells the fault to end with.
+/// Writes the rows that were decided before a refusal, unless memory ran out, which may have spoiled them. Returns the fault to end with.
 fn put_refused<K: Sink>(text: ReportText, why: SessionFault, out: &mut K) -> StreamFault
     ensures cause { RefusedCause text why (K.contents out.old) (K.contents out.new) result }
     ensures faults { OutCount (K.faults out.old) (K.faults out.new) result }
@@ -113,10 +116,13 @@ fn write_piece<K: Sink>(
     ensures mode { mode_of session.new ≡ mode_of session.old }
     ensures scenario { session_scenario session.new ≡ session_scenario session.old }
     ensures count { OnOk result (taken_of session.new ≡ taken_of session.old + length piece.now) }
-    ensures written { OnOk result (FromHere session.old piece.now (K.contents out.old) (λ first left contents.
-        HasWritten session.new first left contents (K.contents out.new))) }
-    ensures cause { IfErr result (PieceCause session.old piece.now (K.contents out.old) (K.contents out.new)) }
-    ensures faults { MatchResult result (λ _. K.faults out.new ≡ K.faults out.old) (OutCount (K.faults out.old) (K.faults out.new)) }
+    ensures written { OnOk result
+        (FromHere session.old piece.now (K.contents out.old)
+        (λ first left contents. HasWritten session.new first left contents (K.contents out.new))) }
+    ensures cause { IfErr result
+        (PieceCause session.old piece.now (K.contents out.old) (K.contents out.new)) }
+    ensures faults { MatchResult result (λ _. K.faults out.new ≡ K.faults out.old)
+        (OutCount (K.faults out.old) (K.faults out.new)) }
 {
     let mut text = ReportText::new(alloc);
     match session.feed_into(piece, &mut text) {
@@ -125,19 +131,20 @@ fn write_piece<K: Sink>(
     }
 }
 
-/// How many bytes a read may give: no more than a block has, and no more than up to the byte behind the log's limit.
+/// Returns how many bytes a read may give: no more than a block has, and none after the byte that exceeds the log's limit.
 fn room_for(session: &Session, block: usize) -> usize
     requires in_use { IsInUse session.now }
     requires some { 0 < block }
     ensures some { 0 < result }
     ensures within { result ≤ block }
-    ensures limited { (fed given : List ℕ) → StandsFor session.now fed given → result ≤ ((session_scenario session.now).log.max_bytes - length fed) + 1 }
+    ensures limited { (fed given : List ℕ) → StandsFor session.now fed given
+        → result ≤ ((session_scenario session.now).log.max_bytes - length fed) + 1 }
 {
     let room = session.room().saturating_add(1);
     block.min(room as usize)
 }
 
-/// Reads a block of the log, up to the byte behind its limit, and writes what is decided by it. Tells whether there may be more.
+/// Reads a block of the log, up to the byte that exceeds its limit, and writes what the block decides. Returns whether there may be more.
 fn write_block<S: Source, K: Sink>(
     alloc: Global,
     session: &mut Session,
@@ -150,13 +157,20 @@ fn write_block<S: Source, K: Sink>(
     ensures mode { mode_of session.new ≡ mode_of session.old }
     ensures scenario { session_scenario session.new ≡ session_scenario session.old }
     ensures grows { result ≡ Ok true → taken_of session.old < taken_of session.new }
-    ensures written { OnOk result ((first contents : Option (List ℕ)) → HasWritten session.old first (S.left log.old) contents (K.contents out.old)
+    ensures written { OnOk result
+        ((first contents : Option (List ℕ))
+        → HasWritten session.old first (S.left log.old) contents (K.contents out.old)
         → HasWritten session.new first (S.left log.new) contents (K.contents out.new)) }
     ensures end { result ≡ Ok false → IsAtEnd (S.left log.new) }
-    ensures cause { IfErr result (λ fault. (asked : Asked) (first contents : Option (List ℕ)) → HasWritten session.old first (S.left log.old) contents (K.contents out.old)
-        → StreamCause (task_by (mode_of session.old) asked) (session_scenario session.old) first (S.left log.new) contents (K.contents out.new) fault) }
-    ensures log_faults { MatchResult result (λ _. S.faults log.new ≡ S.faults log.old) (LogCount (S.faults log.old) (S.faults log.new)) }
-    ensures out_faults { MatchResult result (λ _. K.faults out.new ≡ K.faults out.old) (OutCount (K.faults out.old) (K.faults out.new)) }
+    ensures cause { IfErr result
+        (λ fault. (asked : Asked) (first contents : Option (List ℕ))
+        → HasWritten session.old first (S.left log.old) contents (K.contents out.old)
+        → StreamCause (task_by (mode_of session.old) asked) (session_scenario session.old) first
+        (S.left log.new) contents (K.contents out.new) fault) }
+    ensures log_faults { MatchResult result (λ _. S.faults log.new ≡ S.faults log.old)
+        (LogCount (S.faults log.old) (S.faults log.new)) }
+    ensures out_faults { MatchResult result (λ _. K.faults out.new ≡ K.faults out.old)
+        (OutCount (K.faults out.old) (K.faults out.new)) }
 {
     let most = room_for(session, block.len());
     let room = &mut block[..most];
@@ -170,16 +184,23 @@ fn write_block<S: Source, K: Sink>(
     }
 }
 
-/// Writes the rest of the report that is asked for at the log's end. Tells whether it is one without a manoeuvre.
+/// Writes the rest of the report that is asked for at the log's end. Returns whether it is one without a manoeuvre.
 fn write_end<K: Sink>(session: Session, asked: &Asked<'_>, out: &mut K) -> Result<bool, StreamFault>
     requires in_use { IsInUse session }
     requires rows { length asked.now.rows.now ≤ GREATEST_TEXT }
-    ensures report { IfOk result (λ none. (first left contents : Option (List ℕ)) → IsAtEnd left → HasWritten session first left contents (K.contents out.old)
-        → IfSome first (λ bytes. Reports (task_by (mode_of session) asked.now) (session_scenario session) bytes none contents (K.contents out.new))) }
-    ensures cause { IfErr result (λ fault. (first left contents : Option (List ℕ)) → IsAtEnd left → HasWritten session first left contents (K.contents out.old)
-        → StreamCause (task_by (mode_of session) asked.now) (session_scenario session) first left contents (K.contents out.new) fault) }
+    ensures report { IfOk result
+        (λ none. (first left contents : Option (List ℕ)) → IsAtEnd left
+        → HasWritten session first left contents (K.contents out.old)
+        → IfSome first (λ bytes. Reports (task_by (mode_of session) asked.now)
+        (session_scenario session) bytes none contents (K.contents out.new))) }
+    ensures cause { IfErr result
+        (λ fault. (first left contents : Option (List ℕ)) → IsAtEnd left
+        → HasWritten session first left contents (K.contents out.old)
+        → StreamCause (task_by (mode_of session) asked.now)
+        (session_scenario session) first left contents (K.contents out.new) fault) }
     ensures no_read { IfErr result (λ fault. fault ≢ NotRead) }
-    ensures faults { MatchResult result (λ _. K.faults out.new ≡ K.faults out.old) (OutCount (K.faults out.old) (K.faults out.new)) }
+    ensures faults { MatchResult result (λ _. K.faults out.new ≡ K.faults out.old)
+        (OutCount (K.faults out.old) (K.faults out.new)) }
 {
     let ending = session.finish(asked)?;
     if !put_all(out, ending.bytes.as_slice()) {
@@ -198,19 +219,25 @@ fn feed_log<S: Source, K: Sink>(
     requires begun { StandsFor session.old [] [] }
     ensures mode { mode_of session.new ≡ mode_of session.old }
     ensures scenario { session_scenario session.new ≡ session_scenario session.old }
-    ensures written { OnOk result (HasWritten session.new (S.left log.old) (S.left log.new) (K.contents out.old) (K.contents out.new)) }
+    ensures written { OnOk result
+        (HasWritten session.new (S.left log.old) (S.left log.new) (K.contents out.old)
+        (K.contents out.new)) }
     ensures end { OnOk result (IsAtEnd (S.left log.new)) }
-    ensures cause { IfErr result (λ fault. (asked : Asked) → StreamCause (task_by (mode_of session.old) asked) (session_scenario session.old)
+    ensures cause { IfErr result
+        (λ fault. (asked : Asked)
+        → StreamCause (task_by (mode_of session.old) asked) (session_scenario session.old)
         (S.left log.old) (S.left log.new) (K.contents out.old) (K.contents out.new) fault) }
-    ensures log_faults { MatchResult result (λ _. S.faults log.new ≡ S.faults log.old) (LogCount (S.faults log.old) (S.faults log.new)) }
-    ensures out_faults { MatchResult result (λ _. K.faults out.new ≡ K.faults out.old) (OutCount (K.faults out.old) (K.faults out.new)) }
+    ensures log_faults { MatchResult result (λ _. S.faults log.new ≡ S.faults log.old)
+        (LogCount (S.faults log.old) (S.faults log.new)) }
+    ensures out_faults { MatchResult result (λ _. K.faults out.new ≡ K.faults out.old)
+        (OutCount (K.faults out.old) (K.faults out.new)) }
 {
     let mut block = zeros(alloc, BLOCK)?;
     while write_block(alloc, session, block.as_mut_slice(), log, out)? {}
     Ok(())
 }
 
-/// Reads a log to its end and writes the report on it, as it is decided. Tells whether it is one without a manoeuvre.
+/// Reads a log to its end and writes the report on it, as it is decided. Returns whether it is one without a manoeuvre.
 pub(crate) fn write_report<S: Source, K: Sink>(
     alloc: Global,
     scenario: Scenario,
@@ -223,11 +250,18 @@ pub(crate) fn write_report<S: Source, K: Sink>(
     requires own { IsTrue (needs_own mode) → IsSome scenario.own }
     requires unneeded { needs_own mode ≡ false → scenario.own ≡ None }
     requires rows { length asked.now.rows.now ≤ GREATEST_TEXT }
-    ensures report { IfOk result (λ none. IfSome (S.left log.old) (λ bytes. Reports (task_by mode asked.now) scenario bytes none (K.contents out.old) (K.contents out.new))) }
+    ensures report { IfOk result
+        (λ none. IfSome (S.left log.old)
+        (λ bytes. Reports (task_by mode asked.now) scenario bytes none (K.contents out.old)
+        (K.contents out.new))) }
     ensures end { OnOk result (IsAtEnd (S.left log.new)) }
-    ensures cause { IfErr result (StreamCause (task_by mode asked.now) scenario (S.left log.old) (S.left log.new) (K.contents out.old) (K.contents out.new)) }
-    ensures log_faults { MatchResult result (λ _. S.faults log.new ≡ S.faults log.old) (LogCount (S.faults log.old) (S.faults log.new)) }
-    ensures out_faults { MatchResult result (λ _. K.faults out.new ≡ K.faults out.old) (OutCount (K.faults out.old) (K.faults out.new)) }
+    ensures cause { IfErr result
+        (StreamCause (task_by mode asked.now) scenario (S.left log.old) (S.left log.new)
+        (K.contents out.old) (K.contents out.new)) }
+    ensures log_faults { MatchResult result (λ _. S.faults log.new ≡ S.faults log.old)
+        (LogCount (S.faults log.old) (S.faults log.new)) }
+    ensures out_faults { MatchResult result (λ _. K.faults out.new ≡ K.faults out.old)
+        (OutCount (K.faults out.old) (K.faults out.new)) }
 {
     let mut session = Session::new(alloc, scenario, mode)?;
     match feed_log(alloc, &mut session, log, out) {

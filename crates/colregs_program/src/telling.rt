@@ -16,7 +16,7 @@ fn put_line<E: Sink>(err: &mut E, line: &[u8])
     let _ = put_all(err, line);
 }
 
-/// Tells standard error of a fault. Where there is no memory for the line of it, that is the fault.
+/// Writes the line of a fault to standard error. If there is no memory for the line, that is the fault.
 pub(crate) fn tell<E: Sink>(alloc: Global, status: Status, err: &mut E) -> Status
     ensures same { (result ≡ status) ⊎ ((result ≡ Status.Memory) × IsTrue (is_made status)) }
     ensures line { Gains (record { bytes = E.contents err.old; faults = E.faults err.old })

@@ -7,7 +7,7 @@ use Rattle.clap.specs.Words.{Text}
 use Rattle.clap.specs.ValueTests.{accepts}
 use Rattle.clap.specs.declared.builder.value_parser.ValueParser.{ValueParser}
 use Rattle.clap.specs.declared.builder.value_parser.ValueParser.TheVariants as parser
-use Rattle.command_line.specs.CommandLine.{Kind, Setting, Value, a_flag, a_number, a_text, default_of, flag, kind_of, rows_file, seed, start, takes_number, takes_text, ticks, why, written}
+use Rattle.command_line.specs.CommandLine.{Kind, CommandOption, Value, a_flag, a_number, a_text, default_of, flag, kind_of, rows_file, seed, start, takes_number, takes_text, ticks, why, written}
 use Rattle.command_line.specs.GivenArguments.{IsTaken, MayBeGiven, is_plain_text, said, value_of}
 use Rattle.command_line.specs.declared.arguments.Options.{Options}
 use Rattle.command_line.proofs.Numbers.{decimal_accepted, decimal_is_number, decimal_is_plain}
@@ -127,7 +127,7 @@ text_kind (takes_text default) text may = (tt, may)
 
 -- ---- the options of the table
 
-pub sound : (s : Setting) → IsSound (kind_of s)
+pub sound : (s : CommandOption) → IsSound (kind_of s)
 sound start = (omega arith, tt)
 sound ticks = (omega arith, tt)
 sound seed = (omega arith, (omega arith, omega arith))
@@ -135,7 +135,7 @@ sound why = tt
 sound rows_file = tt
 
 -- an option with a default always has a value
-pub has_value : (s : Setting) (options : Options) → is_some (default_of (kind_of s)) ≡ true → is_some (value_of s options) ≡ true
+pub has_value : (s : CommandOption) (options : Options) → is_some (default_of (kind_of s)) ≡ true → is_some (value_of s options) ≡ true
 has_value start options some = cc
 has_value ticks options some = cc
 has_value seed options some = refl
@@ -170,7 +170,7 @@ one_value None = a_number 0
 one_value (Some v) = v
 
 -- options with the same values are the same
-pub same_options : (a b : Options) → ((s : Setting) → value_of s a ≡ value_of s b) → a ≡ b
+pub same_options : (a b : Options) → ((s : CommandOption) → value_of s a ≡ value_of s b) → a ≡ b
 same_options a b same =
     let starts = same_number a.start b.start (same start) in
     let ticks_same = same_number a.ticks b.ticks (same ticks) in

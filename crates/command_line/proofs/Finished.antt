@@ -16,7 +16,7 @@ use Rattle.clap.specs.declared.error.kind.ErrorKind.TheVariants.{ValueValidation
 use Rattle.clap.specs.declared.parser.matches.ValueSource.TheVariants.{DefaultValue}
 use Rattle.clap.proofs.SimpleLemmas.{is_false, is_nil}
 use Rattle.clap.proofs.WalkLemmas.{both}
-use Rattle.command_line.specs.CommandLine.{Kind, Setting, a_number, colregs, default_texts, flag, kind_of, label, option_rule, settings, takes_number, takes_text}
+use Rattle.command_line.specs.CommandLine.{Kind, CommandOption, a_number, colregs, default_texts, flag, kind_of, label, option_rule, settings, takes_number, takes_text}
 use Rattle.command_line.specs.GivenArguments.{with_program_name}
 use Rattle.command_line.proofs.ByKind.{IsSound, right_accepted, right_default, sound}
 use Rattle.command_line.proofs.Plain.{Walks, first_rows}
@@ -62,15 +62,15 @@ default_is name flag rows = refl
 default_is name (takes_text None) rows = refl
 default_is name (takes_text (Some text)) rows = refl
 
-abbrev with_setting : List Row → Setting → List Row
+abbrev with_setting : List Row → CommandOption → List Row
 with_setting rows s = defaulted (label s) (default_texts (kind_of s)) rows
 
 -- the same of each of these options
-unfoldable pub with_settings : List Setting → List Row → List Row
+unfoldable pub with_settings : List CommandOption → List Row → List Row
 with_settings [] rows = rows
 with_settings (s ∷ rest) rows = with_settings rest (with_setting rows s)
 
-settings_are : (ss : List Setting) (rows : List Row) → fold with_default rows (map built_rule ss) ≡ with_settings ss rows
+settings_are : (ss : List CommandOption) (rows : List Row) → fold with_default rows (map built_rule ss) ≡ with_settings ss rows
 unfolding with_settings
 settings_are [] rows = refl
 settings_are (s ∷ rest) rows =
@@ -141,7 +141,7 @@ own_default id texts rows itself = go (has_row id rows) refl (find_row id rows) 
     go false e None found [] = found
     go false e None found (v ∷ vs) = ap (find_row id) (default_at_end id v vs rows e) ∙ find_last id rows _ itself e
 
-pub other_settings : (id : Text) (ss : List Setting) (rows : List Row) → list_any (λ s. bytes_eq (label s) id) ss ≡ false → find_row id (with_settings ss rows) ≡ find_row id rows
+pub other_settings : (id : Text) (ss : List CommandOption) (rows : List Row) → list_any (λ s. bytes_eq (label s) id) ss ≡ false → find_row id (with_settings ss rows) ≡ find_row id rows
 unfolding with_settings
 other_settings id [] rows none = refl
 other_settings id (s ∷ rest) rows none = go (bytes_eq (label s) id) refl none (other_settings id rest (with_setting rows s))
@@ -153,11 +153,11 @@ other_settings id (s ∷ rest) rows none = go (bytes_eq (label s) id) refl none 
     go false e none more = more none ∙ other_default id (label s) (default_texts (kind_of s)) rows e
 
 -- no option stands twice in the list
-abbrev are_apart : List Setting → Bool
+abbrev are_apart : List CommandOption → Bool
 are_apart [] = true
 are_apart (s ∷ rest) = not (list_any (λ x. bytes_eq (label x) (label s)) rest) && are_apart rest
 
-own_settings : (s : Setting) (ss : List Setting) (rows : List Row) → bytes_eq (label s) (label s) ≡ true → are_apart ss ≡ true → list_any (λ x. bytes_eq (label x) (label s)) ss ≡ true
+own_settings : (s : CommandOption) (ss : List CommandOption) (rows : List Row) → bytes_eq (label s) (label s) ≡ true → are_apart ss ≡ true → list_any (λ x. bytes_eq (label x) (label s)) ss ≡ true
     → find_row (label s) (with_settings ss rows) ≡ option_or (find_row (label s) rows) (default_row (label s) (default_texts (kind_of s)))
 unfolding with_settings
 own_settings s [] rows itself apart listed = cc
@@ -180,7 +180,7 @@ own_settings s (x ∷ rest) rows itself apart listed = go (bytes_eq (label x) (l
         ∙ ap (λ o. option_or o (default_row (label s) (default_texts (kind_of s)))) (other_default (label s) (label x) (default_texts (kind_of x)) rows e)
 
 -- an option has the row that it was given, or else that of its default
-pub setting_found : (values : Choices) (s : Setting) (rows : List Row)
+pub setting_found : (values : Choices) (s : CommandOption) (rows : List Row)
     → find_row (label s) (with_settings settings rows) ≡ option_or (find_row (label s) rows) (default_row (label s) (default_texts (kind_of s)))
 setting_found values s rows = own_settings s settings rows (known values s).itself refl (known values s).listed
 
@@ -219,7 +219,7 @@ all_append p (x ∷ xs) ys these those =
     let split = both (p x) (list_all p xs) these in
     ap₂ (λ a b. a && b) split.0 (all_append p xs ys split.1 those)
 
-settings_pass : (ss : List Setting) → list_all passes (map built_rule ss) ≡ true
+settings_pass : (ss : List CommandOption) → list_all passes (map built_rule ss) ≡ true
 settings_pass [] = refl
 settings_pass (s ∷ rest) = ap₂ (λ a b. a && b) (kind_passes (label s) (kind_of s) (sound s)) (settings_pass rest)
 

@@ -1,13 +1,13 @@
 -- What a caller may conclude of words and their request.
-use Rattle.std.proofs.Common.{ℕ, ◌≡◌, ◌≤◌, Bool, true, false, refl, subst, arith, codes, List, [], ◌∷◌, Option, Some, None}
+use Rattle.std.proofs.Common.{◌≡◌, ◌≤◌, true, false, refl, subst, codes, List, [], ◌∷◌, Option, Some, None}
 use Rattle.std.specs.Prelude.{IfSome}
 use Rattle.clap.specs.Words.{Text, first_of, matches_of}
-use Rattle.tasks.specs.Tasks.{task_seed}
+use Rattle.tasks.proofs.ForCallers.{seed_within}
+use Rattle.tasks.specs.Tasks.{task_by, task_seed}
 use Rattle.tasks.specs.declared.mode.Mode.{Mode}
-use Rattle.tasks.specs.declared.mode.Mode.TheVariants as mode
-use Rattle.command_line.specs.CommandLine.{Setting, label, mode_text, rows_file, seed, start, ticks, why}
+use Rattle.command_line.specs.CommandLine.{CommandOption, label, mode_text, rows_file, seed, start, ticks, why}
 use Rattle.command_line.specs.GivenArguments.{ArePlain, GiveArguments, is_plain_text, value_among, value_of, with_program_name}
-use Rattle.command_line.specs.Requests.{AskFor, IsPlain, request_by, request_with, task_by}
+use Rattle.command_line.specs.Requests.{AskFor, IsPlain, request_by, request_with}
 use Rattle.command_line.specs.declared.arguments.Arguments.{Arguments}
 use Rattle.command_line.specs.declared.arguments.Options.{Options}
 use Rattle.command_line.specs.declared.mode.ModeArgument.{ModeArgument}
@@ -20,7 +20,7 @@ use Rattle.command_line.proofs.ByKind.{number_lies}
 abbrev pub bare : ModeArgument → Text → Arguments
 bare mode name = record { mode = mode; name = name; options = record { start = None; ticks = None; seed = 1; why = false; rows = codes "why.csv" } }
 
-bare_values : (mode : ModeArgument) (name : Text) (s : Setting) → value_of s (bare mode name).options ≡ value_among s []
+bare_values : (mode : ModeArgument) (name : Text) (s : CommandOption) → value_of s (bare mode name).options ≡ value_among s []
 bare_values mode name start = refl
 bare_values mode name ticks = refl
 bare_values mode name seed = refl
@@ -36,7 +36,7 @@ two_words mode name named = (bare mode name, two_given mode name named, refl)
 
 -- ---- what is given lies in its range
 
-abbrev text_held : (words : List Text) (given : Arguments) → GiveArguments words given → Setting → Option Text
+abbrev text_held : (words : List Text) (given : Arguments) → GiveArguments words given → CommandOption → Option Text
 text_held words given gives s = first_of (label s) (matches_of gives.0 (with_program_name words))
 
 seed_given : (words : List Text) (given : Arguments) → GiveArguments words given → given.options.seed ≤ 999999
@@ -56,14 +56,6 @@ ticks_given words given gives =
 
 -- ---- and so does what a report is asked for with
 
-small_seed : (m : Mode) (n : ℕ) (says : Bool) (rows : Text) → n ≤ 999999 → task_seed (task_by m n says rows) ≤ 999999
-small_seed mode.Points n says rows small = omega arith
-small_seed mode.Audit n says rows small = omega arith
-small_seed mode.Plan n says rows small = omega arith
-small_seed mode.Drill n says rows small = small
-small_seed mode.Recheck n says rows small = omega arith
-small_seed mode.Watch n says rows small = omega arith
-
 -- What holds of the report that any arguments of the words make holds of the one that is asked for.
 of_report : (asked : ReportRequest) (P : ReportRequest → Type 0) (m : ModeArgument) (name : Text) (options : Options)
     → ((kind : Mode) → P (record { task = task_by kind options.seed options.why options.rows; name = name; window = record { start = options.start; ticks = options.ticks } }))
@@ -77,7 +69,7 @@ of_report asked P (argument.Report kind) name options each is =
 module _ (words : List Text) (asked : ReportRequest) (asks : AskFor words (request.Report asked)) where
   pub seed_in_range : task_seed asked.task ≤ 999999
   seed_in_range = of_report asked (λ (r : ReportRequest). task_seed r.task ≤ 999999) asks.0.mode asks.0.name asks.0.options
-      (λ kind. small_seed kind asks.0.options.seed asks.0.options.why asks.0.options.rows (seed_given words asks.0 asks.1)) asks.2
+      (λ kind. seed_within kind asks.0.options.seed asks.0.options.why asks.0.options.rows 999999 (seed_given words asks.0 asks.1)) asks.2
 
   pub start_in_range : IfSome asked.window.start (λ n. (0 ≤ n) × (n ≤ 9999999999))
   start_in_range = of_report asked (λ (r : ReportRequest). IfSome r.window.start (λ n. (0 ≤ n) × (n ≤ 9999999999))) asks.0.mode asks.0.name asks.0.options

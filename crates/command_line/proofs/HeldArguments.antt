@@ -1,5 +1,5 @@
 -- The arguments that matches hold: they are one list at most, and words of the plain form have theirs.
-use Rattle.std.proofs.Common.{◌≡◌, ◌∙◌, ◌⊎◌, inl, inr, Bool, true, false, cond, refl, sym, ap, ap₂, subst, is_some, codes, List, [], ◌∷◌, ◌++◌, map, Some, None, Option, if◌then◌else◌}
+use Rattle.std.proofs.Common.{◌≡◌, ◌∙◌, ◌⊎◌, inl, inr, Bool, true, false, cond, refl, sym, ap, ap₂, subst, is_some, codes, List, [], ◌∷◌, ◌++◌, map, Some, None, Option}
 use Rattle.std.specs.Prelude.{Err, IfOk, IfSome, Ok, Result, option_and_then, option_map, slice_get, unwrap_or}
 use Rattle.std.specs.List.{find, flat_map, list_any}
 use Rattle.std.specs.Option.{option_map_or, option_or}
@@ -12,12 +12,10 @@ use Rattle.clap.specs.declared.error.kind.ErrorKind.{ErrorKind}
 use Rattle.clap.specs.declared.error.kind.ErrorKind.TheVariants.{OutOfMemory}
 use Rattle.clap.specs.declared.parser.matches.ArgMatches.{ArgMatches}
 use Rattle.clap.proofs.WalkLemmas.{find-map, first_value-rows}
-use Rattle.command_line.specs.CommandLine.{AreModes, Setting, Value, colregs, default_of, default_texts, kind_of, label, mode_text, modes, settings, written}
+use Rattle.command_line.specs.CommandLine.{AreModes, CommandOption, Value, colregs, default_of, default_texts, kind_of, label, mode_text, modes, settings, written}
 use Rattle.command_line.specs.GivenArguments.{HoldsArguments, HoldsValue, IsAccepted, ArePlain, IsTaken, MayAllBeGiven, setting_words, value_among}
 use Rattle.command_line.specs.Inner.Reading.{HoldsNoMode, HoldsNone}
 use Rattle.command_line.specs.declared.mode.ModeArgument.{ModeArgument}
-use Rattle.command_line.specs.declared.mode.ModeArgument.TheVariants as argument
-use Rattle.tasks.specs.declared.mode.Mode.TheVariants as mode
 use Rattle.command_line.specs.declared.arguments.Arguments.{Arguments}
 use Rattle.command_line.specs.declared.arguments.WordsFault.{WordsFault}
 use Rattle.command_line.specs.declared.arguments.WordsFault.TheVariants.{Memory, Usage}
@@ -26,27 +24,10 @@ use Rattle.command_line.proofs.Finished.{default_row, find_row, mode_found, name
 use Rattle.command_line.proofs.Parsed.{mode_filled, mode_passed, scenario_filled, setting_filled, setting_taken}
 use Rattle.command_line.proofs.Plain.{first_rows, plain_walks, setting_row}
 use Rattle.command_line.proofs.Settings.{Choices, known, setting_is}
+use Rattle.command_line.proofs.ModeTexts.{mode_back, mode_of}
 use Rattle.command_line.proofs.Walking.{row}
 
--- ---- names tell modes and options apart
-
-abbrev mode_of : Text → ModeArgument
-mode_of text = if bytes_eq text (codes "points") then argument.Report mode.Points
-    else if bytes_eq text (codes "audit") then argument.Report mode.Audit
-    else if bytes_eq text (codes "plan") then argument.Report mode.Plan
-    else if bytes_eq text (codes "drill") then argument.Report mode.Drill
-    else if bytes_eq text (codes "migrate") then argument.Migrate
-    else if bytes_eq text (codes "recheck") then argument.Report mode.Recheck
-    else argument.Report mode.Watch
-
-mode_back : (m : ModeArgument) → mode_of (mode_text m) ≡ m
-mode_back (argument.Report mode.Points) = refl
-mode_back (argument.Report mode.Audit) = refl
-mode_back (argument.Report mode.Plan) = refl
-mode_back (argument.Report mode.Drill) = refl
-mode_back argument.Migrate = refl
-mode_back (argument.Report mode.Recheck) = refl
-mode_back (argument.Report mode.Watch) = refl
+-- ---- modes and options have different names
 
 some_is : {X : Type 0} (x y : X) → Some x ≡ Some y → x ≡ y
 some_is x y same = ap (λ o. unwrap_or o x) same
@@ -72,11 +53,11 @@ holds_one rows arguments holds (inr (inr (inr (s, text, found, untaken)))) =
 
 -- ---- what the plain form holds
 
-abbrev found_in : Setting → List (Setting × Value) → Option (Setting × Value)
+abbrev found_in : CommandOption → List (CommandOption × Value) → Option (CommandOption × Value)
 found_in s given = find (λ g. bytes_eq (label g.0) (label s)) given
 
 -- an option has a row exactly where it is given
-row_given : (values : Choices) (mode name : Text) (given : List (Setting × Value)) (s : Setting)
+row_given : (values : Choices) (mode name : Text) (given : List (CommandOption × Value)) (s : CommandOption)
     → find_row (label s) (first_rows mode name ++ map setting_row given) ≡ option_map setting_row (found_in s given)
 row_given values mode name given s =
     let is = known values s in
@@ -86,14 +67,14 @@ row_given values mode name given s =
 abbrev first_text : Option Row → Option Text
 first_text o = option_and_then (λ (r : Row). slice_get r.values 0) o
 
-text_or_default : (name : Text) (d : Option Value) (o : Option (Setting × Value))
+text_or_default : (name : Text) (d : Option Value) (o : Option (CommandOption × Value))
     → first_text (option_or (option_map setting_row o) (default_row name (option_map_or (λ v. written v ∷ []) d []))) ≡ option_map written (option_or (option_map (λ g. g.1) o) d)
 text_or_default name None None = refl
 text_or_default name (Some v) None = refl
 text_or_default name d (Some g) = refl
 
 -- the text of an option is that of its value
-text_given : (values : Choices) (mode name : Text) (given : List (Setting × Value)) (s : Setting)
+text_given : (values : Choices) (mode name : Text) (given : List (CommandOption × Value)) (s : CommandOption)
     → first_of (label s) (with_settings settings (first_rows mode name ++ map setting_row given)) ≡ option_map written (value_among s given)
 text_given values mode name given s =
     ap first_text (setting_found values s (first_rows mode name ++ map setting_row given)
@@ -101,22 +82,22 @@ text_given values mode name given s =
     ∙ text_or_default (label s) (default_of (kind_of s)) (found_in s given)
 
 -- and the value is one of its kind
-right_among : (s : Setting) (given : List (Setting × Value)) → MayAllBeGiven given → IfSome (value_among s given) (IsRight (kind_of s))
+right_among : (s : CommandOption) (given : List (CommandOption × Value)) → MayAllBeGiven given → IfSome (value_among s given) (IsRight (kind_of s))
 right_among s [] may = right_default (kind_of s) (sound s)
 right_among s (g ∷ rest) may = go (bytes_eq (label g.0) (label s)) refl (right_among s rest may.1)
   where
     go : (t : Bool) → bytes_eq (label g.0) (label s) ≡ t → IfSome (value_among s rest) (IsRight (kind_of s))
-        → IfSome (option_or (option_map (λ (x : Setting × Value). x.1) (cond t (Some g) (found_in s rest))) (default_of (kind_of s))) (IsRight (kind_of s))
+        → IfSome (option_or (option_map (λ (x : CommandOption × Value). x.1) (cond t (Some g) (found_in s rest))) (default_of (kind_of s))) (IsRight (kind_of s))
     go true e more = subst (λ x. IsRight (kind_of x) g.1) (setting_is g.0 s e) (right_given (kind_of g.0) g.1 (sound g.0) may.0)
     go false e more = more
 
 -- the matches of the plain form hold what it asks for
-options_held : (values : Choices) (mode name : Text) (given : List (Setting × Value)) (s : Setting) → MayAllBeGiven given
+options_held : (values : Choices) (mode name : Text) (given : List (CommandOption × Value)) (s : CommandOption) → MayAllBeGiven given
     → HoldsValue (with_settings settings (first_rows mode name ++ map setting_row given)) s (value_among s given)
 options_held values mode name given s may =
     held_by (kind_of s) (first_of (label s) (with_settings settings (first_rows mode name ++ map setting_row given))) (value_among s given)
     (text_given values mode name given s) (right_among s given may)
-    (left_out (option_map (λ (g : Setting × Value). g.1) (found_in s given)) (default_of (kind_of s)))
+    (left_out (option_map (λ (g : CommandOption × Value). g.1) (found_in s given)) (default_of (kind_of s)))
 
 -- `clap` takes words of the plain form, and its matches hold what they ask for
 pub plain_accepted : (values : Choices) → AreModes values.now → (words : List Text) (arguments : Arguments) → ArePlain words arguments → IsAccepted (colregs values) words arguments
@@ -137,7 +118,7 @@ plain_accepted values are words arguments plain =
     subst (λ (ws : List Text). IsAccepted (colregs values) ws arguments) (sym plain.form)
     (faultless, subst (λ (rs : List Row). HoldsArguments rs arguments) (sym matches) held)
 
--- the command is one of which `clap` says which words it takes
+-- the command is one whose arguments `clap` defines
 pub colregs_simple : (values : Choices) → is_simple_and_free (colregs values) ≡ true
 unfolding colregs
 colregs_simple values = refl
@@ -153,7 +134,7 @@ held_answer rows arguments (Ok found) holds held unheld = inl (ap (λ r. Ok r) (
 held_answer rows arguments (Err Usage) holds held unheld = absurd (holds_one rows arguments holds (unheld refl))
 held_answer rows arguments (Err Memory) holds held unheld = inr refl
 
--- an error of a kind that may come, and is not want of memory
+-- an error of a kind that may come, other than memory that ran out
 pub some_kind : (k : ErrorKind) (kinds : Kinds) → (k ≡ OutOfMemory → ⊥) → (k ≡ OutOfMemory) ⊎ IsAmong k kinds → kinds ≡ [] → ⊥
 some_kind k [] other (inl memory) none = other memory
 some_kind k [] other (inr among) none = among
@@ -185,8 +166,8 @@ some_mode rows (Some text) e some with_program_name none =
 none_missing : (rows : List Row) → is_some (first_of (codes "mode") rows) ≡ true
     → ((text : Text) → first_of (codes "mode") rows ≡ Some text → list_any (λ m. bytes_eq (mode_text m) text) modes ≡ true)
     → is_some (first_of (codes "scenario") rows) ≡ true
-    → ((s : Setting) → TakesValue (kind_of s) → is_some (default_of (kind_of s)) ≡ true → is_some (first_of (label s) rows) ≡ true)
-    → ((s : Setting) (text : Text) → first_of (label s) rows ≡ Some text → IsTaken (kind_of s) text) → HoldsNone rows → ⊥
+    → ((s : CommandOption) → TakesValue (kind_of s) → is_some (default_of (kind_of s)) ≡ true → is_some (first_of (label s) rows) ≡ true)
+    → ((s : CommandOption) (text : Text) → first_of (label s) rows ≡ Some text → IsTaken (kind_of s) text) → HoldsNone rows → ⊥
 none_missing rows mode_there a_mode name_there filled taken (inl none) = some_mode rows (first_of (codes "mode") rows) refl mode_there a_mode none
 none_missing rows mode_there a_mode name_there filled taken (inr (inl none)) = missing (first_of (codes "scenario") rows) name_there none
 none_missing rows mode_there a_mode name_there filled taken (inr (inr (inl (s, none, some)))) =

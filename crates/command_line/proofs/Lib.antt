@@ -6,9 +6,10 @@ mod Given
 mod ByKind
 mod Finished
 mod HeldArguments
+mod ModeTexts
 mod Numbers
 mod Parsed
 mod Plain
 mod Settings
-mod ToldTexts
+mod InfoTexts
 mod Walking

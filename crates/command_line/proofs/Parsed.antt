@@ -22,7 +22,7 @@ use Rattle.clap.specs.declared.parser.matches.MatchedArg.{MatchedArg}
 use Rattle.clap.proofs.CallerLemmas.{default_present, entry_by_id, present_has_entry, required_present, same_rules_by_id}
 use Rattle.clap.proofs.SimpleLemmas.{is_false, is_nil, plain_fields}
 use Rattle.clap.proofs.WalkLemmas.{both}
-use Rattle.command_line.specs.CommandLine.{Kind, Setting, a_number, colregs, default_of, flag, kind_of, label, mode_rule, option_rule, scenario_rule, setting_rule, settings}
+use Rattle.command_line.specs.CommandLine.{Kind, CommandOption, a_number, colregs, default_of, flag, kind_of, label, mode_rule, option_rule, scenario_rule, setting_rule, settings}
 use Rattle.command_line.specs.CommandLine.{takes_number, takes_text, written}
 use Rattle.command_line.specs.GivenArguments.{IsTaken}
 use Rattle.command_line.proofs.ByKind.{TakesValue}
@@ -136,10 +136,10 @@ option_id name (takes_number low high default) = refl
 option_id name flag = refl
 option_id name (takes_text default) = refl
 
-abbrev IsAt : Setting → List Setting → ℕ → Type 0
+abbrev IsAt : CommandOption → List CommandOption → ℕ → Type 0
 IsAt s ss k = (k < length ss) × (slice_index_or (map label ss) k [] ≡ label s) × ((d : Rule) → slice_index_or (map setting_rule ss) k d ≡ setting_rule s)
 
-place_in : (s : Setting) (ss : List Setting) → list_any (λ x. bytes_eq (label x) (label s)) ss ≡ true → (k : ℕ) × IsAt s ss k
+place_in : (s : CommandOption) (ss : List CommandOption) → list_any (λ x. bytes_eq (label x) (label s)) ss ≡ true → (k : ℕ) × IsAt s ss k
 place_in s [] listed = cc
 place_in s (x ∷ ss) listed = go (bytes_eq (label x) (label s)) refl listed (place_in s ss)
   where
@@ -383,16 +383,16 @@ module _ (c : Command) (m : ArgMatches) (p : IsParsedFrom c m) (values : Choices
       subst (λ (id : Text). is_some (first_value (found_of m) id) ≡ true) (ids_are k d own) some
 
   -- the place of an option among the arguments
-  abbrev place : Setting → ℕ
+  abbrev place : CommandOption → ℕ
   place s = suc (suc (place_in s settings (known values s).listed).0)
 
-  own_setting : (s : Setting) → IsOwn (place s)
+  own_setting : (s : CommandOption) → IsOwn (place s)
   own_setting s = let at = (place_in s settings (known values s).listed).1 in omega (arith, at.0)
 
-  setting_id : (s : Setting) → slice_index_or ids (place s) [] ≡ label s
+  setting_id : (s : CommandOption) → slice_index_or ids (place s) [] ≡ label s
   setting_id s = (place_in s settings (known values s).listed).1.1
 
-  setting_at : (s : Setting) (d : Arg) → rule_of (argument (place s) d) ≡ setting_rule s
+  setting_at : (s : CommandOption) (d : Arg) → rule_of (argument (place s) d) ≡ setting_rule s
   unfolding colregs
   setting_at s d = rule_is (place s) d ∙ (place_in s settings (known values s).listed).1.2 (rule_of d)
 
@@ -405,7 +405,7 @@ module _ (c : Command) (m : ArgMatches) (p : IsParsedFrom c m) (values : Choices
   option_filled at d name (takes_text (Some text)) own is takes some = default_filled at d _ text [] own is refl refl refl refl
 
   -- an option with a default and a value has a text
-  pub setting_filled : (s : Setting) → TakesValue (kind_of s) → is_some (default_of (kind_of s)) ≡ true → is_some (first_value (found_of m) (label s)) ≡ true
+  pub setting_filled : (s : CommandOption) → TakesValue (kind_of s) → is_some (default_of (kind_of s)) ≡ true → is_some (first_value (found_of m) (label s)) ≡ true
   setting_filled s takes some =
       subst (λ (id : Text). is_some (first_value (found_of m) id) ≡ true) (setting_id s)
       (option_filled (place s) any_argument (label s) (kind_of s) (own_setting s) (setting_at s any_argument) takes some)
@@ -430,7 +430,7 @@ module _ (c : Command) (m : ArgMatches) (p : IsParsedFrom c m) (values : Choices
   taken_at at d name (takes_text default) own is text first = tt
 
   -- an option takes its text
-  pub setting_taken : (s : Setting) (text : Text) → first_value (found_of m) (label s) ≡ Some text → IsTaken (kind_of s) text
+  pub setting_taken : (s : CommandOption) (text : Text) → first_value (found_of m) (label s) ≡ Some text → IsTaken (kind_of s) text
   setting_taken s text first =
       taken_at (place s) any_argument (label s) (kind_of s) (own_setting s) (setting_at s any_argument) text
       (subst (λ (id : Text). first_value (found_of m) id ≡ Some text) (sym (setting_id s)) first)

@@ -7,24 +7,25 @@ use Rattle.clap.specs.Words.{Row, Text}
 use Rattle.clap.specs.Kinds.{or_else}
 use Rattle.clap.specs.Walk.{Walk, has_row, nothing_held, walk_from, walked}
 use Rattle.clap.specs.Faults.{settle_fault, turn_fault, walk_fault}
-use Rattle.command_line.specs.CommandLine.{AreModes, Setting, Value, a_flag, a_number, a_text, flag, kind_of, label, mode_text, written}
+use Rattle.command_line.specs.CommandLine.{AreModes, CommandOption, Value, a_flag, a_number, a_text, flag, kind_of, label, mode_text, written}
 use Rattle.command_line.specs.GivenArguments.{AreOnce, MayAllBeGiven, is_given, is_plain_text, setting_words}
 use Rattle.command_line.specs.declared.mode.ModeArgument.{ModeArgument}
 use Rattle.command_line.proofs.ByKind.{IsRight, TakesValue, flag_kind, number_kind, right_accepted, right_given, sound, text_kind}
 use Rattle.command_line.proofs.Settings.{Choices, known, top}
-use Rattle.command_line.proofs.Walking.{Pending, before_value, behind, flag_faultless, flag_walked, held, mode_accepted, mode_faultless, mode_is_name, mode_walked, name_faultless, name_faultless_by}
+use Rattle.command_line.proofs.ModeTexts.{mode_accepted, mode_is_name}
+use Rattle.command_line.proofs.Walking.{Pending, before_value, behind, flag_faultless, flag_walked, held, mode_faultless, mode_walked, name_faultless, name_faultless_by}
 use Rattle.command_line.proofs.Walking.{name_walked, name_walked_by, row, rows_settled, settled_name, settled_value, settles_name, settles_value, value_faultless, value_walked, with_value}
 
-abbrev pub setting_row : Setting × Value → Row
+abbrev pub setting_row : CommandOption × Value → Row
 setting_row g = row (label g.0) (written g.1)
 
 -- none of these options has a row yet
-abbrev AreMissing : List Row → List (Setting × Value) → Type 0
+abbrev AreMissing : List Row → List (CommandOption × Value) → Type 0
 AreMissing rows [] = Unit {0}
 AreMissing rows (g ∷ rest) = (has_row (label g.0) rows ≡ false) × AreMissing rows rest
 
 -- and none that is given before it
-abbrev AreNew : List Row → List (Setting × Value) → Type 0
+abbrev AreNew : List Row → List (CommandOption × Value) → Type 0
 AreNew rows [] = Unit {0}
 AreNew rows (g ∷ rest) = (has_row (label g.0) rows ≡ false) × AreNew (rows ++ setting_row g ∷ []) rest
 
@@ -48,7 +49,7 @@ has_row-more id (x ∷ rows) r none other = go (bytes_eq x.id id) refl (has_row-
     go false e more = rw e (more (rw e at none) other)
 
 -- an option that is not given again keeps the others missing
-missing_more : (rows : List Row) (g : Setting × Value) (rest : List (Setting × Value)) → AreMissing rows rest → is_given g.0 rest ≡ false → AreMissing (rows ++ setting_row g ∷ []) rest
+missing_more : (rows : List Row) (g : CommandOption × Value) (rest : List (CommandOption × Value)) → AreMissing rows rest → is_given g.0 rest ≡ false → AreMissing (rows ++ setting_row g ∷ []) rest
 missing_more rows g [] missing once = tt
 missing_more rows g (x ∷ rest) missing once = go (bytes_eq (label x.0) (label g.0)) refl (missing_more rows g rest)
   where
@@ -58,7 +59,7 @@ missing_more rows g (x ∷ rest) missing once = go (bytes_eq (label x.0) (label 
     go true e more = let bad : true ≡ false = rw e at once in cc
     go false e more = (has_row-more (label x.0) rows (setting_row g) missing.0 (bytes_eq-turned (label x.0) (label g.0) e), more missing.1 (rw e at once))
 
-all_new : (given : List (Setting × Value)) (rows : List Row) → AreMissing rows given → AreOnce given → AreNew rows given
+all_new : (given : List (CommandOption × Value)) (rows : List Row) → AreMissing rows given → AreOnce given → AreNew rows given
 all_new [] rows missing once = tt
 all_new (g ∷ rest) rows missing once = (missing.0, all_new rest (rows ++ setting_row g ∷ []) (missing_more rows g rest missing.1 once.0) once.1)
 
@@ -97,7 +98,7 @@ unfolding walk_fault
 none_walks values rows pending after settles = record { rows = rows; pending = pending; faultless = refl; ends = refl; settles = settles }
 
 -- an option and its value before other words
-value_walks : (values : Choices) (rows : List Row) (pending : Pending) (after : List Row) (s : Setting) (v : Value) (words : List Text) (end : List Row)
+value_walks : (values : Choices) (rows : List Row) (pending : Pending) (after : List Row) (s : CommandOption) (v : Value) (words : List Text) (end : List Row)
     → TakesValue (kind_of s) × (is_plain_text (written v) ≡ true) → IsRight (kind_of s) v → Settles values rows pending after → has_row (label s) after ≡ false
     → (Settles values after (with_value (label s) (written v)) (after ++ setting_row (s, v) ∷ []) → Walks values (behind after (with_value (label s) (written v)) 3) words end)
     → Walks values (behind rows pending 3) ((codes "--" ++ label s) ∷ written v ∷ words) end
@@ -113,7 +114,7 @@ value_walks values rows pending after s v words end plain right settles none res
     (value_faultless (top values) after (label s) text plain.1) (value_walked values after s text plain.0 plain.1) (rest next))
 
 -- and a flag
-flag_walks : (values : Choices) (rows : List Row) (pending : Pending) (after : List Row) (s : Setting) (words : List Text) (end : List Row)
+flag_walks : (values : Choices) (rows : List Row) (pending : Pending) (after : List Row) (s : CommandOption) (words : List Text) (end : List Row)
     → kind_of s ≡ flag → Settles values rows pending after → has_row (label s) after ≡ false
     → Walks values (behind (after ++ row (label s) (codes "true") ∷ []) None 3) words end → Walks values (behind rows pending 3) ((codes "--" ++ label s) ∷ words) end
 flag_walks values rows pending after s words end is settles none rest =
@@ -121,10 +122,10 @@ flag_walks values rows pending after s words end is settles none rest =
     (flag_faultless values rows pending s after is none settles.0 settles.1)
     (flag_walked values rows pending s after is none settles.0) rest
 
-one_more : (after : List Row) (g : Setting × Value) (rest : List (Setting × Value)) → (after ++ setting_row g ∷ []) ++ map setting_row rest ≡ after ++ map setting_row (g ∷ rest)
+one_more : (after : List Row) (g : CommandOption × Value) (rest : List (CommandOption × Value)) → (after ++ setting_row g ∷ []) ++ map setting_row rest ≡ after ++ map setting_row (g ∷ rest)
 one_more after g rest = append_assoc after (setting_row g ∷ []) (map setting_row rest)
 
-settings_walk : (values : Choices) (given : List (Setting × Value)) (rows : List Row) (pending : Pending) (after : List Row) → Settles values rows pending after
+settings_walk : (values : Choices) (given : List (CommandOption × Value)) (rows : List Row) (pending : Pending) (after : List Row) → Settles values rows pending after
     → AreNew after given → MayAllBeGiven given → Walks values (behind rows pending 3) (flat_map setting_words given) (after ++ map setting_row given)
 settings_walk values [] rows pending after settles new may = none_walks values rows pending (after ++ []) (settles.0 ∙ sym (append-nil after), settles.1)
 settings_walk values ((s, a_number n) ∷ rest) rows pending after settles new may =
@@ -153,14 +154,14 @@ settings_walk values ((s, a_flag false) ∷ rest) rows pending after settles new
 abbrev pub first_rows : Text → Text → List Row
 first_rows mode name = row (codes "mode") mode ∷ row (codes "scenario") name ∷ []
 
-first_missing : (values : Choices) (mode name : Text) (given : List (Setting × Value)) → AreMissing (first_rows mode name) given
+first_missing : (values : Choices) (mode name : Text) (given : List (CommandOption × Value)) → AreMissing (first_rows mode name) given
 first_missing values mode name [] = tt
 first_missing values mode name (g ∷ rest) =
     let is = known values g.0 in
     (ap₂ (λ a b. a || (b || false)) is.no_mode is.no_scenario, first_missing values mode name rest)
 
 -- the plain form is walked
-pub plain_walks : (values : Choices) → AreModes values.now → (m : ModeArgument) (name : Text) (given : List (Setting × Value)) → is_plain_text name ≡ true → AreOnce given → MayAllBeGiven given
+pub plain_walks : (values : Choices) → AreModes values.now → (m : ModeArgument) (name : Text) (given : List (CommandOption × Value)) → is_plain_text name ≡ true → AreOnce given → MayAllBeGiven given
     → Walks values (walk_from nothing_held) (mode_text m ∷ name ∷ flat_map setting_words given) (first_rows (mode_text m) name ++ map setting_row given)
 plain_walks values are m name given named once may =
     let t = mode_text m in

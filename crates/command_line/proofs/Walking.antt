@@ -16,11 +16,8 @@ use Rattle.clap.specs.declared.error.kind.ErrorKind.TheVariants.{ArgumentConflic
 use Rattle.clap.specs.declared.parser.matches.ValueSource.TheVariants.{CommandLine}
 use Rattle.clap.proofs.OnLiterals.{clap_on_literals}
 use Rattle.clap.proofs.SimpleLemmas.{is_false}
-use Rattle.command_line.specs.CommandLine.{AreModes, Kind, Setting, colregs, flag, kind_of, label, mode_text, option_rule, takes_number, takes_text}
+use Rattle.command_line.specs.CommandLine.{Kind, CommandOption, colregs, flag, kind_of, label, option_rule, takes_number, takes_text}
 use Rattle.command_line.specs.GivenArguments.{is_plain_text}
-use Rattle.command_line.specs.declared.mode.ModeArgument.{ModeArgument}
-use Rattle.command_line.specs.declared.mode.ModeArgument.TheVariants as argument
-use Rattle.tasks.specs.declared.mode.Mode.TheVariants as mode
 use Rattle.command_line.proofs.ByKind.{TakesValue, parser_of_kind}
 use Rattle.command_line.proofs.Settings.{Choices, built_rule, known, top}
 
@@ -59,15 +56,6 @@ unfolding colregs top clap_on_literals
 mode_faultless values [] named = absurd (true≢false (sym named))
 mode_faultless values (c ∷ cs) named = let plain : (c == 45) ≡ false = is_false _ named in simp plain
 
-pub mode_is_name : (m : ModeArgument) → is_plain_text (mode_text m) ≡ true
-mode_is_name (argument.Report mode.Points) = refl
-mode_is_name (argument.Report mode.Audit) = refl
-mode_is_name (argument.Report mode.Plan) = refl
-mode_is_name (argument.Report mode.Drill) = refl
-mode_is_name argument.Migrate = refl
-mode_is_name (argument.Report mode.Recheck) = refl
-mode_is_name (argument.Report mode.Watch) = refl
-
 pub name_walked : (values : Choices) (text name : Text) → is_plain_text name ≡ true
     → walked (top values).rules [] (behind [] (with_value (codes "mode") text) 2) name ≡ behind (row (codes "mode") text ∷ []) (with_value (codes "scenario") name) 3
 unfolding colregs top clap_on_literals
@@ -75,16 +63,6 @@ name_walked values text [] named = absurd (true≢false (sym named))
 name_walked values text (c ∷ cs) named =
     let plain : (c == 45) ≡ false = is_false _ named in
     simp plain
-
--- the argument `mode` takes the text
-pub mode_accepted : (values : Choices) → AreModes values.now → (m : ModeArgument) → list_any (possible_matches false (mode_text m)) values.now ≡ true
-mode_accepted values are (argument.Report mode.Points) = are (codes "points")
-mode_accepted values are (argument.Report mode.Audit) = are (codes "audit")
-mode_accepted values are (argument.Report mode.Plan) = are (codes "plan")
-mode_accepted values are (argument.Report mode.Drill) = are (codes "drill")
-mode_accepted values are argument.Migrate = are (codes "migrate")
-mode_accepted values are (argument.Report mode.Recheck) = are (codes "recheck")
-mode_accepted values are (argument.Report mode.Watch) = are (codes "watch")
 
 pub name_faultless : (values : Choices) (text name : Text) → list_any (possible_matches false text) values.now ≡ true → is_plain_text name ≡ true
     → turn_fault (top values) [] (behind [] (with_value (codes "mode") text) 2) name ≡ []
@@ -111,7 +89,7 @@ step_found c w word found =
     let met = after_flag c idle word (long_met c found None w.held).0 (long_met c found None w.held).1 in
     after_step c word w met.0 met.1
 
-word_walked : (values : Choices) (rows : List Row) (pending : Pending) (s : Setting) → walked (top values).rules [] (behind rows pending 3) (codes "--" ++ label s)
+word_walked : (values : Choices) (rows : List Row) (pending : Pending) (s : CommandOption) → walked (top values).rules [] (behind rows pending 3) (codes "--" ++ label s)
     ≡ step_found (top values).rules (behind rows pending 3) (codes "--" ++ label s) (Some (built_rule s))
 unfolding walked
 word_walked values rows pending s =
@@ -131,7 +109,7 @@ turn_found t w word found =
     let met = after_flag t.rules idle word (long_met t.rules found None w.held).0 (long_met t.rules found None w.held).1 in
     or_else (long_fault t.rules t.args_override_self found None w.held) (step_fault t 3 met.0 met.1)
 
-word_fault_is : (values : Choices) (rows : List Row) (pending : Pending) (s : Setting) → turn_fault (top values) [] (behind rows pending 3) (codes "--" ++ label s)
+word_fault_is : (values : Choices) (rows : List Row) (pending : Pending) (s : CommandOption) → turn_fault (top values) [] (behind rows pending 3) (codes "--" ++ label s)
     ≡ turn_found (top values) (behind rows pending 3) (codes "--" ++ label s) (Some (built_rule s))
 word_fault_is values rows pending s =
     let w = behind rows pending 3 in
@@ -225,19 +203,19 @@ option_takes_one name (takes_text default) takes = (refl, refl)
 
 -- ---- an option with its value, and a flag
 
-pub name_walked_by : (values : Choices) (rows : List Row) (pending : Pending) (s : Setting) → TakesValue (kind_of s)
+pub name_walked_by : (values : Choices) (rows : List Row) (pending : Pending) (s : CommandOption) → TakesValue (kind_of s)
     → walked (top values).rules [] (behind rows pending 3) (codes "--" ++ label s) ≡ before_value (rows_settled values rows pending) (label s)
 name_walked_by values rows pending s takes =
     word_walked values rows pending s
     ∙ option_word_walked (top values).rules (behind rows pending 3) (codes "--" ++ label s) (label s) (kind_of s) takes refl
 
-pub name_faultless_by : (values : Choices) (rows : List Row) (pending : Pending) (s : Setting) → TakesValue (kind_of s)
+pub name_faultless_by : (values : Choices) (rows : List Row) (pending : Pending) (s : CommandOption) → TakesValue (kind_of s)
     → settle_fault (top values).rules false (held rows pending) ≡ [] → turn_fault (top values) [] (behind rows pending 3) (codes "--" ++ label s) ≡ []
 unfolding colregs top
 name_faultless_by values rows pending s takes settles =
     word_fault_is values rows pending s ∙ option_word_fault (top values) (behind rows pending 3) (codes "--" ++ label s) (label s) (kind_of s) takes settles
 
-pub value_walked : (values : Choices) (rows : List Row) (s : Setting) (value : Text) → TakesValue (kind_of s) → is_plain_text value ≡ true
+pub value_walked : (values : Choices) (rows : List Row) (s : CommandOption) (value : Text) → TakesValue (kind_of s) → is_plain_text value ≡ true
     → walked (top values).rules [] (before_value rows (label s)) value ≡ behind rows (with_value (label s) value) 3
 unfolding walked
 value_walked values rows s value takes plain =
@@ -250,12 +228,12 @@ value_walked values rows s value takes plain =
     ∙ ap (λ (met : Held × Waiting). let next_walk : Walk = record w { held = met.0; waiting = met.1 } in next_walk)
     (value_taken (label s) value rows (built_rule s) (ap (bytes_eq (label s)) one.0 ∙ is.itself) one.1)
 
-pub settled_value : (values : Choices) (rows : List Row) (s : Setting) (value : Text) → TakesValue (kind_of s) → has_row (label s) rows ≡ false
+pub settled_value : (values : Choices) (rows : List Row) (s : CommandOption) (value : Text) → TakesValue (kind_of s) → has_row (label s) rows ≡ false
     → rows_settled values rows (with_value (label s) value) ≡ rows ++ row (label s) value ∷ []
 settled_value values rows s value takes none =
     ap (λ found. used_by_id found (value ∷ []) rows) (known values s).by_id ∙ used_value (label s) value (kind_of s) rows takes none
 
-pub settles_value : (values : Choices) (rows : List Row) (s : Setting) (value : Text) → TakesValue (kind_of s) → has_row (label s) rows ≡ false
+pub settles_value : (values : Choices) (rows : List Row) (s : CommandOption) (value : Text) → TakesValue (kind_of s) → has_row (label s) rows ≡ false
     → accepts false (parser_of_kind (kind_of s)) value ≡ true → settle_fault (top values).rules false (held rows (with_value (label s) value)) ≡ []
 settles_value values rows s value takes none accepted =
     ap (λ found. option_map_or (λ a. use_fault false a (value ∷ []) rows) found []) (known values s).by_id
@@ -274,7 +252,7 @@ flag_fault t w word name settles once none =
     ap (λ ks. or_else (or_else ks (use_fault t.args_override_self (filled (option_rule name flag)) [] (settled_rows t.rules w.held.pending w.held.rows))) []) settles
     ∙ ap₂ (λ (there again : Bool). or_else (or_else (cond (there && not again) (ArgumentConflict ∷ []) []) []) []) none once
 
-pub flag_walked : (values : Choices) (rows : List Row) (pending : Pending) (s : Setting) (after : List Row) → kind_of s ≡ flag → has_row (label s) after ≡ false
+pub flag_walked : (values : Choices) (rows : List Row) (pending : Pending) (s : CommandOption) (after : List Row) → kind_of s ≡ flag → has_row (label s) after ≡ false
     → rows_settled values rows pending ≡ after
     → walked (top values).rules [] (behind rows pending 3) (codes "--" ++ label s) ≡ behind (after ++ row (label s) (codes "true") ∷ []) None 3
 flag_walked values rows pending s after is none settled =
@@ -282,7 +260,7 @@ flag_walked values rows pending s after is none settled =
     ∙ ap (λ k. step_found (top values).rules (behind rows pending 3) (codes "--" ++ label s) (Some (filled (option_rule (label s) k)))) is
     ∙ flag_used (top values).rules (behind rows pending 3) (codes "--" ++ label s) (label s) after refl none settled
 
-pub flag_faultless : (values : Choices) (rows : List Row) (pending : Pending) (s : Setting) (after : List Row) → kind_of s ≡ flag → has_row (label s) after ≡ false
+pub flag_faultless : (values : Choices) (rows : List Row) (pending : Pending) (s : CommandOption) (after : List Row) → kind_of s ≡ flag → has_row (label s) after ≡ false
     → rows_settled values rows pending ≡ after → settle_fault (top values).rules false (held rows pending) ≡ []
     → turn_fault (top values) [] (behind rows pending 3) (codes "--" ++ label s) ≡ []
 unfolding colregs top

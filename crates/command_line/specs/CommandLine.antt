@@ -44,24 +44,24 @@ pub data Kind : Type 0 where
   -- the text where the option is not given
   takes_text : Option Text → Kind
 
-pub data Setting : Type 0 where
-  start : Setting
-  ticks : Setting
-  seed : Setting
-  why : Setting
-  rows_file : Setting
+pub data CommandOption : Type 0 where
+  start : CommandOption
+  ticks : CommandOption
+  seed : CommandOption
+  why : CommandOption
+  rows_file : CommandOption
 
-abbrev pub settings : List Setting
+abbrev pub settings : List CommandOption
 settings = start ∷ ticks ∷ seed ∷ why ∷ rows_file ∷ []
 
-abbrev pub label : Setting → Text
+abbrev pub label : CommandOption → Text
 label start = codes "start"
 label ticks = codes "ticks"
 label seed = codes "seed"
 label why = codes "why"
 label rows_file = codes "rows"
 
-abbrev pub kind_of : Setting → Kind
+abbrev pub kind_of : CommandOption → Kind
 kind_of start = takes_number 0 9999999999 None
 kind_of ticks = takes_number 1 20000 None
 kind_of seed = takes_number 0 999999 (Some 1)
@@ -114,7 +114,7 @@ option_rule name flag = record (new_rule name) { long = Some name; action = Some
 option_rule name (takes_text default) =
     record (new_rule name) { long = Some name; action = Some Set; value_names = 1; defaults = default_texts (takes_text default) }
 
-abbrev pub setting_rule : Setting → Rule
+abbrev pub setting_rule : CommandOption → Rule
 setting_rule s = option_rule (label s) (kind_of s)
 
 -- the command: a mode and a scenario, which are required, and the options

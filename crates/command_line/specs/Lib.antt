@@ -1,5 +1,5 @@
 pub mod CommandLine
 pub mod GivenArguments
 pub mod Requests
-pub mod ToldWords
+pub mod InfoArguments
 pub mod Inner

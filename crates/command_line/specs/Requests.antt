@@ -1,10 +1,7 @@
 -- What the words of a command line ask for: a migration, or the report of a task.
-use Rattle.std.specs.Prelude.{ℕ, ◌≡◌, Bool, List}
+use Rattle.std.specs.Prelude.{◌≡◌, List}
 use Rattle.clap.specs.Words.{Text}
-use Rattle.tasks.specs.declared.mode.Mode.{Mode}
-use Rattle.tasks.specs.declared.mode.Mode.TheVariants as mode
-use Rattle.tasks.specs.declared.task.Task.{Task}
-use Rattle.tasks.specs.declared.task.Task.TheVariants as task
+use Rattle.tasks.specs.Tasks.{task_by}
 use Rattle.command_line.specs.GivenArguments.{ArePlain, GiveArguments}
 use Rattle.command_line.specs.declared.arguments.Arguments.{Arguments}
 use Rattle.command_line.specs.declared.arguments.Options.{Options}
@@ -12,15 +9,6 @@ use Rattle.command_line.specs.declared.mode.ModeArgument.{ModeArgument}
 use Rattle.command_line.specs.declared.mode.ModeArgument.TheVariants as argument
 use Rattle.command_line.specs.declared.request.Request.{Request}
 use Rattle.command_line.specs.declared.request.Request.TheVariants as request
-
--- the task of a mode, with the options that it needs: the seed of a drill, whether a plan says why every plan fails, and the rows of a recheck
-abbrev pub task_by : Mode → ℕ → Bool → Text → Task
-task_by mode.Points seed why rows = task.Points
-task_by mode.Audit seed why rows = task.Audit
-task_by mode.Plan seed why rows = task.Plan why
-task_by mode.Drill seed why rows = task.Drill seed
-task_by mode.Recheck seed why rows = task.Recheck rows
-task_by mode.Watch seed why rows = task.Watch
 
 abbrev pub request_with : ModeArgument → Text → Options → Request
 request_with argument.Migrate name options = request.Migration name

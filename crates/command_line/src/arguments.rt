@@ -17,12 +17,12 @@ use out_of_memory::Memory;
 use outside::Word;
 use std::alloc::{AllocError, Global};
 
-/// The options, each of which counts in the modes that use it.
+/// The options. Each has an effect only in the modes that use it.
 #[derive(Drop)]
 pub struct Options {
-    /// The start of the window in place of the scenario's, in seconds since the Unix epoch, 0 to 9999999999.
+    /// The start of the window instead of the scenario's, in seconds since the Unix epoch, 0 to 9999999999.
     pub start: Option<u64>,
-    /// The length of the window in place of the scenario's, in ticks, 1 to 20000.
+    /// The length of the window instead of the scenario's, in ticks, 1 to 20000.
     pub ticks: Option<u32>,
     /// The seed of a drill's log, 0 to 999999.
     pub seed: u32,
@@ -46,7 +46,7 @@ pub struct Arguments {
 /// Why words ask for nothing.
 #[derive(Clone, Copy, PartialEq, Eq)]
 pub enum WordsFault {
-    /// They are no command line.
+    /// They are invalid.
     Usage,
     /// There was no memory to read them.
     Memory,
@@ -54,7 +54,8 @@ pub enum WordsFault {
 
 /// The text of an argument, where it has one.
 fn text_given<'a>(matches: &ArgMatches<'a>, name: &str) -> Option<&'a str>
-    ensures { option_map (λ text. text.now) result ≡ first_of name.now (rows_of (found_of matches.now)) }
+    ensures { option_map (λ text. text.now) result
+        ≡ first_of name.now (rows_of (found_of matches.now)) }
 {
     matches.get_str(name)
 }
@@ -90,7 +91,8 @@ fn narrow(number: Option<u64>) -> Option<u32>
 
 /// Whether a flag is given: `clap` keeps that as a text.
 fn flag_given(matches: &ArgMatches<'_>, name: &str) -> bool
-    ensures { Some (a_flag result) ≡ said flag (first_of name.now (rows_of (found_of matches.now))) }
+    ensures { Some (a_flag result) ≡ said flag
+        (first_of name.now (rows_of (found_of matches.now))) }
 {
     match text_given(matches, name) {
         Some("true") => true,
@@ -150,7 +152,8 @@ fn arguments_in(alloc: Global, matches: &ArgMatches<'_>) -> Result<Arguments, Wo
 
 /// The words behind the program's name, which `clap` reads too.
 fn named_words<'a>(alloc: Global, words: &'a [Word]) -> Result<Vec<&'a str>, AllocError>
-    ensures { IfOk result (λ texts. map (λ text. text.now) texts.items ≡ with_program_name words.entry.now) }
+    ensures { IfOk result (λ texts. map (λ text. text.now) texts.items
+        ≡ with_program_name words.entry.now) }
 {
     let mut texts = Vec::new(alloc);
     texts.push("colregs")?;

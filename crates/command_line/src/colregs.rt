@@ -78,7 +78,7 @@ fn mode<'a>(alloc: Global, modes: &'a [PossibleValue<'a>]) -> Arg<'a>
         .help("What to do")
 }
 
-/// The file that says what is looked at, and how.
+/// The argument for the scenario file, which says what is examined, and how.
 fn scenario<'a>(alloc: Global) -> Arg<'a>
     ensures { rule_of result ≡ scenario_rule }
 {
@@ -99,7 +99,7 @@ fn start<'a>(alloc: Global) -> Arg<'a>
         "SECONDS",
         0,
         9_999_999_999,
-        "The start of the window in place of the scenario's, in seconds since the Unix epoch, 0 to 9999999999",
+        "The start of the window instead of the scenario's, in seconds since the Unix epoch, 0 to 9999999999",
     )
 }
 
@@ -113,7 +113,7 @@ fn ticks<'a>(alloc: Global) -> Arg<'a>
         "TICKS",
         1,
         20_000,
-        "The length of the window in place of the scenario's, in ticks, 1 to 20000",
+        "The length of the window instead of the scenario's, in ticks, 1 to 20000",
     )
 }
 

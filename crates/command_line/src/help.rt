@@ -1,6 +1,6 @@
-//! What the program tells of itself.
+//! The texts that the program writes about itself.
 ghost use Rattle.std.specs.Prelude.{◌≡◌};
-ghost use Rattle.command_line.specs.ToldWords.{told_of};
+ghost use Rattle.command_line.specs.InfoArguments.{info_of};
 
 use crate::colregs::colregs;
 use crate::mode::mode_values;
@@ -8,9 +8,9 @@ use out_of_memory::Memory;
 use outside::Word;
 use std::alloc::Global;
 
-/// What a single word asks the program to tell of itself.
+/// What a single argument asks the program about itself.
 #[derive(Clone, Copy, Debug, PartialEq, Eq)]
-pub enum Told {
+pub enum InfoRequest {
     /// How it is used, with each mode.
     Help,
     /// How it is used, in short.
@@ -19,29 +19,29 @@ pub enum Told {
     Version,
 }
 
-/// What the words ask the program to tell of itself, where they are a single word that asks so.
-pub fn told_word(words: &[Word]) -> Option<Told>
-    ensures { result ≡ told_of words.now }
+/// Returns what the arguments ask the program about itself, if they are a single argument that does.
+pub fn info_request(words: &[Word]) -> Option<InfoRequest>
+    ensures { result ≡ info_of words.now }
 {
     let [word] = words else {
         return None;
     };
     match word.text() {
-        "--help" => Some(Told::Help),
-        "-h" => Some(Told::Summary),
-        "--version" | "-V" => Some(Told::Version),
+        "--help" => Some(InfoRequest::Help),
+        "-h" => Some(InfoRequest::Summary),
+        "--version" | "-V" => Some(InfoRequest::Version),
         _ => None,
     }
 }
 
-/// The text that `clap` makes of the command by which [`request_of`](crate::request_of) reads words.
-pub fn told_text(alloc: Global, told: Told) -> Result<String, Memory> {
+/// Returns the text that `clap` makes of the command by which [`request_of`](crate::request_of) reads words.
+pub fn info_text(alloc: Global, request: InfoRequest) -> Result<String, Memory> {
     let modes = mode_values();
     let mut command = colregs(alloc, modes.as_slice())?;
-    let text = match told {
-        Told::Help => command.render_long_help(),
-        Told::Summary => command.render_help(),
-        Told::Version => command.render_version(),
+    let text = match request {
+        InfoRequest::Help => command.render_long_help(),
+        InfoRequest::Summary => command.render_help(),
+        InfoRequest::Version => command.render_version(),
     };
     drop(command);
     Ok(text?)

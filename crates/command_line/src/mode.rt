@@ -24,7 +24,7 @@ pub(crate) fn mode_values() -> [PossibleValue<'static>; 7]
     [
         PossibleValue::new("points").help("Write the positions of a log, as points of the plane"),
         PossibleValue::new("audit").help(
-            "Tell how the vessels of a log met, and which duties were broken",
+            "Report how the vessels of a log met, and which duties were broken",
         ),
         PossibleValue::new("plan").help(
             "Find own ship's first plan that newly breaks no rule and enters no domain",
@@ -39,7 +39,7 @@ pub(crate) fn mode_values() -> [PossibleValue<'static>; 7]
             "Check rows that say why there is no plan, without a search",
         ),
         PossibleValue::new("watch").help(
-            "Tell each breach of a rule at the first step that decides it",
+            "Report each breach of a rule at the first step that decides it",
         ),
     ]
 }

@@ -5,7 +5,8 @@ ghost use Rattle.command_line.specs.GivenArguments.{IsNumber};
 
 /// The number that the text writes.
 fn number_of(text: &str) -> Option<u64>
-    ensures { MatchOption result ((n : ℕ) → n < 2 ^ 64 → IsNumber text.now n → ⊥) (IsNumber text.now) }
+    ensures { MatchOption result ((n : ℕ) → n < 2 ^ 64 → IsNumber text.now n
+        → ⊥) (IsNumber text.now) }
 {
     match text.parse::<u64>() {
         Ok(number) => Some(number),
@@ -15,7 +16,8 @@ fn number_of(text: &str) -> Option<u64>
 
 /// The number that the text writes, where it lies in the range.
 pub(crate) fn number_in(text: &str, least: u64, most: u64) -> Option<u64>
-    ensures { MatchOption result ((n : ℕ) → IsNumberIn least most text.now n → ⊥) (IsNumberIn least most text.now) }
+    ensures { MatchOption result ((n : ℕ) → IsNumberIn least most text.now n
+        → ⊥) (IsNumberIn least most text.now) }
 {
     let Some(number) = number_of(text) else {
         return None;

@@ -1,16 +1,16 @@
 //! What the arguments of the command line ask for.
 ghost use Rattle.std.specs.Prelude.{◌≡◌, ◌⊎◌, IfOk, Ok, Err};
 ghost use Rattle.command_line.specs.GivenArguments.{AskForNothing};
-ghost use Rattle.command_line.specs.Requests.{AskFor, IsPlain, request_by, task_by};
+ghost use Rattle.command_line.specs.Requests.{AskFor, IsPlain, request_by};
 ghost use Rattle.command_line.specs.declared.request.Request.{Request};
 
 use crate::arguments::{Arguments, Options, WordsFault, arguments_of};
 use crate::mode::ModeArgument;
 use outside::Word;
 use std::alloc::Global;
-use tasks::{Mode, Task};
+use tasks::Task;
 
-/// What stands in place of the scenario's own window.
+/// What replaces the scenario's own window.
 #[derive(Clone, Copy, PartialEq, Eq)]
 pub struct WindowOptions {
     /// The start of the window, in seconds since the Unix epoch, 0 to 9999999999.
@@ -19,14 +19,14 @@ pub struct WindowOptions {
     pub ticks: Option<u32>,
 }
 
-/// What is asked for where a report is: a task, on the scenario of a name.
+/// A request for a report: a task, on the scenario of a name.
 #[derive(Drop)]
 pub struct ReportRequest {
     /// What is asked of the log.
     pub task: Task,
     /// The name of the scenario, which may be empty.
     pub name: Word,
-    /// What stands in place of the scenario's own window.
+    /// What replaces the scenario's own window.
     pub window: WindowOptions,
 }
 
@@ -39,36 +39,7 @@ pub enum Request {
     Report(ReportRequest),
 }
 
-/// The task of a mode, with the options that it needs. The others have no effect.
-fn task_by(mode: Mode, seed: u32, why: bool, rows: Word) -> Task
-    ensures { result ≡ task_by mode seed why rows }
-{
-    match mode {
-        Mode::Points => {
-            drop(rows);
-            Task::Points
-        }
-        Mode::Audit => {
-            drop(rows);
-            Task::Audit
-        }
-        Mode::Plan => {
-            drop(rows);
-            Task::Plan { why }
-        }
-        Mode::Drill => {
-            drop(rows);
-            Task::Drill { seed }
-        }
-        Mode::Recheck => Task::Recheck { rows },
-        Mode::Watch => {
-            drop(rows);
-            Task::Watch
-        }
-    }
-}
-
-/// The request that arguments make.
+/// Returns the request that arguments make.
 fn request_by(arguments: Arguments) -> Request
     ensures { result ≡ request_by arguments }
 {
@@ -90,15 +61,15 @@ fn request_by(arguments: Arguments) -> Request
             Request::Migration(name)
         }
         ModeArgument::Report(mode) => Request::Report(ReportRequest {
-            task: task_by(mode, seed, why, rows),
+            task: Task::of(mode, seed, why, rows),
             name,
             window: WindowOptions { start, ticks },
         }),
     }
 }
 
-/// What the words behind the program's name ask for, as `clap` reads them by the command `colregs`: a migration, or the report of a task. An
-/// option that the task does not need has no effect. `Usage` comes only where `clap` refuses the words.
+/// Returns what the arguments after the program's name ask for, as `clap` reads them by the command `colregs`: a migration, or the report of
+/// a task. An option that the task does not need has no effect. `Usage` occurs only if `clap` refuses the arguments.
 pub fn request_of(alloc: Global, words: &[Word]) -> Result<Request, WordsFault>
     ensures asked { IfOk result (AskFor words.now) }
     ensures refused { result ≡ Err WordsFault.Usage → AskForNothing words.now }

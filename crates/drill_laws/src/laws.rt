@@ -1,4 +1,4 @@
-//! What may be relied on of the log of a drill. The law stands over the definitions alone.
+//! What may be relied on of the log of a drill. The law follows from the definitions alone.
 ghost use Rattle.std.specs.Prelude.{ℕ};
 ghost use Rattle.scenario_values.specs.ValueRanges.{IsWindow};
 ghost use Rattle.scenario_values.specs.declared.values.Scenario.{Scenario};
@@ -9,7 +9,8 @@ use log_lines::laws::ended_lines_stay;
 
 /// A drill's log never makes more vessels held than a book can hold, nor more traces begin than are followed, wherever it is cut.
 pub fn a_drill_meets_no_limit()
-    ensures { (scenario : Scenario) (seed : ℕ) → IsWindow scenario.window → MeetsNoLimit scenario (drill_log_of scenario seed) }
+    ensures { (scenario : Scenario) (seed : ℕ) → IsWindow scenario.window
+        → MeetsNoLimit scenario (drill_log_of scenario seed) }
 {
     ended_lines_stay();
 }

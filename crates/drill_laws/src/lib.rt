@@ -1,7 +1,8 @@
 //! The fleet of a drill: forty vessels, so that a drill meets no limit of vessels or of traces.
 //!
-//! A run that makes its own log is refused for the bytes of the log alone: the law tells why. Forty vessels have 1560 pairs, and an audit
-//! follows 4096 traces at most. Of a log that is read nothing of the kind holds.
+//! If a run that makes its own log is refused, the cause is in the bytes of the log: the law states why. Forty vessels have 1560 pairs,
+//! and an audit
+//! follows 4096 traces at most. Nothing of the kind holds for a log that is read.
 #![tactic(auto)]
 
 pub mod laws;

@@ -3,7 +3,7 @@ use Rattle.std.proofs.Common.{◌≡◌, ℕ, zero, suc, ◌+◌, ◌<◌, List,
 use Rattle.std.proofs.lemmas.List.{flat_map_more, take_more}
 use Rattle.std.specs.List.{range_with_len, flat_map}
 
--- the numbers of a range, and those behind them
+-- the numbers of a range, and those after them
 pub range_split : (a n m : ℕ) → range_with_len a (n + m) ≡ range_with_len a n ++ range_with_len (a + n) m
 range_split a zero m =
     let none : 0 + m ≡ m = omega arith in

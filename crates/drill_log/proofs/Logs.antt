@@ -11,7 +11,7 @@ use Rattle.drill_log.specs.DrillLog.{TimedReport, report_line, vessel_report, re
 use Rattle.drill_log.specs.Inner.VesselFigures.{report_by, vessel_of}
 use Rattle.drill_log.specs.declared.vessel.Vessel.{Vessel}
 
--- the line of a vessel after so many minutes
+-- the line of a vessel after this many minutes
 abbrev pub line_by : Scenario → ℕ → Vessel → List ℕ
 line_by scenario minutes vessel = report_line (record { time = scenario.window.start + 60 * minutes; report = report_by vessel scenario.reference minutes })
 

@@ -22,7 +22,7 @@ minute_on f from minutes before after le so_far more =
     ∙ ap (λ (l : List ℕ). flat_map f (range_with_len from (minutes - from)) ++ l) (append-nil (f minutes)) in
     more ∙ ap (λ (l : List ℕ). l ++ f minutes) so_far ∙ sym one ∙ ap (λ (n : ℕ). flat_map f (range_with_len from n)) count
 
--- The lines of some minutes stand before those of the minutes behind them.
+-- The lines of some minutes come before those of the minutes after them.
 pub minutes_split : (f : ℕ → List ℕ) (made next reports : ℕ) → made ≤ next → next ≤ reports
     → flat_map f (range_with_len made (next - made)) ++ flat_map f (range_with_len next (reports - next)) ≡ flat_map f (range_with_len made (reports - made))
 minutes_split f made next reports first second =

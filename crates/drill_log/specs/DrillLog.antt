@@ -20,7 +20,7 @@ use Rattle.scenario_values.specs.declared.values.Window.{Window}
 abbrev pub next_state : ℕ → ℕ
 next_state state = (state * 1103515245 + 12345) % 2 ^ 31
 
--- its state after so many steps from the seed
+-- its state after this many steps from the seed
 unfoldable pub state_of : ℕ → ℕ → ℕ
 state_of seed zero = seed
 state_of seed (suc steps) = next_state (state_of seed steps)
@@ -91,7 +91,7 @@ pub record TimedReport : Type 0 where
 abbrev pub minutes_in : Window → ℕ
 minutes_in window = window.ticks * window.tick / 60
 
--- the reports so many minutes after tick 0, in the order of the vessels
+-- the reports this many minutes after tick 0, in the order of the vessels
 abbrev pub reports_at : Scenario → ℕ → ℕ → List TimedReport
 reports_at scenario seed minutes =
     map (λ vessel. record {

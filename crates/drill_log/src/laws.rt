@@ -1,4 +1,4 @@
-//! What may be relied on of the log of a drill. The laws stand over the definitions alone.
+//! What may be relied on of the log of a drill. The laws follow from the definitions alone.
 ghost use Rattle.std.specs.Prelude.{◌≡◌, ◌≤◌, ℕ, All, Some};
 ghost use Rattle.aivdm.specs.SentenceWriting.{line_of, IsWritten};
 ghost use Rattle.ais_messages.specs.MessageFields.{decoded_of};
@@ -13,17 +13,19 @@ ghost use Rattle.drill_log.specs.DrillLog.{drill_reports, TimedReport};
 
 /// Each report of a drill is of one of forty ships, has its fields in their ranges, and is of a time in the window.
 pub fn reports_are_of_forty_ships()
-    ensures { (scenario : Scenario) (seed : ℕ) → All (IsDrillReport scenario.window) (drill_reports scenario seed) }
+    ensures { (scenario : Scenario) (seed : ℕ)
+        → All (IsDrillReport scenario.window) (drill_reports scenario seed) }
 {}
 
 /// The line of such a report is read as a whole message, which is the report again.
 pub fn lines_are_read_again()
     ensures { (window : Window) (timed : TimedReport) → IsWindow window → IsDrillReport window timed
-        → IsWritten (Some timed.time) (encoded_of timed.report) 65 (line_of (Some timed.time) (encoded_of timed.report) 65)
+        → IsWritten (Some timed.time) (encoded_of timed.report) 65
+        (line_of (Some timed.time) (encoded_of timed.report) 65)
         × (decoded_of (encoded_of timed.report) ≡ decoded.Message (Position timed.report)) }
 {}
 
-/// The line of such a report has visible characters alone, so the line feed behind it is the first line end.
+/// The line of such a report holds only visible characters, so the line feed after it is the first line end.
 pub fn lines_hold_no_line_end()
     ensures { (window : Window) (timed : TimedReport) → IsWindow window → IsDrillReport window timed
         → All (λ byte. 33 ≤ byte) (line_of (Some timed.time) (encoded_of timed.report) 65) }

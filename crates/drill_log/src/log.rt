@@ -15,7 +15,7 @@ use out_of_memory::Memory;
 use scenario_values::{Scenario, Window};
 use std::alloc::Global;
 
-/// A line has at most so many bytes: 18 of the tag block, 47 of the sentence, and LF.
+/// A line has at most this many bytes: 18 of the tag block, 47 of the sentence, and LF.
 const LINE_BYTES: usize = 66;
 
 /// The log of the drill with this seed, 0 to 999999: each of forty vessels at tick 0 and each minute of the window from then on.
@@ -52,7 +52,9 @@ pub(crate) fn lines_between(
     requires start { start ≤ 9999999999 }
     requires ordered { from ≤ end }
     requires few { end ≤ 20001 }
-    ensures { IfOk result (λ lines. lines.items ≡ flat_map (lines_at reference start vessels.now) (range_with_len from (end - from))) }
+    ensures { IfOk result
+        (λ lines. lines.items
+        ≡ flat_map (lines_at reference start vessels.now) (range_with_len from (end - from))) }
 {
     let mut lines = Vec::new(alloc);
     lines.reserve((end - from) as usize * (VESSELS as usize * LINE_BYTES))?;
@@ -72,7 +74,7 @@ pub(crate) fn minutes_in(window: Window) -> u32
     window.ticks * window.tick / 60
 }
 
-/// Appends the lines of the vessels' reports after so many minutes.
+/// Appends the lines of the vessels' reports after this many minutes.
 fn push_reports(
     log: &mut Vec<u8>,
     alloc: Global,
@@ -84,8 +86,10 @@ fn push_reports(
     requires vessels { All IsVessel vessels.now }
     requires minutes { minutes ≤ 20000 }
     requires time { time < 100_000_000_000 }
-    ensures { OnOk result (log.new.items ≡ log.old.items
-        ++ flat_map (λ vessel. report_line (record { time = time; report = report_by vessel reference minutes })) vessels.now) }
+    ensures { OnOk result
+        (log.new.items ≡ log.old.items
+        ++ flat_map (λ vessel. report_line
+        (record { time = time; report = report_by vessel reference minutes })) vessels.now) }
 {
     for vessel in vessels {
         push_line(log, alloc, &vessel.report(reference, minutes), time)?;
@@ -103,7 +107,9 @@ fn push_line(
     requires ranges { IsReport report.now }
     requires kind { report.now.kind ≡ 1 }
     requires time { time < 100_000_000_000 }
-    ensures { OnOk result (log.new.items ≡ log.old.items ++ report_line (record { time = time; report = report.now })) }
+    ensures { OnOk result
+        (log.new.items ≡ log.old.items
+        ++ report_line (record { time = time; report = report.now })) }
 {
     let bits = encode_position(alloc, report)?;
     let line = write_sentence(alloc, Some(time), &bits, b'A')?;

@@ -15,10 +15,10 @@ use outside::{PlainSource, Source, Taken};
 use scenario_values::Scenario;
 use std::alloc::Global;
 
-/// The lines of so many minutes are made at a time, which are about a block.
+/// The lines of this many minutes are made at a time, which are about a block.
 const MINUTES: u32 = 24;
 
-/// A read gives so many bytes at most.
+/// A read gives this many bytes at most.
 const BLOCK: usize = 65536;
 
 impl MinuteLog {
@@ -41,7 +41,7 @@ impl MinuteLog {
         })
     }
 
-    /// Makes the lines of the next minutes, if minutes are left: tells whether they are.
+    /// Makes the lines of the next minutes, if minutes are left; returns whether they are.
     fn make(&mut self) -> Result<bool, Memory>
         requires { self.old.block.left ≡ [] }
         ensures left { left_of self.new ≡ left_of self.old }

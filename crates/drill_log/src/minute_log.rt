@@ -8,7 +8,7 @@ use fixed_geometry::Reference;
 use outside::PlainSource;
 use std::alloc::Global;
 
-/// The log of a drill, of which the lines of a few minutes are made at a time.
+/// The log of a drill; the lines of a few minutes are made at a time.
 #[derive(Drop)]
 pub(crate) struct MinuteLog {
     pub(crate) alloc: Global,

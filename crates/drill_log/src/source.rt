@@ -11,7 +11,7 @@ use scenario_values::Scenario;
 use std::alloc::Global;
 use std::marker::Model;
 
-/// The log of a drill, made while it is read: the lines of a few minutes are held, and no more. A read fails where there is no memory
+/// The log of a drill, made while it is read: the lines of a few minutes are held, and no more. A read fails if there is no memory
 /// to make them, and nowhere else.
 #[derive(Drop)]
 pub struct DrillSource {

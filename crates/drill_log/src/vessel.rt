@@ -28,7 +28,7 @@ pub(crate) struct Vessel {
     pub(crate) way: Point,
     /// In tenths of a knot.
     pub(crate) speed: u16,
-    /// In tenths of a degree, where she moves.
+    /// In tenths of a degree, if she moves.
     pub(crate) course: Option<u16>,
 }
 
@@ -58,7 +58,7 @@ fn product(minutes: u32, way: i64) -> i64
     i64::from(minutes) * way
 }
 
-/// One component of the way in so many minutes.
+/// One component of the way in this many minutes.
 fn gone(minutes: u32, way: i64) -> i64
     requires minutes { minutes ≤ 20000 }
     requires way { unsigned_abs way ≤ 1500 }
@@ -68,7 +68,7 @@ fn gone(minutes: u32, way: i64) -> i64
     product(minutes, way)
 }
 
-/// A latitude or a longitude after so many minutes.
+/// A latitude or a longitude after this many minutes.
 fn reached(reference: i32, start: i32, way: i64, minutes: u32) -> i32
     requires reference { unsigned_abs reference ≤ 108000000 }
     requires start { unsigned_abs start ≤ 20000 }
@@ -84,9 +84,10 @@ impl Vessel {
     fn draw(numbers: &mut DrawnNumbers, mmsi: u32) -> Vessel
         requires mmsi_from { 200000000 ≤ mmsi }
         requires mmsi_to { mmsi ≤ 799999999 }
-        ensures state { (seed steps : ℕ) → numbers.old.state ≡ state_of seed steps → numbers.new.state ≡ state_of seed (steps + 4) }
-        ensures figures { (seed vessel : ℕ) → numbers.old.state ≡ state_of seed (4 * vessel) → mmsi ≡ 200000001 + vessel
-            → result ≡ vessel_of seed vessel }
+        ensures state { (seed steps : ℕ) → numbers.old.state ≡ state_of seed steps
+            → numbers.new.state ≡ state_of seed (steps + 4) }
+        ensures figures { (seed vessel : ℕ) → numbers.old.state ≡ state_of seed (4 * vessel)
+            → mmsi ≡ 200000001 + vessel → result ≡ vessel_of seed vessel }
         ensures ranges { IsVessel result }
     {
         let north = numbers.draw(20_000);
@@ -107,7 +108,7 @@ impl Vessel {
         }
     }
 
-    /// Her report so many minutes after tick 0.
+    /// Her report this many minutes after tick 0.
     pub(crate) fn report(&self, reference: Reference, minutes: u32) -> PositionReport
         requires vessel { IsVessel self.now }
         requires minutes { minutes ≤ 20000 }
@@ -133,7 +134,8 @@ impl Vessel {
 /// The vessels of a seed.
 pub(crate) fn vessels(alloc: Global, seed: u32) -> Result<Vec<Vessel>, Memory>
     requires { seed ≤ 999999 }
-    ensures figures { IfOk result (λ vessels. vessels.items ≡ map (vessel_of seed) (range_with_len 0 40)) }
+    ensures figures { IfOk result
+        (λ vessels. vessels.items ≡ map (vessel_of seed) (range_with_len 0 40)) }
     ensures ranges { IfOk result (λ vessels. All IsVessel vessels.items) }
 {
     let mut numbers = DrawnNumbers::new(seed);

@@ -1,4 +1,4 @@
--- Lists that are written, and the formulas of rules.
+-- The formulas of rules.
 use Rattle.std.proofs.Common.{◌≡◌, ℕ, zero, suc, ◌+◌, ◌<◌, List, [], ◌∷◌, ◌++◌, length, take, drop, append-nil, get_or, Option, None, Some, Result, Ok, Err, IfOk, refl, sym, ap, subst, ◌∙◌, arith}
 use Rattle.std.proofs.lemmas.List.{drop_all, length_push, take_all, take_more}
 use Rattle.mtl_monitor.specs.Following.{IsProgramOf, formula_at}
@@ -9,11 +9,6 @@ use Rattle.rule_set.specs.NamedTrees.{NamedTree, rule_at, rule_named}
 use Rattle.early_monitor.specs.declared.early_rule.EarlyRule.{EarlyRule}
 use Rattle.early_monitor.specs.Alarms.{tree_of_rule}
 use Rattle.early_monitor.specs.Inner.RulesWatched.{IsPlainProgram, plain_tree, plain_trees}
-
--- what a slice of all elements leaves when it is written
-pub whole_written : {X : Type 0} (n : ℕ) (xs ys : List X) → n ≡ length ys → length xs ≡ length ys → take n (xs ++ drop (length xs) ys) ≡ xs
-whole_written {X} n xs ys e f =
-    ap (λ (zs : List X). take n (xs ++ zs)) (drop_all (length xs) ys (omega (arith, f))) ∙ (ap (λ (zs : List X). take n zs) (append-nil xs) ∙ take_all n xs (omega (arith, e, f)))
 
 -- A rule that has no program of its own stands in the program of all by its formula.
 pub formula_is : (early : List (Option EarlyRule)) (rules : List NamedTree) (k : ℕ) → length early ≡ length rules → k < length rules → get_or early k None ≡ None

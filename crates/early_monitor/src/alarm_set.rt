@@ -11,7 +11,7 @@ use out_of_memory::Memory;
 use std::alloc::Global;
 use std::collections::BTreeSet;
 
-/// Where a rule is looked at: the trace by its pair and its first step, the rule, and the latest step.
+/// Where a rule is checked: the trace by its pair and its first step, the rule, and the latest step.
 #[derive(Clone, Copy)]
 pub(crate) struct Place {
     pub(crate) pair: Pair,
@@ -28,7 +28,8 @@ pub(crate) fn add_alarm(
 ) -> Result<(), Memory>
     requires start { place.start < 2 ^ 31 }
     requires position { position < 2 ^ 31 }
-    ensures { OnOk result (Adds (λ (a : Alarm). a ≡ alarm_at place position) alarms.old.keys alarms.new.keys) }
+    ensures { OnOk result
+        (Adds (λ (a : Alarm). a ≡ alarm_at place position) alarms.old.keys alarms.new.keys) }
 {
     alarms.insert(Alarm {
         decided: place.step,
@@ -48,7 +49,8 @@ pub(crate) fn take_value(
 ) -> Result<(), Memory>
     requires start { place.start < 2 ^ 31 }
     requires position { position < 2 ^ 31 }
-    ensures { OnOk result (Adds (Tells (Some (position, value)) place) alarms.old.keys alarms.new.keys) }
+    ensures { OnOk result
+        (Adds (Tells (Some (position, value)) place) alarms.old.keys alarms.new.keys) }
 {
     match value {
         Verdict::No => add_alarm(alarms, place, position),
@@ -56,7 +58,7 @@ pub(crate) fn take_value(
     }
 }
 
-/// Adds the alarm that an answer tells: that of its position, where its value is No.
+/// Adds the alarm of an answer, that of its position, if its value is No.
 pub(crate) fn take_answer(
     alarms: &mut BTreeSet<Alarm>,
     place: Place,

@@ -51,9 +51,10 @@ impl EarlyMonitor {
     /// The next position that exactly the rows fed so far decide, with its value: in ascending order, and each once. `None`
     /// where all were given. It takes no memory.
     pub fn next(&mut self) -> Option<(u32, Verdict)>
-        ensures answer { (t : FormulaTree) (rows : Trace) (from : ℕ) → IsGiving self.old t rows from →
-            IsNextDecided result t rows from × Continues result self.new t rows }
-        ensures again { (t : FormulaTree) (rows : Trace) → IsAt self.old t rows → (result ≡ None) × IsAt self.new t rows }
+        ensures answer { (t : FormulaTree) (rows : Trace) (from : ℕ) → IsGiving self.old t rows from
+            → IsNextDecided result t rows from × Continues result self.new t rows }
+        ensures again { (t : FormulaTree) (rows : Trace) → IsAt self.old t rows
+            → (result ≡ None) × IsAt self.new t rows }
         ensures done { result ≡ None → HasGivenAll self.new }
         ensures fed { rows_fed self.new ≡ rows_fed self.old }
     {

@@ -8,7 +8,7 @@ use mtl_formulas::{Atoms, Formula, Verdict};
 use out_of_memory::Memory;
 use std::alloc::Global;
 
-/// A formula whose positions are told at the first row that decides them. One program serves many traces.
+/// A formula whose positions are answered at the first row that decides them. One program serves many traces.
 #[derive(Drop)]
 pub(crate) enum EarlyProgram {
     Sweeps(SweepProgram),
@@ -52,10 +52,11 @@ impl EarlyProgram {
         }
     }
 
-    /// The state over a trace of which no row was fed. It takes all its memory here.
+    /// Returns the state over a trace before its first row. It takes all its memory here.
     pub(crate) fn begin(&self, alloc: Global) -> Result<EarlyState, Memory>
         ensures of { IfOk result (IsStateOf self.now) }
-        ensures at { IfOk result (λ s. (t : FormulaTree) → IsEarlyProgramOf self.now t → IsAt self.now s t []) }
+        ensures at { IfOk result
+            (λ s. (t : FormulaTree) → IsEarlyProgramOf self.now t → IsAt self.now s t []) }
         ensures fed { IfOk result (λ s. rows_fed s ≡ 0) }
         ensures done { IfOk result HasGivenAll }
     {
@@ -96,9 +97,11 @@ impl EarlyProgram {
         requires of { IsStateOf self.now state.old }
         ensures of { IsStateOf self.now state.new }
         ensures position { IfSome result (λ a. a.0 < 2 ^ 31) }
-        ensures answer { (t : FormulaTree) (rows : Trace) (from : ℕ) → IsGiving self.now state.old t rows from →
-            IsNextDecided result t rows from × Continues self.now result state.new t rows }
-        ensures again { (t : FormulaTree) (rows : Trace) → IsAt self.now state.old t rows → (result ≡ None) × IsAt self.now state.new t rows }
+        ensures answer { (t : FormulaTree) (rows : Trace) (from : ℕ)
+            → IsGiving self.now state.old t rows from
+            → IsNextDecided result t rows from × Continues self.now result state.new t rows }
+        ensures again { (t : FormulaTree) (rows : Trace) → IsAt self.now state.old t rows
+            → (result ≡ None) × IsAt self.now state.new t rows }
         ensures done { result ≡ None → HasGivenAll state.new }
         ensures lower { IfSome result (λ a. left_to_look state.new < left_to_look state.old) }
         ensures fed { rows_fed state.new ≡ rows_fed state.old }

@@ -37,12 +37,14 @@ impl EarlyRule {
         Ok(Some(EarlyRule { program }))
     }
 
-    /// The state over a trace of which no row was fed.
+    /// Returns the state over a trace before its first row.
     pub(crate) fn begin(&self, alloc: Global) -> Result<EarlyState, Memory>
         ensures of { IfOk result (IsStateOf self.now.program) }
         ensures done { IfOk result HasGivenAll }
         ensures fed { IfOk result (λ s. rows_fed s ≡ 0) }
-        ensures at { IfOk result (λ s. (t : FormulaTree) → IsEarlyProgramOf self.now.program t → IsAt self.now.program s t []) }
+        ensures at { IfOk result
+            (λ s. (t : FormulaTree) → IsEarlyProgramOf self.now.program t
+            → IsAt self.now.program s t []) }
     {
         self.program.begin(alloc)
     }
@@ -62,9 +64,11 @@ impl EarlyRule {
         ensures of { OnOk result (IsStateOf self.now.program state.new) }
         ensures done { OnOk result (HasGivenAll state.new) }
         ensures fed { OnOk result (rows_fed state.new ≡ rows_fed state.old + 1) }
-        ensures adds { OnOk result ((t : FormulaTree) (rows : Trace) → IsAt self.now.program state.old t rows
+        ensures adds { OnOk result
+            ((t : FormulaTree) (rows : Trace) → IsAt self.now.program state.old t rows
             → IsAt self.now.program state.new t (rows ++ answer_of row.now ∷ [])
-            × Adds (IsBreach place t (rows ++ answer_of row.now ∷ [])) alarms.old.keys alarms.new.keys) }
+            × Adds (IsBreach place t (rows ++ answer_of row.now ∷ [])) alarms.old.keys
+            alarms.new.keys) }
     {
         self.program.feed(state, row);
         while let Some((position, value)) = self.program.next(state) {

@@ -27,7 +27,7 @@ pub(crate) fn is_answer(answer: Option<(u32, Verdict)>) -> bool
     }
 }
 
-/// So many places of which nothing is known.
+/// Returns this number of places, with nothing known of any.
 pub(crate) fn nothing_known(alloc: Global, count: usize) -> Result<Vec<bool>, Memory>
     ensures { IfOk result (λ known. known.items ≡ replicate count false) }
 {

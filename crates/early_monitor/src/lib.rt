@@ -10,7 +10,6 @@
 
 mod alarm;
 mod alarm_set;
-mod each_trace;
 mod early_monitor;
 mod early_program;
 mod early_rule;
@@ -20,6 +19,7 @@ mod pass_program;
 mod pass_state;
 mod rule_lists;
 mod watch;
+mod watch_keeper;
 mod watched_rules;
 mod watched_trace;
 

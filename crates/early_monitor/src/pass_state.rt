@@ -9,11 +9,11 @@ use mtl_monitor::{Program, TraceState};
 use out_of_memory::Memory;
 use std::alloc::Global;
 
-/// The state of a program of one formula over one trace, which tells each position at the first row that decides it. One program
+/// The state of a program of one formula over one trace, which answers each position at the first row that decides it. One program
 /// serves many traces.
 ///
-/// Beside the state after the rows fed stands one that passes rows beyond them, and so tells the value so far at each position
-/// that the formula's reach still keeps open.
+/// Beside the state after the rows fed is one that passes rows beyond them, which gives the value so far at each position that
+/// the formula's reach still keeps open.
 #[derive(Drop)]
 pub(crate) struct PassState {
     pub(crate) state: TraceState,
@@ -21,7 +21,7 @@ pub(crate) struct PassState {
     pub(crate) reach: u32,
     /// Which of the last positions, one more than the reach, are decided.
     known: Vec<bool>,
-    /// How many of them were looked at since the last row.
+    /// How many of them were checked since the last row.
     pub(crate) place: u32,
     ghost fed_small: { fed_of state ≤ 2 ^ 31 },
     ghost unclosed: { past_of state ≡ 0 },
@@ -43,11 +43,13 @@ impl PassState {
     ghost use Rattle.mtl_early.specs.Decided.{IsNextDecided};
     ghost use Rattle.early_monitor.specs.Inner.Passing.{Continues, HasLookedAll, IsAt, IsGiving, IsLooked, IsLooking, IsStateOf, fed_rows, left_to_look};
 
-    /// The state over a trace of which no row was fed. It takes all its memory here.
+    /// Returns the state over a trace before its first row. It takes all its memory here.
     pub(crate) fn new(alloc: Global, program: &Program, reach: u32) -> Result<PassState, Memory>
         requires { reach ≤ 7200 }
         ensures of { IfOk result (IsStateOf program.now) }
-        ensures at { IfOk result (λ s. (t : FormulaTree) → IsProgramOf program.now (t ∷ []) → reach ≡ reach_of t → IsAt program.now s t []) }
+        ensures at { IfOk result
+            (λ s. (t : FormulaTree) → IsProgramOf program.now (t ∷ []) → reach ≡ reach_of t
+            → IsAt program.now s t []) }
         ensures fed { IfOk result (λ s. fed_rows s ≡ 0) }
         ensures done { IfOk result HasLookedAll }
     {
@@ -63,7 +65,7 @@ impl PassState {
         })
     }
 
-    /// Feeds the next row, once all places were looked at. It takes no memory.
+    /// Feeds the next row, once all places were checked. It takes no memory.
     pub(crate) fn feed<A: Atoms>(&mut self, program: &Program, row: &A)
         requires of { IsStateOf program.now self.old }
         requires small { fed_rows self.old < 2 ^ 31 }
@@ -84,9 +86,11 @@ impl PassState {
         requires one { count_of program.now ≡ 1 }
         ensures of { IsStateOf program.now self.new }
         ensures position { IfSome result (λ a. a.0 < 2 ^ 31) }
-        ensures answer { (t : FormulaTree) (rows : Trace) (from : ℕ) → IsGiving program.now self.old t rows from →
-            IsNextDecided result t rows from × Continues program.now result self.new t rows }
-        ensures again { (t : FormulaTree) (rows : Trace) → IsAt program.now self.old t rows → (result ≡ None) × IsAt program.now self.new t rows }
+        ensures answer { (t : FormulaTree) (rows : Trace) (from : ℕ)
+            → IsGiving program.now self.old t rows from
+            → IsNextDecided result t rows from × Continues program.now result self.new t rows }
+        ensures again { (t : FormulaTree) (rows : Trace) → IsAt program.now self.old t rows
+            → (result ≡ None) × IsAt program.now self.new t rows }
         ensures done { result ≡ None → HasLookedAll self.new }
         ensures lower { IfSome result (λ a. left_to_look self.new < left_to_look self.old) }
         ensures fed { fed_rows self.new ≡ fed_rows self.old }
@@ -110,8 +114,10 @@ impl PassState {
         ensures place { self.new.place ≡ self.old.place + 1 }
         ensures reach { self.new.reach ≡ self.old.reach }
         ensures fed { fed_rows self.new ≡ fed_rows self.old }
-        ensures looked { (t : FormulaTree) (before : Trace) (row : Atom → Verdict) → IsLooking program.now self.old t before row →
-            IsLooking program.now self.new t before row × IsLooked result t (before ++ row ∷ []) self.old.place }
+        ensures looked { (t : FormulaTree) (before : Trace) (row : Atom → Verdict)
+            → IsLooking program.now self.old t before row
+            → IsLooking program.now self.new t before row
+            × IsLooked result t (before ++ row ∷ []) self.old.place }
     {
         let place = self.place as usize;
         let answer = self.ahead.answer(program, 0);

@@ -35,8 +35,9 @@ fn with_rule(
     formula: &Formula,
 ) -> Result<Program, Memory>
     requires { IsValid (tree_of formula.now) }
-    ensures plain { (rules : List NamedTree) (before : List (Option EarlyRule)) (rule : NamedTree) → tree_of formula.now ≡ rule.tree
-        → IsPlainProgram program before rules → IfOk result (λ p. IsPlainProgram p (before ++ early.now ∷ []) (rules ++ rule ∷ [])) }
+    ensures plain { (rules : List NamedTree) (before : List (Option EarlyRule)) (rule : NamedTree)
+        → tree_of formula.now ≡ rule.tree → IsPlainProgram program before rules
+        → IfOk result (λ p. IsPlainProgram p (before ++ early.now ∷ []) (rules ++ rule ∷ [])) }
     ensures count { IfOk result (λ p. count_of p ≡ count_of program + 1) }
 {
     match early {
@@ -63,7 +64,7 @@ pub(crate) fn plain_program(
     Ok(program)
 }
 
-/// What each rule keeps of a trace of which no row was fed.
+/// Returns what each rule keeps of a trace before its first row.
 pub(crate) fn begin_rules(
     alloc: Global,
     rules: &WatchedRules,

@@ -11,9 +11,8 @@ ghost use Rattle.early_monitor.specs.Watching.{IsSound, StandsFor, given_of, las
 
 use crate::alarm::Alarm;
 use crate::alarm_set::listed;
-use crate::each_trace::{begin_each, follow_each};
+use crate::watch_keeper::WatchKeeper;
 use crate::watched_rules::WatchedRules;
-use crate::watched_trace::WatchedTrace;
 use encounters::{Act, Detect};
 use motion::TickState;
 use out_of_memory::Memory;
@@ -22,21 +21,18 @@ use rule_set::RuleSet;
 use scenario_values::Window;
 use std::alloc::Global;
 use std::collections::BTreeSet;
-use traces::{AllTraces, TickFault};
+use traces::{AllTraces, TickFault, TraceWindow};
 
 /// The watch over a window. It stands for the vessels seen at the ticks that it was given.
 #[derive(Drop)]
 pub struct Watch {
     alloc: Global,
-    rules: WatchedRules,
-    traces: AllTraces,
-    /// What the rules come to over each trace, in the order of the traces.
-    values: Vec<WatchedTrace>,
+    window: TraceWindow<WatchKeeper>,
 }
 
 impl Watch {
-    /// The watch over a window by these rules and numbers, of the pairs of which one vessel is a subject; where there are no subjects,
-    /// of all pairs.
+    /// Returns the watch over a window by these rules and numbers. It watches the pairs in which one vessel is a subject, or all pairs
+    /// if there are no subjects.
     pub fn new(
         alloc: Global,
         rules: &RuleSet,
@@ -58,18 +54,21 @@ impl Watch {
         }) []) }
     {
         let rules = WatchedRules::new(alloc, rules)?;
+        let keeper = WatchKeeper {
+            alloc,
+            rules,
+            alarms: BTreeSet::new(alloc),
+        };
         let traces = AllTraces::new(alloc, detect, act, subjects, window.tick, window.ticks)?;
         Ok(Watch {
             alloc,
-            rules,
-            traces,
-            values: Vec::new(alloc),
+            window: TraceWindow::new(alloc, traces, keeper),
         })
     }
 
-    /// Takes the next tick, of whose vessels these are seen, in the order of their MMSIs, and gives the alarms of each breach that the
-    /// step to it decides: call `k`, counted from 0, those with the deciding step `k - 1`. The ranks are those of the vessels seen, in
-    /// the same order; where ranks do not count, there are none. After an `Err` the watch may only be dropped.
+    /// Takes the next tick, and returns the alarms of each breach that the step to it decides: call `k`, counted from 0, returns those
+    /// with the deciding step `k - 1`. These vessels are seen at the tick, in the order of their MMSIs. The ranks are theirs, in the
+    /// same order; if ranks do not count, there are none. After an `Err` the watch may only be dropped.
     pub fn step(
         &mut self,
         seen: &[(u32, TickState)],
@@ -84,38 +83,34 @@ impl Watch {
         ensures given { OnOk result (given_of self.new ≡ given_of self.old + 1) }
         ensures last_tick { OnOk result (last_tick_of self.new ≡ last_tick_of self.old) }
         ensures latest { OnOk result (latest_vessels self.new ≡ seen.now) }
-        ensures stands { OnOk result ((numbers : AuditNumbers) (ticks : List Sighting) → StandsFor self.old numbers ticks
-            → StandsFor self.new numbers (ticks ++ record { vessels = seen.now; ranks = ranks.now } ∷ [])) }
-        ensures alarms { IfOk result (λ alarms. (numbers : AuditNumbers) (ticks : List Sighting) → StandsFor self.old numbers ticks
-            → AreAlarmsNow numbers (ticks ++ record { vessels = seen.now; ranks = ranks.now } ∷ []) alarms.items) }
+        ensures stands { OnOk result
+            ((numbers : AuditNumbers) (ticks : List Sighting) → StandsFor self.old numbers ticks
+            → StandsFor self.new numbers
+            (ticks ++ record { vessels = seen.now; ranks = ranks.now } ∷ [])) }
+        ensures alarms { IfOk result
+            (λ alarms. (numbers : AuditNumbers) (ticks : List Sighting)
+            → StandsFor self.old numbers ticks
+            → AreAlarmsNow numbers
+            (ticks ++ record { vessels = seen.now; ranks = ranks.now } ∷ []) alarms.items) }
         // With them all alarms of the ticks so far were given.
-        ensures all { IfOk result (λ alarms. (numbers : AuditNumbers) (ticks : List Sighting) (given : List Alarm) → StandsFor self.old numbers ticks
-            → AreAlarms numbers ticks given
-            → AreAlarms numbers (ticks ++ record { vessels = seen.now; ranks = ranks.now } ∷ []) (given ++ alarms.items)) }
-        // The limit is met exactly where the tick begins a 4097th trace; memory may run out before.
-        ensures many { result ≡ Err TooManyPairs → (numbers : AuditNumbers) (ticks : List Sighting) → StandsFor self.old numbers ticks
-            → HaveMoreThan MOST_TRACES numbers (ticks ++ record { vessels = seen.now; ranks = ranks.now } ∷ []) }
-        ensures few { OnOk result ((numbers : AuditNumbers) (ticks : List Sighting) → StandsFor self.old numbers ticks
-            → HaveMoreThan MOST_TRACES numbers (ticks ++ record { vessels = seen.now; ranks = ranks.now } ∷ []) → ⊥) }
+        ensures all { IfOk result
+            (λ alarms. (numbers : AuditNumbers) (ticks : List Sighting) (given : List Alarm)
+            → StandsFor self.old numbers ticks → AreAlarms numbers ticks given
+            → AreAlarms numbers (ticks ++ record { vessels = seen.now; ranks = ranks.now } ∷ [])
+            (given ++ alarms.items)) }
+        // The limit is met exactly if the tick begins a 4097th trace; memory may run out before.
+        ensures many { result ≡ Err TooManyPairs → (numbers : AuditNumbers) (ticks : List Sighting)
+            → StandsFor self.old numbers ticks
+            → HaveMoreThan MOST_TRACES numbers
+            (ticks ++ record { vessels = seen.now; ranks = ranks.now } ∷ []) }
+        ensures few { OnOk result
+            ((numbers : AuditNumbers) (ticks : List Sighting) → StandsFor self.old numbers ticks
+            → HaveMoreThan MOST_TRACES numbers
+            (ticks ++ record { vessels = seen.now; ranks = ranks.now } ∷ []) → ⊥) }
     {
-        let given = self.traces.given();
-        let mut alarms = BTreeSet::new(self.alloc);
-        follow_each(
-            &mut self.traces,
-            &mut self.values,
-            &self.rules,
-            seen,
-            given.saturating_sub(1),
-            &mut alarms,
-        )?;
-        self.traces.tick(seen, ranks)?;
-        begin_each(
-            self.alloc,
-            &self.traces,
-            &mut self.values,
-            &self.rules,
-            given,
-        )?;
-        Ok(listed(self.alloc, &alarms)?)
+        self.window.tick(seen, ranks)?;
+        let alarms = listed(self.alloc, &self.window.keeper.alarms)?;
+        self.window.keeper.alarms = BTreeSet::new(self.alloc);
+        Ok(alarms)
     }
 }

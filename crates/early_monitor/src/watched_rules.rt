@@ -43,7 +43,7 @@ impl WatchedRules {
         Ok(WatchedRules { program, early })
     }
 
-    /// What the rule at an index keeps of a trace of which no row was fed.
+    /// Returns what the rule at an index keeps of a trace before its first row.
     pub(crate) fn begin_rule(
         &self,
         alloc: Global,
@@ -76,13 +76,20 @@ impl WatchedRules {
         requires start { place.start < 2 ^ 31 }
         requires fits { FitsRule (fed_of values.now - 1) (early_at self.now place.rule) state.old }
         requires some { 0 < fed_of values.now }
-        ensures calm { IfOk result (λ calm. calm ≡ true → IsCalmRule self.now values.now place.rule) }
-        ensures fits { OnOk result (FitsRule (fed_of values.now) (early_at self.now place.rule) state.new) }
-        ensures adds { OnOk result ((rules : List NamedTree) (rows : Trace) → AreWatched self.now rules
-            → Follows self.now.program values.now (plain_trees self.now.early.items rules) (rows ++ answer_of row.now ∷ [])
-            → StandsForRule (early_at self.now place.rule) state.old (tree_of_rule rules place.rule) rows
-            → StandsForRule (early_at self.now place.rule) state.new (tree_of_rule rules place.rule) (rows ++ answer_of row.now ∷ [])
-            × Adds (IsBreach place (tree_of_rule rules place.rule) (rows ++ answer_of row.now ∷ [])) alarms.old.keys alarms.new.keys) }
+        ensures calm { IfOk result
+            (λ calm. calm ≡ true → IsCalmRule self.now values.now place.rule) }
+        ensures fits { OnOk result
+            (FitsRule (fed_of values.now) (early_at self.now place.rule) state.new) }
+        ensures adds { OnOk result
+            ((rules : List NamedTree) (rows : Trace) → AreWatched self.now rules
+            → Follows self.now.program values.now (plain_trees self.now.early.items rules)
+            (rows ++ answer_of row.now ∷ [])
+            → StandsForRule (early_at self.now place.rule) state.old
+            (tree_of_rule rules place.rule) rows
+            → StandsForRule (early_at self.now place.rule) state.new (tree_of_rule rules place.rule)
+            (rows ++ answer_of row.now ∷ [])
+            × Adds (IsBreach place (tree_of_rule rules place.rule) (rows ++ answer_of row.now ∷ []))
+            alarms.old.keys alarms.new.keys) }
     {
         let rule = place.rule as usize;
         match &self.early[rule] {

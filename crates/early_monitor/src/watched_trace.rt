@@ -36,7 +36,7 @@ impl WatchedTrace {
     ghost use Rattle.early_monitor.specs.Inner.RulesWatched.{AreWatched};
     ghost use Rattle.early_monitor.specs.Inner.TraceWatched.{IsReady, StandsFor, steps_of};
 
-    /// The trace of a pair that begins at a step, of which there are none yet.
+    /// Returns the trace of a pair that begins at a step, before its first step.
     pub(crate) fn new(
         alloc: Global,
         rules: &WatchedRules,
@@ -46,7 +46,8 @@ impl WatchedTrace {
         requires { start < 2 ^ 31 }
         ensures ready { IfOk result (IsReady rules.now) }
         ensures steps { IfOk result (λ trace. steps_of trace ≡ 0) }
-        ensures stands { IfOk result (λ trace. (numbers : AuditNumbers) → AreWatched rules.now numbers.rules
+        ensures stands { IfOk result
+            (λ trace. (numbers : AuditNumbers) → AreWatched rules.now numbers.rules
             → StandsFor rules.now numbers trace (opened pair start)) }
     {
         let values = TraceState::new(alloc, &rules.program)?;
@@ -73,11 +74,15 @@ impl WatchedTrace {
         requires rules { count_of rules.now.program ≤ 17 }
         ensures ready { OnOk result (IsReady rules.now self.new) }
         ensures steps { OnOk result (steps_of self.new ≡ steps_of self.old + 1) }
-        ensures stands { OnOk result ((numbers : AuditNumbers) (known : Known) (seen : Option PairStep) → AreWatched rules.now numbers.rules
-            → StandsFor rules.now numbers self.old known → StandsFor rules.now numbers self.new (watched known seen (answer_of row.now))) }
-        ensures adds { OnOk result ((numbers : AuditNumbers) (known : Known) (seen : Option PairStep) → AreWatched rules.now numbers.rules
-            → StandsFor rules.now numbers self.old known
-            → Adds (IsBreachOf numbers step (watched known seen (answer_of row.now))) alarms.old.keys alarms.new.keys) }
+        ensures stands { OnOk result
+            ((numbers : AuditNumbers) (known : Known) (seen : Option PairStep)
+            → AreWatched rules.now numbers.rules → StandsFor rules.now numbers self.old known
+            → StandsFor rules.now numbers self.new (watched known seen (answer_of row.now))) }
+        ensures adds { OnOk result
+            ((numbers : AuditNumbers) (known : Known) (seen : Option PairStep)
+            → AreWatched rules.now numbers.rules → StandsFor rules.now numbers self.old known
+            → Adds (IsBreachOf numbers step (watched known seen (answer_of row.now)))
+            alarms.old.keys alarms.new.keys) }
     {
         let WatchedTrace {
             pair,

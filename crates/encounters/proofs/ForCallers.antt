@@ -1,4 +1,4 @@
--- Lemmas for the crates above: what is known of the steps up to one of them stays where further steps come.
+-- Lemmas for the crates above: what is known of the steps up to one of them stays if further steps come.
 use Rattle.std.proofs.Common.{◌≡◌, ℕ, zero, suc, ◌+◌, ◌-◌, ◌<◌, ◌≤◌, inl, inr, List, [], ◌∷◌, ◌++◌, length, IfSome, IsSome, refl, sym, ap, subst, ◌∙◌, arith}
 use Rattle.std.proofs.lemmas.Bool.{cases_lt}
 use Rattle.std.specs.Prelude.{Option, None, Some, IsSomeAnd}
@@ -90,7 +90,7 @@ module _ (detect : Detect) (front steps : List (Option PairStep)) where
   abbrev pub IsRiskless : Type 0
   IsRiskless = (k : ℕ) → k < length front → IfSome (seen_at front k) (λ pair. ¬ HasRisk detect pair.step)
 
-  -- what holds of a step is the same where it is counted from the front's end
+  -- what holds of a step is the same if it is counted from the front's end
   shifted : (P : Option PairStep → Type 0) (k : ℕ) → length front ≤ k → P (seen_at steps (k - length front)) → P (seen_at (front ++ steps) k)
   shifted P k le h =
       let e : length front + (k - length front) ≡ k = omega arith in
@@ -147,7 +147,7 @@ module _ (detect : Detect) (front steps : List (Option PairStep)) where
             omega arith;
       }
 
-  -- The state at a step is the same where steps without risk come before, as those at which the vessels are not watched.
+  -- The state at a step is the same if steps without risk come before, as those at which the vessels are not watched.
   pub state_behind : IsRiskless → (i : ℕ) (state : EngagementState) → IsState detect steps i state → IsState detect (front ++ steps) (length front + i) state
   state_behind free i Apart h = λ engaged. h (engaged_from free i engaged)
   state_behind free i (Engaged kind age a b) h =

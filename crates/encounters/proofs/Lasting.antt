@@ -111,7 +111,7 @@ module _ (detect : Detect) (steps : List (Option PairStep)) where
   abbrev pub HasState : ℕ → Type 0
   HasState n = (state : EngagementState) × IsState detect steps n state
 
-  -- where the step before is not engaged
+  -- if the step before is not engaged
   state_begins : (n : ℕ) (pair : PairStep) → seen_at steps n ≡ Some pair → Free detect steps n → HasState n
   state_begins n pair here free =
       elim (risk_or_not detect pair.step) [
@@ -131,7 +131,7 @@ module _ (detect : Detect) (steps : List (Option PairStep)) where
         | inr riskless ↦ (Apart, stays_free detect steps n pair here riskless free)
       ]
 
-  -- where it is
+  -- if it is
   state_lasts : (m : ℕ) (pair : PairStep) (kind : Class) (age : ℕ) (a b : TickState) → seen_at steps (suc m) ≡ Some pair → IsEngagement detect steps m kind age a b
       → HasState (suc m)
   state_lasts m pair kind age a b here h =

@@ -11,17 +11,17 @@ use Rattle.encounters.specs.declared.changes.Changes.{Changes}
 use Rattle.encounters.specs.declared.engagement_state.EngagementState.{EngagementState}
 use Rattle.encounters.specs.declared.engagement_state.EngagementState.TheVariants.{Apart, Engaged}
 
--- the turn between two directions, positive to starboard, where both are known
+-- the turn between two directions, positive to starboard, if both are known
 abbrev pub turn_between : Option ℕ → Option ℕ → Option ℤ
 turn_between (Some d) (Some e) = Some (swing_of d e)
 turn_between _ _ = None
 
--- the size of the change between two speeds, where both are known
+-- the size of the change between two speeds, if both are known
 abbrev pub change_between : Option ℕ → Option ℕ → Option ℕ
 change_between (Some v) (Some u) = Some (unsigned_abs (pos u -ℤ pos v))
 change_between _ _ = None
 
--- A test is Open where what it needs is absent.
+-- A test is Open if what it needs is absent.
 abbrev pub verdict_of : Option Bool → Verdict
 verdict_of None = Open
 verdict_of (Some true) = Yes
@@ -47,7 +47,7 @@ to_starboard act was now = verdict_of (option_map (λ d. int_le (pos act.apparen
 abbrev pub to_port : Act → TickState → TickState → Verdict
 to_port act was now = verdict_of (option_map (λ d. int_lt (pos act.steady_turn) (neg_ℤ d)) (turn_between was.direction now.direction))
 
--- The alterations of A since the engagement began, and whether B's is readily apparent; none where they are not engaged.
+-- The alterations of A since the engagement began, and whether B's is readily apparent; none if they are not engaged.
 abbrev pub changes_of : Act → EngagementState → TickState → TickState → Changes
 changes_of act Apart now_a now_b = record { alters = No; apparent = No; to_starboard = No; to_port = No; other_apparent = No }
 changes_of act (Engaged kind age a b) now_a now_b = record {

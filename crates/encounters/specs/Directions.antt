@@ -5,7 +5,7 @@ use Rattle.encounters.specs.declared.pair_step.PairStep.{PairStep}
 use Rattle.encounters.specs.declared.engagement_state.EngagementState.{EngagementState}
 use Rattle.encounters.specs.declared.engagement_state.EngagementState.TheVariants.{Apart, Engaged}
 
--- Where a vessel has a direction, it is below 3600.
+-- If a vessel has a direction, it is below 3600.
 abbrev pub HasDirection : TickState → Type 0
 HasDirection state = IfSome state.direction (λ d. d < 3600)
 

@@ -9,7 +9,7 @@ use Rattle.encounters.specs.declared.pair_step.PairStep.{PairStep}
 use Rattle.encounters.specs.declared.engagement_state.EngagementState.{EngagementState}
 use Rattle.encounters.specs.declared.engagement_state.EngagementState.TheVariants.{Apart, Engaged}
 
--- the step of an index, where there is one and it is seen
+-- the step of an index, if there is one and it is seen
 abbrev pub seen_at : List (Option PairStep) → ℕ → Option PairStep
 seen_at steps k = unwrap_or (slice_get steps k) None
 

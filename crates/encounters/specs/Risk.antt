@@ -14,7 +14,7 @@ pub record IsDetect (detect : Detect) : Type 0 where
   pub horizon : detect.horizon ≤ 7200
   pub doubt : detect.angles.doubt ≤ 1124
 
--- The vessels are watched, and where both go on as they do they come nearer than the risk's distance within the horizon.
+-- The vessels are watched, and if both go on as they do they come nearer than the risk's distance within the horizon.
 pub record HasRisk (detect : Detect) (step : RelativeMove) : Type 0 where
   pub watched : norm2_of step.p ≤ℤ pos (detect.watch * detect.watch)
   pub enters : EntersWithin step detect.risk detect.horizon

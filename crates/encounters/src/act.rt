@@ -1,4 +1,4 @@
-//! The numbers by which alterations are told.
+//! The numbers that define alterations.
 
 /// What counts as keeping course and speed (Rule 17), and what as an alteration that is readily apparent (Rule 8 (b)).
 #[derive(Clone, Copy, Debug, PartialEq, Eq)]

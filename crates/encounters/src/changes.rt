@@ -11,8 +11,8 @@ use fixed_geometry::swing;
 use motion::TickState;
 use mtl_formulas::Verdict;
 
-/// How the vessels of a pair (A, B) have altered since their engagement began. Each is Open where a direction or a speed that
-/// it needs is absent, and No where they are not engaged.
+/// How the vessels of a pair (A, B) have altered since their engagement began. Each is Open if a direction or a speed that
+/// it needs is absent, and No if they are not engaged.
 #[derive(Clone, Copy, Debug, PartialEq, Eq)]
 pub struct Changes {
     /// A has not kept her course and speed (Rule 17).

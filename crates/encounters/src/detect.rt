@@ -10,7 +10,7 @@ pub struct Detect {
     pub risk: u64,
     /// How far is clear: tenths of a millimetre, at most 10^9.
     pub clear: u64,
-    /// How far ahead risk is looked for, where both go on as they do: ticks, at most 7200.
+    /// How far ahead risk is looked for, if both go on as they do: ticks, at most 7200.
     pub horizon: u32,
     /// The angles of the classes.
     pub angles: Angles,

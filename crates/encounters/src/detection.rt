@@ -25,7 +25,7 @@ fn is_beyond(step: &Step, distance: u64) -> bool
 }
 
 /// Whether there is risk of collision (Rule 7) at a step that is seen: the vessels are at most `watch` apart, and come nearer
-/// than `risk` at some instant within the horizon, where both go on as they do.
+/// than `risk` at some instant within the horizon, if both go on as they do.
 #[inline(always)]
 pub fn risk(detect: &Detect, step: &Step) -> bool
     requires { IsDetect detect.now }
@@ -54,7 +54,7 @@ pub fn past_clear(detect: &Detect, step: &Step) -> bool
     is_past_clear(detect, step, risk(detect, step))
 }
 
-/// The same where it is known whether there is risk.
+/// The same if it is known whether there is risk.
 pub(crate) fn is_past_clear(detect: &Detect, step: &Step, risk: bool) -> bool
     requires detect { IsDetect detect.now }
     requires risk { IsTrue risk ↔ HasRisk detect.now step.now }

@@ -37,7 +37,7 @@ fn engaged_at(detect: &Detect, pair: &PairStep) -> EngagementState
     }
 }
 
-/// Takes a step that is seen, where it is known whether there is risk.
+/// Takes a step that is seen, if it is known whether there is risk.
 fn take_seen(state: &mut EngagementState, detect: &Detect, pair: &PairStep, risk: bool)
     requires detect { IsDetect detect.now }
     requires pair { HaveDirections pair.now }
@@ -62,13 +62,15 @@ fn take_seen(state: &mut EngagementState, detect: &Detect, pair: &PairStep, risk
     }
 }
 
-/// Takes a step, and tells whether there is risk at it.
+/// Takes a step, and returns whether there is risk at it.
 fn take_step(state: &mut EngagementState, detect: &Detect, seen: Option<&PairStep>) -> bool
     requires detect { IsDetect detect.now }
     requires seen { IfSome (option_copied seen) HaveDirections }
     requires state { HaveDirectionsSince state.old }
-    ensures risk { IsTrue result ↔ IsSomeAnd (option_copied seen.entry) (λ pair. HasRisk detect.now pair.step) }
-    ensures state { (steps : List (Option PairStep)) → length steps < 2 ^ 31 → IsStateAfter detect.now steps state.old
+    ensures risk { IsTrue result
+        ↔ IsSomeAnd (option_copied seen.entry) (λ pair. HasRisk detect.now pair.step) }
+    ensures state { (steps : List (Option PairStep)) → length steps < 2 ^ 31
+        → IsStateAfter detect.now steps state.old
         → IsState detect.now (steps ++ option_copied seen.entry ∷ []) (length steps) state.new }
     ensures directions { HaveDirectionsSince state.new }
 {
@@ -129,7 +131,8 @@ impl Engagement {
 
     /// The state at the latest step; apart before the first.
     pub fn state(&self) -> EngagementState
-        ensures { (detect : Detect) (steps : List (Option PairStep)) → StandsFor self.now detect steps → IsStateAfter detect steps result }
+        ensures { (detect : Detect) (steps : List (Option PairStep))
+            → StandsFor self.now detect steps → IsStateAfter detect steps result }
     {
         self.latest
     }
@@ -142,17 +145,22 @@ impl Engagement {
         &self.latest
     }
 
-    /// Takes the next step, which is seen, or is not, and tells whether there is risk of collision at it. Over fewer than 2^31
-    /// steps the state is the definition's: the vessels are engaged where some step had risk, all since are seen, and none after
-    /// it is past and clear; the kind is the class at the engagement's beginning (Rule 13 (d): a later change of bearing does not
+    /// Takes the next step, which is seen or is not, and returns whether there is risk of collision at it. Over fewer than 2^31
+    /// steps the state is the definition's: the vessels are engaged if some step had risk, all steps since are seen, and none
+    /// after
+    /// it is past and clear; the kind is the class when the engagement began (Rule 13 (d): a later change of bearing does not
     /// make an overtaking vessel a crossing one). Directions are below 3600.
     #[inline(always)]
     pub fn take(&mut self, seen: Option<&PairStep>) -> bool
         requires { IfSome (option_copied seen) HaveDirections }
-        ensures risk { IsTrue result ↔ IsSomeAnd (option_copied seen.entry) (λ pair. HasRisk self.old.detect pair.step) }
-        ensures state { (detect : Detect) (steps : List (Option PairStep)) → length steps < 2 ^ 31 → StandsFor self.old detect steps
-            → IsState detect (steps ++ option_copied seen.entry ∷ []) (length steps) self.new.latest }
-        ensures stands { (detect : Detect) (steps : List (Option PairStep)) → length steps < 2 ^ 31 → StandsFor self.old detect steps
+        ensures risk { IsTrue result
+            ↔ IsSomeAnd (option_copied seen.entry) (λ pair. HasRisk self.old.detect pair.step) }
+        ensures state { (detect : Detect) (steps : List (Option PairStep)) → length steps < 2 ^ 31
+            → StandsFor self.old detect steps
+            → IsState detect (steps ++ option_copied seen.entry ∷ [])
+            (length steps) self.new.latest }
+        ensures stands { (detect : Detect) (steps : List (Option PairStep)) → length steps < 2 ^ 31
+            → StandsFor self.old detect steps
             → StandsFor self.new detect (steps ++ option_copied seen.entry ∷ []) }
     {
         take_step(&mut self.latest, &self.detect, seen)
@@ -161,9 +169,11 @@ impl Engagement {
     /// The state at the next step, which is taken.
     pub fn step(&mut self, seen: Option<&PairStep>) -> EngagementState
         requires { IfSome (option_copied seen) HaveDirections }
-        ensures state { (detect : Detect) (steps : List (Option PairStep)) → length steps < 2 ^ 31 → StandsFor self.old detect steps
+        ensures state { (detect : Detect) (steps : List (Option PairStep)) → length steps < 2 ^ 31
+            → StandsFor self.old detect steps
             → IsState detect (steps ++ option_copied seen.entry ∷ []) (length steps) result }
-        ensures stands { (detect : Detect) (steps : List (Option PairStep)) → length steps < 2 ^ 31 → StandsFor self.old detect steps
+        ensures stands { (detect : Detect) (steps : List (Option PairStep)) → length steps < 2 ^ 31
+            → StandsFor self.old detect steps
             → StandsFor self.new detect (steps ++ option_copied seen.entry ∷ []) }
         ensures directions { HaveDirectionsSince result }
     {

@@ -33,7 +33,7 @@ greatest_below-least (suc n) test k lt passes = go (test n) refl (greatest_below
       | inr below ↦ before below passes
     ])
 
--- It passes, where 0 does.
+-- It passes, if 0 does.
 pub greatest_below-passes : (n : ℕ) (test : ℕ → Bool) → test 0 ≡ true → test (greatest_below n test) ≡ true
 unfolding greatest_below
 greatest_below-passes zero test first = first

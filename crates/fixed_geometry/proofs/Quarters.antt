@@ -49,7 +49,7 @@ pub angle_below : (n e : ℤ) → quarter_angle n e < 900
 unfolding quarter_angle
 angle_below n e = let h = greatest_below-below 899 (has_turned n e) in omega arith
 
--- A vector has turned by k exactly where the angle that it has turned is k or more.
+-- A vector has turned by k exactly if the angle that it has turned is k or more.
 pub turned_by : (n e : ℤ) → pos 0 ≤ℤ n → pos 0 ≤ℤ e → (k : ℕ) → k < 900 → has_turned n e k ≡ nat_le k (quarter_angle n e)
 turned_by n e ahead starboard k lt = go (has_turned n e k) refl (angle_passes n e ahead starboard) (angle_least n e k lt)
   where

@@ -6,12 +6,12 @@ use Rattle.std.proofs.lemmas.Int.{ints}
 use Rattle.std.proofs.lemmas.Nat.{div-add-mod'}
 use Rattle.std.proofs.Math.Nat.{div-eq_of_lt-le, div-le_self, mod-lt}
 
--- where a number is a multiple, that before it has the quotient before it
+-- if a number is a multiple, that before it has the quotient before it
 one_less : (a d q : ℕ) → 0 < d → q * d ≡ suc a → suc (a / d) ≡ q
 one_less a d zero some e = absurd (omega (arith, e))
 one_less a d (suc k) some e = ap suc (div-eq_of_lt-le {k = k} d {m = a} (omega (arith, e)) (omega (arith, e)))
 
--- and else the same quotient
+-- and otherwise the same quotient
 as_many : (a d q r : ℕ) → q * d + suc r ≡ suc a → suc r < d → a / d ≡ q
 as_many a d q r e small = div-eq_of_lt-le {k = q} d {m = a} (omega (arith, e)) (omega (arith, e, small))
 

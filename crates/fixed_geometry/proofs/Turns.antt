@@ -1,4 +1,4 @@
--- The port side by two turns: a vector falls short of a direction where the turn from the direction to it is to port.
+-- The port side by two turns: a vector falls short of a direction if the turn from the direction to it is to port.
 use Rattle.std.proofs.Common.{◌≡◌, ℕ, zero, suc, ◌+◌, ◌-◌, ◌*◌, ◌/◌, ◌%◌, ◌<◌, ◌≤◌, inl, inr, ℤ, pos, neg_ℤ, ◌-ℤ◌, ◌*ℤ◌, ◌≤ℤ◌, ◌<ℤ◌, refl, sym, ap, ◌∙◌, arith, lit<, mul-le-mul_right}
 use Rattle.std.proofs.Math.Bool.{and-false}
 use Rattle.std.proofs.Math.IntN.{neg_ℤ-neg_ℤ}
@@ -18,7 +18,7 @@ use Rattle.fixed_geometry.proofs.Quarters.{angle_below, first_quarter, second_qu
 
 -- ---- quarters of the circle
 
--- A turn stays as it is where both vectors are a quarter further.
+-- A turn stays as it is if both vectors are a quarter further.
 turn_further : (a b : Point) → turn_of (quarter_further a) (quarter_further b) ≡ turn_of a b
 turn_further a b = rw (← diff_of a.x, ← diff_of a.y, ← diff_of b.x, ← diff_of b.y) (simp polynomials (diff_same _ _ _ _ (omega arith)))
 
@@ -169,7 +169,7 @@ module _ (d j k n e : ℕ) (direction : d < 3600) (quarter : j < 4) (tenths : k 
         | inr last ↦ astern_at 0 0 (lit< tt) (lit< tt) (omega arith) ∙ (short_none 0 n e (lit< tt) ∙ ap not (turned_at_zero (pos n) (pos e) (omega (arith, ints)) (omega (arith, ints))))
       ]
 
-  -- what the two turns tell
+  -- what the two turns show
   abbrev told : ℕ → Bool
   told q = short q k n e && not astern
 
@@ -211,7 +211,8 @@ module _ (d j k n e : ℕ) (direction : d < 3600) (quarter : j < 4) (tenths : k 
   ported (suc (suc (suc zero))) few = ported_thrice
   ported (suc (suc (suc (suc q)))) few = absurd (omega arith)
 
--- A vector of n ahead and e to starboard of the beginning of the quarter j lies to port of a direction as the two turns tell.
+-- A vector of n ahead and e to starboard of the beginning of the quarter j lies to port of a direction exactly if the two
+-- turns show it.
 port_from : (d j n e : ℕ) → d < 3600 → j < 4 → 0 < n
     → (int_lt (pos 0) (turn_of (unit_of d) (quarters_further j (record { x = pos e; y = pos n })))
     && not (int_lt (pos 0) (turn_of (unit_of ((d + 1801) % 3600)) (quarters_further j (record { x = pos e; y = pos n })))))
@@ -230,7 +231,7 @@ told_in : (r : Point) (d j n e : ℕ) → d < 3600 → j < 4 → 0 < n → r ≡
 told_in r d j n e direction quarter ahead place bearing =
     rw (bearing, place) (ap Some (port_from d j n e direction quarter ahead))
 
--- Where a vector has a length, the two turns tell whether its bearing lies to port.
+-- If a vector has a length, the two turns show whether its bearing lies to port.
 port_by_turns : (r : Point) (d : ℕ) → d < 3600 → (r.x ≡ pos 0 → r.y ≡ pos 0 → ⊥)
     → Some (int_lt (pos 0) (turn_of (unit_of d) r) && not (int_lt (pos 0) (turn_of (unit_of ((d + 1801) % 3600)) r))) ≡ option_map (lies_to_port d) (bearing_of r)
 port_by_turns r d direction some =
@@ -277,7 +278,7 @@ quarter_over = refl
 half_turn : (a b : Point) → turn_of (quarters_further 2 a) b ≡ neg_ℤ (turn_of a b)
 half_turn a b = rw (← diff_of a.x, ← diff_of a.y, ← diff_of b.x, ← diff_of b.y) (simp polynomials (diff_same _ _ _ _ (omega arith)))
 
--- The turn from a direction, and the one from the first tenth of a degree past its opposite, where the vector is turned back.
+-- The turn from a direction, and the one from the first tenth of a degree past its opposite, if the vector is turned back.
 seen_ahead : (r seen : Point) (d : ℕ) → quarters_further (d / 900) seen ≡ r → turn_of (unit_of d) r ≡ turn_of (quarter_of (d % 900)) seen
 unfolding unit_of
 seen_ahead r seen d place = ap (λ (p : Point). turn_of (quarters_further (d / 900) (quarter_of (d % 900))) p) (sym place) ∙ turn_back 0 (d / 900) (d / 900) (quarter_of (d % 900)) seen (omega arith)

@@ -5,7 +5,7 @@ use Rattle.fixed_geometry.specs.Circle.{shorter_arc}
 use Rattle.fixed_geometry.specs.Compass.{sine_of, cosine_of}
 use Rattle.fixed_geometry.specs.declared.point.Point.{Point}
 
--- the greatest number below n that passes the test, or 0 where none does
+-- the greatest number below n that passes the test, or 0 if none does
 unfoldable pub greatest_below : ℕ → (ℕ → Bool) → ℕ
 greatest_below zero test = 0
 greatest_below (suc n) test = if test n then n else greatest_below n test

@@ -54,7 +54,7 @@ struct Quartered {
     starboard: i64,
 }
 
-/// The quarter of a vector. `None` where it has no length.
+/// The quarter of a vector. `None` if it has no length.
 fn by_quarter(r: Point) -> Option<Quartered>
     requires { IsWithin (2 ^ 62) r }
     ensures some { IfSome result (IsInQuarter r) }
@@ -91,7 +91,7 @@ fn by_quarter(r: Point) -> Option<Quartered>
 }
 
 /// The bearing of a vector by the compass, below 3600: the greatest whole tenth of a degree clockwise from north that it has
-/// reached. `None` where it has no length. Components are at most 2^62 in size.
+/// reached. `None` if it has no length. Components are at most 2^62 in size.
 pub fn bearing(r: Point) -> Option<u16>
     requires { IsWithin (2 ^ 62) r }
     ensures value { result ≡ bearing_of r }
@@ -106,7 +106,7 @@ pub fn bearing(r: Point) -> Option<u16>
     Some(start + quarter_angle(ahead, starboard))
 }
 
-/// A vector that has been turned back by so many quarters of the circle.
+/// A vector that has been turned back by this number of quarters of the circle.
 fn turned_back(r: Point, quarters: u16) -> Point
     requires small { IsWithin (2 ^ 62) r }
     requires quarters { quarters < 4 }
@@ -140,7 +140,7 @@ fn reaches_opposite(r: Point, k: u16) -> bool
 }
 
 /// Whether a vector's bearing lies on the port side of a vessel that points in a direction, neither right ahead nor right
-/// astern: it falls short of right ahead, and has reached the first tenth of a degree past right astern. `None` where the
+/// astern: it falls short of right ahead, and has reached the first tenth of a degree past right astern. `None` if the
 /// vector has no length.
 pub fn to_port(r: Point, direction: u16) -> Option<bool>
     requires small { IsWithin (2 ^ 62) r }

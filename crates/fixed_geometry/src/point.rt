@@ -82,8 +82,8 @@ fn component_square(a: i64) -> u128
     square(a.unsigned_abs())
 }
 
-/// The dot product of two vectors, components at most 2^62 in size: positive where the angle between them is less than a
-/// right angle, negative where it is more.
+/// The dot product of two vectors, components at most 2^62 in size: positive if the angle between them is less than a
+/// right angle, negative if it is more.
 pub fn dot(a: Point, b: Point) -> i128
     requires a_small { IsWithin (2 ^ 62) a }
     requires b_small { IsWithin (2 ^ 62) b }
@@ -94,8 +94,8 @@ pub fn dot(a: Point, b: Point) -> i128
     sum(product(a.x, b.x), product(a.y, b.y))
 }
 
-/// The cross product of two vectors, components at most 2^62 in size: positive where `b` points to port of `a`, negative
-/// where it points to starboard.
+/// The cross product of two vectors, components at most 2^62 in size: positive if `b` points to port of `a`, negative
+/// if it points to starboard.
 pub fn turn(a: Point, b: Point) -> i128
     requires a_small { IsWithin (2 ^ 62) a }
     requires b_small { IsWithin (2 ^ 62) b }
@@ -110,7 +110,8 @@ pub fn turn(a: Point, b: Point) -> i128
 pub fn norm2(a: Point) -> u128
     requires { IsWithin (2 ^ 62) a }
     ensures value { pos result ≡ norm2_of a }
-    ensures squares { result ≡ unsigned_abs a.x * unsigned_abs a.x + unsigned_abs a.y * unsigned_abs a.y }
+    ensures squares { result
+        ≡ unsigned_abs a.x * unsigned_abs a.x + unsigned_abs a.y * unsigned_abs a.y }
 {
     component_square(a.x) + component_square(a.y)
 }
@@ -134,7 +135,7 @@ fn power_above(n: u128) -> u128
     1 << (n.ilog2() / 2 + 1)
 }
 
-/// A number nearer to the root of `n`, by Newton's method. It is no less than the root, rounded down; where it is no less
+/// A number nearer to the root of `n`, by Newton's method. It is no less than the root, rounded down; if it is no less
 /// than the number before, that one is the root.
 fn nearer_root(n: u128, root: u128) -> u128
     requires above { n < (root + 1) * (root + 1) }

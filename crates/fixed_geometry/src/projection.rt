@@ -36,17 +36,25 @@ impl Model for Reference {
 
     ghost view = { λ r. record { latitude = r.latitude; longitude = r.longitude } };
 
-    ghost invariant = { λ r. IsPlaceWithin 45000000 108000000 (record { latitude = r.latitude; longitude = r.longitude })
+    ghost invariant = { λ r. IsPlaceWithin 45000000 108000000
+        (record { latitude = r.latitude; longitude = r.longitude })
         × (r.cosine ≡ cosine_of (tenths_of r.latitude)) × (unsigned_abs r.cosine ≤ 1000000) };
 
-    ghost inverse = { λ p. record { latitude = p.latitude; longitude = p.longitude; cosine = cosine_of (tenths_of p.latitude) } };
+    ghost inverse = { λ p.
+        record {
+          latitude = p.latitude;
+          longitude = p.longitude;
+          cosine = cosine_of
+              (tenths_of p.latitude);
+        } };
 }
 
 impl Reference {
     /// A reference at a latitude and a longitude in ten thousandths of a minute, positive to the north and to the east.
     /// `None` beyond 75 degrees of latitude or 180 degrees of longitude.
     pub fn new(lat: i32, lon: i32) -> Option<Reference>
-        ensures some { IsSome result ↔ (unsigned_abs lat ≤ 45000000 × unsigned_abs lon ≤ 108000000) }
+        ensures some { IsSome result
+            ↔ (unsigned_abs lat ≤ 45000000 × unsigned_abs lon ≤ 108000000) }
         ensures value { IfSome result (λ r. r ≡ record { latitude = lat; longitude = lon }) }
     {
         if lat.unsigned_abs() > 45_000_000 || lon.unsigned_abs() > 108_000_000 {
@@ -76,7 +84,7 @@ impl Reference {
     }
 }
 
-/// The length of an arc of latitude, of which a minute is 1852 metres.
+/// The length of an arc of latitude, whose minute is 1852 metres long.
 fn length(arc: i64) -> i64
     requires { unsigned_abs arc ≤ 108000000 }
     ensures value { result ≡ arc *ℤ pos 1852 }

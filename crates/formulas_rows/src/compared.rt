@@ -1,5 +1,5 @@
 //! What a test compares, in one place each: a test that calls them is proved in a fraction of the time that the macros take in it. What fails is
-//! told with both values, by the name of its test.
+//! reported with both values, by the name of its test.
 ghost use Rattle.std.specs.Prelude.{IsTrue};
 
 use std::fmt::Debug;

@@ -77,7 +77,8 @@ fn gives_all(monitor: &mut EarlyMonitor, formula: &Formula, rows: &[Row]) -> boo
     monitor.next().is_none()
 }
 
-/// Feeds the rows to an early monitor, and tells whether it gives each position after the row that decides it.
+/// Feeds the rows to an early monitor, and returns whether it gives each position after the row that decides
+/// it.
 fn agrees(alloc: Global, formula: &Formula, rows: &[Row]) -> Result<bool, Memory>
     requires valid { IsValid (tree_of formula.now) }
     requires few { length rows.now < 1000 }
@@ -146,7 +147,7 @@ fn random_formulas_agree_with_the_values_over_every_front(rt: HostRuntime) -> Re
     Ok(())
 }
 
-/// The monitor of sixteen windows in one another.
+/// The monitor of sixteen nested windows.
 fn nested(rt: &impl Abort, alloc: Global) -> Result<EarlyMonitor, Fail>
     ensures fed { IfOk result (λ m. rows_fed m ≡ 0) }
     ensures done { IfOk result HasGivenAll }
@@ -161,7 +162,7 @@ fn nested(rt: &impl Abort, alloc: Global) -> Result<EarlyMonitor, Fail>
     Ok(EarlyMonitor::new(alloc, &formula)?)
 }
 
-/// Whether each of so many rows decides nothing.
+/// Whether each of this many rows decides nothing.
 fn waits(monitor: &mut EarlyMonitor, rows: u8) -> bool
     requires done { HasGivenAll monitor.old }
     requires fed { rows_fed monitor.old ≡ 0 }

@@ -40,7 +40,7 @@ fn has_fault(rt: &impl Abort, alloc: Global, text: &[u8], tick: u32, wanted: Opt
     is(rt, (text, fault), (text, wanted));
 }
 
-/// Adds the text as often as said, and then the end.
+/// Adds the text as often as stated, and then the end.
 fn add(all: &mut Vec<u8>, text: &[u8], times: u8, end: &[u8]) -> Result<(), AllocError> {
     for _ in 0..times {
         all.extend_from_slice(text)?;
@@ -48,7 +48,7 @@ fn add(all: &mut Vec<u8>, text: &[u8], times: u8, end: &[u8]) -> Result<(), Allo
     all.extend_from_slice(end)
 }
 
-/// The text as often as said, and then the end.
+/// The text as often as stated, and then the end.
 pub(crate) fn repeated(
     alloc: Global,
     text: &[u8],
@@ -87,7 +87,7 @@ static REFUSED: [(&[u8], ParseFault); 10] = [
     (b"risk\t& seen", ParseFault::Syntax(4)),
     (b"F[0,1234567890] risk", ParseFault::Syntax(4)),
     (b"risk U[0,10] seen U[0,10] risk", ParseFault::Syntax(18)),
-    // refused numbers, and a wrong token behind one
+    // refused numbers, and a wrong token after one
     (b"F[0,25] risk", ParseFault::Number(4)),
     (b"F[20,10] risk", ParseFault::Number(5)),
     (b"clear(100001)", ParseFault::Number(6)),
@@ -178,7 +178,7 @@ impl Atoms for Row {
 
 static QUIET: [Row; 4] = [Row { each: Verdict::No }; 4];
 
-/// Compares the values of a formula, each at a position, where nothing is answered by yes.
+/// Compares the values of a formula, each at a position, if nothing is answered by yes.
 fn has_values(rt: &impl Abort, formula: &Formula, values: &[(usize, Verdict)])
     requires { IsValid (tree_of formula.now) }
 {

@@ -189,7 +189,7 @@ fn write_between(source: &mut Pcg32, text: &mut String, operator: usize) -> Resu
     text.push_str(BOUNDS[below(source, 5) as usize])
 }
 
-/// Writes a random formula of so many operators in one another.
+/// Writes a random formula of this many nested operators.
 fn write_random(source: &mut Pcg32, text: &mut String, depth: u8) -> Result<(), AllocError> {
     if depth == 0 {
         return text.push_str(ATOMS[below(source, 3) as usize]);
@@ -229,7 +229,7 @@ fn is_right(
     }
 }
 
-/// Feeds the rows to a monitor and finishes it, and tells whether each answer is as the plain program has it.
+/// Feeds the rows to a monitor and finishes it, and returns whether each answer is that of the plain program.
 fn agrees(alloc: Global, formula: &Formula, rows: &[Row]) -> Result<bool, Memory>
     requires valid { IsValid (tree_of formula.now) }
     requires few { length rows.now < 1000 }

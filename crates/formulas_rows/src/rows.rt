@@ -47,7 +47,7 @@ const APART: Row = Row {
     other: Verdict::No,
 };
 
-/// One of so many, at most 256.
+/// One of this many, at most 256.
 pub(crate) fn below(source: &mut Pcg32, many: u32) -> u32
     requires { 0 < many }
     ensures { result < many }

@@ -218,7 +218,7 @@ fn the_rules_have_their_weights(rt: HostRuntime) -> Result<(), Memory> {
     let alloc = rt.alloc();
     // 7 * 7 + 7, 3, 5, 9 * 8 + 8, 6, 7, 6, 11 * 8 + 8, 27 + 11 + 61, 15 * 3 + 3, 31 + 11 + 61.
     weigh(&rt, RuleSet::new(alloc, &NUMBERS, TICK), 509)?;
-    // The rule of the safe distance has 29 nodes in place of 3.
+    // The rule of the safe distance has 29 nodes instead of 3.
     weigh(&rt, RuleSet::new(alloc, &PER_KIND, TICK), 535)?;
     // With ranks 16 more for r14a, 32 for r16, 4 for r17a, 12 for r17b, 2 each for r14b, r14p, r15 and r17c, and 5 for r18.
     weigh(&rt, RuleSet::new_ranked(alloc, &NUMBERS, TICK), 586)

@@ -1,4 +1,4 @@
-//! What no clause says of sweeps: a worked case, many random formulas against the values over every front of their rows, and which
+//! What no clause states about sweeps: a worked case, many random formulas against the values over every front of their rows, and which
 //! formulas are left out.
 ghost use Rattle.std.specs.Prelude.{◌≡◌, ◌<◌, true, length};
 ghost use Rattle.mtl_formulas.specs.FormulaTree.{tree_of};
@@ -87,7 +87,8 @@ fn gives_all(
     state.next(program).is_none()
 }
 
-/// Feeds the rows to a state, and tells whether it gives each position after the row that decides it.
+/// Feeds the rows to a state, and returns whether it gives each position after the row that decides
+/// it.
 fn agrees(
     alloc: Global,
     program: &SweepProgram,

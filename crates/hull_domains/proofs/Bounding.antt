@@ -227,7 +227,7 @@ bounds_of side (suc n) level = one_more side n (latest side n) (earliest side n)
 size_is : (z : ℤ) → pos 0 ≤ℤ z → z ≡ pos (unsigned_abs z)
 size_is z h = omega (arith, ints)
 
--- Where the bounds leave some time, the moment between them is one at which she is inside.
+-- If the bounds leave some time, the moment between them is one at which she is inside.
 pub inside_between : (side : ℕ → Side) (n : ℕ) (from to : Fraction) → AreBounds side n from to → is_less from to ≡ true
     → ((mediant from to).a ≤ (mediant from to).b) × (0 < (mediant from to).b) × ((k : ℕ) → k < n → IsInsideEdge (side k) (mediant from to).a (mediant from to).b)
 unfolding mediant Less at

@@ -65,7 +65,7 @@ square_of_size (negsuc n) = omega (arith, ints)
 less_square : (x y s : ℕ) → x + y ≤ s → x * x + y * y ≤ s * s
 less_square x y s h = let all = mul-le-mul h h in omega arith
 
--- b * d ≤ m, where d^2 ≤ m w, w ≤ s^2 and b^2 s^2 ≤ m
+-- b * d ≤ m, if d^2 ≤ m w, w ≤ s^2 and b^2 s^2 ≤ m
 scaled : (b d m w s : ℕ) → d * d ≤ m * w → w ≤ s * s → b * b * (s * s) ≤ m → b * d ≤ m
 scaled b d m w s product within far =
     let first : b * b * (d * d) ≤ b * b * (m * w) = mul-le-mul (same (b * b)) product in
@@ -76,7 +76,7 @@ scaled b d m w s product within far =
     same : (n : ℕ) → n ≤ n
     same n = omega arith
 
--- the product of two vectors, one of which is short
+-- the product of two vectors, if one is short
 less_product : (px py x y : ℤ) (m s : ℕ) → px *ℤ px +ℤ py *ℤ py ≡ pos m → unsigned_abs x + unsigned_abs y ≤ s
     → unsigned_abs (px *ℤ x +ℤ py *ℤ y) * unsigned_abs (px *ℤ x +ℤ py *ℤ y) ≤ m * (unsigned_abs x * unsigned_abs x + unsigned_abs y * unsigned_abs y)
 less_product px py x y m s is near =
@@ -164,7 +164,7 @@ module _ (place : Point) (b m s : ℕ) (some : 0 < m) (scale : 0 < b) (is : norm
 
 -- ---- a place inside a shape
 
--- Where every way to a vertex is at most `s`, a place inside is nearer than that.
+-- If every way to a vertex is at most `s`, a place inside is nearer than that.
 pub near_inside : (step : RelativeMove) (direction : ℕ) (shape : List (ℤ × ℤ)) (a b s : ℕ) → 0 < b → 0 < s → ((k : ℕ) → k < 6 → way_to (vertex_of shape k) ≤ s)
     → IsInside step direction shape a b → norm2_of (place_at step direction a b) <ℤ pos ((b * 10000000000) * (b * 10000000000) * (s * s))
 unfolding IsInside side_at edge_of
@@ -197,7 +197,7 @@ near_inside step direction shape a b s some long near inside =
 
 -- ---- a step that stays out of the circle
 
--- Where the radius is `s` metres and more, by the length of the vector ahead, a step that is separated by it stays outside the shape.
+-- If the radius is `s` metres and more, by the length of the vector ahead, a step that is separated by it stays outside the shape.
 pub out_of_the_circle : (step : RelativeMove) (direction : ℕ) (shape : List (ℤ × ℤ)) (s r : ℕ) → direction < 3600 → 0 < s → ((k : ℕ) → k < 6 → way_to (vertex_of shape k) ≤ s)
     → pos (s * s * 100000000000000000000) ≤ℤ (pos (r * r) *ℤ norm2_of (unit_of direction)) → IsSeparated step r → StaysOutside step direction shape
 unfolding IsSeparated

@@ -1,4 +1,4 @@
--- On which side of an edge own ship is at the instant a / b is told by the side at the beginning and its change.
+-- The side at the beginning and its change decide on which side of an edge own ship is at the instant a / b.
 use Rattle.std.proofs.Common.{ℕ, suc, List, ◌≡◌, ◌+◌, ◌*◌, ◌/◌, ◌%◌, ◌<◌, ◌≤◌, ◌⊎◌, inl, inr, ℤ, pos, neg_ℤ, ◌+ℤ◌, ◌-ℤ◌, ◌*ℤ◌, arith, ap, ap₂, sym, ◌∙◌}
 use Rattle.std.proofs.lemmas.Int.{ints}
 use Rattle.fixed_geometry.proofs.ForCallers.{polynomials, diff_of, diff_same}

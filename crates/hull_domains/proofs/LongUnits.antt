@@ -1,4 +1,4 @@
--- The vector ahead is long whatever the direction: the checker computes all of an eighth of the compass, of which the others are images.
+-- The vector ahead is long whatever the direction: the checker computes all of an eighth of the compass, and the others are its images.
 use Rattle.std.proofs.Common.{◌≡◌, ◌&&◌, mul-le-mul, false, ℕ, zero, suc, ◌+◌, ◌*◌, ◌-◌, ◌/◌, ◌%◌, ◌^◌, ◌<◌, ◌≤◌, nat_le, Bool, true, ℤ, pos, negsuc, neg_ℤ, ◌+ℤ◌, ◌*ℤ◌, ◌≤ℤ◌, unsigned_abs, arith, refl, sym, subst, inl, inr}
 use Rattle.std.specs.Prelude.{if◌then◌else◌}
 use Rattle.std.proofs.lemmas.Bool.{and_parts, cases_lt}

@@ -1,4 +1,4 @@
--- The test of a shape tells it.
+-- The test of a shape decides it.
 use Rattle.std.proofs.Common.{◌≡◌, ◌==◌, ◌&&◌, ℕ, ◌+◌, ◌%◌, ◌<◌, ◌≤◌, nat_le, Bool, true, false, List, length, refl, Some, None, arith}
 use Rattle.std.specs.Prelude.{ℤ, int_lt, ◌<ℤ◌, unsigned_abs, if◌then◌else◌}
 use Rattle.std.specs.Bool.{Decides}
@@ -35,7 +35,7 @@ tested vs =
     let whole = Decides-and (length vs == 6) (list_all is_near_vertex vs && are_around vs 6) (Decides-eqb (length vs) 6) rest in
     (λ e. (let h = whole.0 e in record { count = h.0; near = h.1.0; around = h.1.1 }), λ h. whole.1 (h.count, (h.near, h.around)))
 
--- so the shape of vertices is there exactly where they are one
+-- so the shape of vertices is there exactly if they are one
 
 pub shaped : (vs : List (ℤ × ℤ)) → IsShape vs → shape_of vs ≡ Some vs
 shaped vs h = rw ((tested vs).1 h) refl

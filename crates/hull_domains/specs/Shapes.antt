@@ -1,4 +1,4 @@
--- Shapes of six vertices about a vessel. A vertex lies so many metres forward of her and so many to starboard.
+-- Shapes of six vertices about a vessel. A vertex lies some metres forward of her and some to starboard.
 use Rattle.std.specs.Prelude.{ℕ, zero, suc, ◌≡◌, ◌==◌, ◌+◌, ◌%◌, ◌≤◌, ◌<◌, nat_le, Bool, true, ◌&&◌, if◌then◌else◌, List, length, All, slice_index_or, Option, Some, None, ℤ, pos, int_lt, ◌-ℤ◌, ◌<ℤ◌, unsigned_abs}
 use Rattle.std.specs.List.{list_all}
 use Rattle.fixed_geometry.specs.Plane.{turn_of}
@@ -45,7 +45,7 @@ turns edge next = int_lt (pos 0) (turn_of edge.along next.along)
 abbrev pub has_inside : Edge → Bool
 has_inside edge = int_lt (turn_of edge.along edge.from) (pos 0)
 
--- of so many edges
+-- of this many edges
 unfoldable pub are_around : List (ℤ × ℤ) → ℕ → Bool
 are_around vertices zero = true
 are_around vertices (suc k) =

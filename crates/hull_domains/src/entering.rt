@@ -14,11 +14,12 @@ use closest_approach::{Moment, separated};
 use fixed_geometry::{Point, unit};
 use motion::Step;
 
-/// On which side of an edge of a shape own ship is, where the target heads `ahead`.
+/// On which side of an edge of a shape own ship is, if the target heads `ahead`.
 fn side_of(step: &Step, ahead: Point, shape: &Shape, k: usize) -> Side
     requires ahead { IsWithin 1000000 ahead }
     requires k { k < 6 }
-    ensures value { (direction : ℕ) → direction < 3600 → ahead ≡ unit_of direction → result ≡ side_of step.now direction shape.now k }
+    ensures value { (direction : ℕ) → direction < 3600 → ahead ≡ unit_of direction
+        → result ≡ side_of step.now direction shape.now k }
     ensures low { IsLow result }
 {
     side_beside(step, ahead, shape.edge(k))
@@ -65,7 +66,7 @@ fn keeps_off_by_an_axis(step: &Step, radius: u64) -> bool
     keeps_off(p.x, w.x, radius) || keeps_off(p.y, w.y, radius)
 }
 
-/// Whether a step is separated by a radius in tenths of a millimetre. Where it keeps off along an axis, that is seen at once.
+/// Whether a step is separated by a radius in tenths of a millimetre. If it keeps off along an axis, that is seen at once.
 fn is_separated(step: &Step, radius: u64) -> bool
     requires { radius < 2 ^ 31 }
     ensures { IsTrue result ↔ IsSeparated step.now radius }
@@ -79,29 +80,33 @@ fn is_separated(step: &Step, radius: u64) -> bool
 /// The radius of a circle in which the whole shape lies, whatever the direction, in tenths of a millimetre.
 fn radius_about(shape: &Shape) -> u64
     ensures small { result < 2 ^ 31 }
-    ensures outside { (step : RelativeMove) → IsSeparated step result → (direction : ℕ) → direction < 3600 → StaysOutside step direction shape.now }
+    ensures outside { (step : RelativeMove) → IsSeparated step result → (direction : ℕ)
+        → direction < 3600 → StaysOutside step direction shape.now }
 {
     10_000 * (u64::from(shape.longest_way()) + 2)
 }
 
-/// Whether own ship keeps off the whole shape along one of the axes, whatever the direction. Most steps of a search do, and are told so at once; of the
-/// others [`enters`] tells.
+/// Whether own ship keeps off the whole shape along one of the axes, whatever the direction. This decides most steps of a search at once; for the
+/// others [`enters`] decides.
 #[inline(always)]
 pub fn keeps_clear(step: &Step, shape: &Shape) -> bool
-    ensures { IsTrue result → (direction : ℕ) → direction < 3600 → StaysOutside step.now direction shape.now }
+    ensures { IsTrue result → (direction : ℕ) → direction < 3600
+        → StaysOutside step.now direction shape.now }
 {
     keeps_off_by_an_axis(step, radius_about(shape))
 }
 
 /// A moment of the step at which own ship is inside the shape of a target that heads in this direction, tenths of a degree below 3600;
-/// `None` where there is none. It lies between the latest crossing inwards, or the beginning, and the first one outwards, or the end:
+/// `None` if there is none. It lies between the latest crossing inwards, or the beginning, and the first one outwards, or the end:
 /// `(c1 + c2) / (d1 + d2)`, not reduced.
 pub fn enters(step: &Step, direction: u16, shape: &Shape) -> Option<Moment>
     requires { direction < 3600 }
     ensures none { IsNone result ↔ StaysOutside step.now direction shape.now }
     ensures moment { IfSome result (λ moment. moment ≡ entry_moment step.now direction shape.now) }
-    ensures instant { IfSome result (λ moment. (moment.a ≤ moment.b) × (0 < moment.b) × (moment.b < 2 ^ 60)) }
-    ensures inside { IfSome result (λ moment. IsInside step.now direction shape.now moment.a moment.b) }
+    ensures instant { IfSome result
+        (λ moment. (moment.a ≤ moment.b) × (0 < moment.b) × (moment.b < 2 ^ 60)) }
+    ensures inside { IfSome result
+        (λ moment. IsInside step.now direction shape.now moment.a moment.b) }
 {
     // The circle takes a fraction of the time that the edges take.
     if is_separated(step, radius_about(shape)) {
@@ -138,7 +143,8 @@ fn is_inside(side: Side, moment: Moment) -> bool
     requires side { IsLow side }
     requires a { moment.a ≤ moment.b }
     requires b { moment.b < 2 ^ 60 }
-    ensures { IsTrue result ↔ ((pos moment.b *ℤ side.start +ℤ pos moment.a *ℤ side.change) <ℤ pos 0) }
+    ensures { IsTrue result
+        ↔ ((pos moment.b *ℤ side.start +ℤ pos moment.a *ℤ side.change) <ℤ pos 0) }
 {
     sum(times(side.start, moment.b), times(side.change, moment.a)) < 0
 }

@@ -129,7 +129,10 @@ fn longest_way(vertices: &[(i32, i32); 6]) -> u32
 /// Whether vertices stand clockwise about the vessel.
 fn are_around(vertices: &[(i32, i32); 6]) -> bool
     requires { All IsNearVertex vertices.now }
-    ensures { IsTrue result ↔ ((k : ℕ) → k < 6 → Turns (edge_of vertices.now k) (edge_of vertices.now ((k + 1) % 6)) × HasInside (edge_of vertices.now k)) }
+    ensures { IsTrue result
+        ↔ ((k : ℕ) → k < 6
+        → Turns (edge_of vertices.now k) (edge_of vertices.now ((k + 1) % 6))
+        × HasInside (edge_of vertices.now k)) }
 {
     for k in 0..6 {
         let edge = short_edge(vertices, k);
@@ -147,7 +150,8 @@ fn are_around(vertices: &[(i32, i32); 6]) -> bool
 #[derive(Clone, Copy, Debug, PartialEq, Eq)]
 pub struct Shape {
     vertices: [(i32, i32); 6],
-    /// The longest way to a vertex, in metres: none is farther. Most steps of a search stay out of the circle that it tells.
+    /// The longest way to a vertex, in metres: none is farther. Most steps of a search stay out of the circle with this
+    /// radius.
     longest: u32,
 }
 
@@ -167,7 +171,7 @@ impl Model for Shape {
 }
 
 impl Shape {
-    /// The shape of these vertices, each so many metres forward of the vessel and so many to starboard, or `None` where they are none.
+    /// The shape of these vertices, each by its metres forward of the vessel and to starboard, or `None` if they are none.
     #[tactic(auto, using(crate::proofs::Tested::shaped, crate::proofs::Tested::unshaped))]
     pub fn new(vertices: &[(i32, i32); 6]) -> Option<Shape>
         ensures value { IfSome result (λ shape. shape ≡ vertices.now) }

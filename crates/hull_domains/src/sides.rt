@@ -39,7 +39,7 @@ fn negated(z: i128) -> i128
     -z
 }
 
-/// The vector at right angles to an edge, where the target heads `ahead`.
+/// The vector at right angles to an edge, if the target heads `ahead`.
 fn normal(along: Point, ahead: Point) -> Point
     requires along { IsWithin 4000 along }
     requires ahead { IsWithin 1000000 ahead }

@@ -1,4 +1,4 @@
--- Where own ship turns and changes speed as fast as can be, she takes the ordered course and speed at once.
+-- If own ship turns and changes speed as fast as can be, she takes the ordered course and speed at once.
 use Rattle.std.proofs.Common.{◌≡◌, ◌∙◌, ℕ, zero, suc, ◌+◌, ◌<◌, ◌≤◌, List, ℤ, pos, neg_ℤ, ◌+ℤ◌, ◌-ℤ◌, unsigned_abs, refl, arith, add-one, ap}
 use Rattle.std.specs.Int.{int_rem_euclid}
 use Rattle.std.proofs.lemmas.Int.{ints}

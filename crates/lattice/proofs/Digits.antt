@@ -81,7 +81,7 @@ pub plan_step : (b leg n weight : ℕ) → plan_of b (leg + 1) (n / weight) ≡ 
 unfolding plan_of
 plan_step b leg n weight = rw (add-one, ← div-div-eq-div-mul n weight b) refl
 
--- ---- the block of a prefix that leaves so many legs
+-- ---- the block of a prefix that leaves this many legs
 
 pub few_extensions : (b legs left most : ℕ) → 0 < b → left ≤ legs → b ^ legs ≤ most → b ^ left ≤ most
 few_extensions b legs left most p le few = omega (arith, pow-le-pow_right p le)

@@ -47,7 +47,7 @@ turned rate direction ordered = direction_by direction (held (neg_ℤ (pos rate)
 unfoldable pub hastened : ℕ → ℕ → ℕ → ℕ
 hastened rate speed ordered = unsigned_abs (pos speed +ℤ held (neg_ℤ (pos rate)) (pos rate) (pos ordered -ℤ pos speed))
 
--- her direction and her speed once so many steps have begun, from her course and her speed at now
+-- her direction and her speed once this many steps have begun, from her course and her speed at now
 
 unfoldable pub direction_after : Grid → List ℕ → ℕ → ℕ → ℕ
 direction_after grid plan course zero = course
@@ -59,14 +59,14 @@ speed_after grid plan speed zero = speed
 speed_after grid plan speed (suc step) =
     hastened grid.speed_rate (speed_after grid plan speed step) (ordered_speed grid (choice_in_force grid plan step) speed)
 
--- where she gets in a tick of so many seconds
+-- where she gets in a tick of this many seconds
 unfoldable pub point_by : ℕ → Point → Point → Point
 point_by tick velocity point = record {
   x = point.x +ℤ pos tick *ℤ velocity.x;
   y = point.y +ℤ pos tick *ℤ velocity.y;
 }
 
--- her point after so many steps, in each of which she moves straight
+-- her point after this number of steps; in each of them she moves straight
 unfoldable pub point_after : Grid → List ℕ → ℕ → Point → ℕ → ℕ → ℕ → Point
 point_after grid plan tick point course speed zero = point
 point_after grid plan tick point course speed (suc step) =
@@ -77,8 +77,8 @@ point_after grid plan tick point course speed (suc step) =
 abbrev pub begun_at : Grid → ℕ → ℕ
 begun_at grid k = min (k + 1) (positions_of grid)
 
--- Her state so many ticks after now, from her point, course and speed at now: she heads and moves as in the step that then
--- begins, and at the last planned tick as in the last planned step.
+-- Her state this many ticks after now, from her point, course and speed at now: she heads and moves as in the step that
+-- then begins, and at the last planned tick as in the last planned step.
 unfoldable pub own_state : Grid → List ℕ → ℕ → Point → ℕ → ℕ → ℕ → TickState
 own_state grid plan tick point course speed k = record {
   point = point_after grid plan tick point course speed k;

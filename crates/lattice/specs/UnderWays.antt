@@ -16,7 +16,7 @@ pub record HasAdvanced (grid : Grid) (plan : List ℕ) (tick : ℕ) (start : Und
   pub direction : reached.direction ≡ direction_after grid plan start.direction steps
   pub speed : reached.speed ≡ speed_after grid plan start.speed steps
 
--- She is where so many steps lead, and no farther than they can.
+-- She is where this many steps lead, and no farther than they can.
 pub record IsReached (grid : Grid) (plan : List ℕ) (tick : ℕ) (start : UnderWay) (steps : ℕ) (reached : UnderWay) : Type 0 where
   pub advanced : HasAdvanced grid plan tick start steps reached
   pub direction : reached.direction < 3600

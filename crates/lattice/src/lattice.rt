@@ -10,8 +10,8 @@ use smallvec::SmallVec;
 use std::alloc::Global;
 use std::marker::Model;
 
-/// The plans among which a manoeuvre is sought: what a leg may choose from, how long the legs last, and how fast own ship
-/// turns and changes speed.
+/// The plans among which a manoeuvre is searched for: what a leg may choose from, how long the legs last, and how fast
+/// own ship turns and changes speed.
 #[derive(Drop)]
 pub struct Lattice {
     alloc: Global,
@@ -29,9 +29,11 @@ impl Model for Lattice {
 
     ghost Value = { Grid };
 
-    ghost view = { λ l. grid l.courses.items l.speeds.items l.legs l.leg_ticks l.tail l.turn_rate l.speed_rate };
+    ghost view = { λ l.
+        grid l.courses.items l.speeds.items l.legs l.leg_ticks l.tail l.turn_rate l.speed_rate };
 
-    ghost invariant = { λ l. IsGrid (grid l.courses.items l.speeds.items l.legs l.leg_ticks l.tail l.turn_rate l.speed_rate) };
+    ghost invariant = { λ l. IsGrid
+        (grid l.courses.items l.speeds.items l.legs l.leg_ticks l.tail l.turn_rate l.speed_rate) };
 }
 
 impl Lattice {
@@ -129,13 +131,17 @@ impl Lattice {
         number_of(self.choices(), plan.choices())
     }
 
-    /// The block of a prefix, the choices of the first legs: the number of the first plan that extends it, and the number behind the
+    /// The block of a prefix, the choices of the first legs: the number of the first plan that extends it, and the number after the
     /// last one. The plans that extend it are those between, in consecutive numbers.
     pub fn block(&self, prefix: &[u16]) -> (u32, u32)
         requires few { length prefix.now ≤ self.now.legs }
         requires below { AllBelowBase (choices_of self.now) prefix.now }
-        ensures first { result.0 ≡ number_of (choices_of self.now) prefix.now * choices_of self.now ^ (self.now.legs - length prefix.now) }
-        ensures behind { result.1 ≡ (number_of (choices_of self.now) prefix.now + 1) * choices_of self.now ^ (self.now.legs - length prefix.now) }
+        ensures first { result.0
+            ≡ number_of (choices_of self.now) prefix.now
+            * choices_of self.now ^ (self.now.legs - length prefix.now) }
+        ensures behind { result.1
+            ≡ (number_of (choices_of self.now) prefix.now + 1)
+            * choices_of self.now ^ (self.now.legs - length prefix.now) }
         ensures some { result.0 < result.1 }
         ensures within { result.1 ≤ plans_of self.now }
     {

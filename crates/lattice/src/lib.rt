@@ -7,7 +7,7 @@
 //! Three changes of course and two of speed give a leg 6 choices, and a plan of two legs is one of 36. Plan 11 is 15 in base 6: its legs
 //! take the choices 1 and 5. With the changes of course 0, 300, -600 and of speed 0, -50, choice 1 keeps a course of 500 and makes a
 //! speed of 180 one of 130; choice 5 makes the course 3500.
-//! Whether a plan is any good has no place here: a lattice knows neither targets nor rules.
+//! Whether a plan is any good is out of scope: a lattice knows neither targets nor rules.
 #![tactic(auto)]
 
 mod lattice;

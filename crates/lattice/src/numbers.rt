@@ -6,7 +6,7 @@ ghost use Rattle.lattice.specs.PlanNumbers.{number_of, plan_of, IsPlan};
 use crate::plan::Plan;
 use std::alloc::Global;
 
-/// The plan that has the number, of so many plans.
+/// The plan that has the number, of this many plans.
 pub(crate) fn plan_of(alloc: Global, choices: u32, legs: u8, plans: u32, number: u32) -> Plan
     requires some_choice { 1 ≤ choices }
     requires few_choices { choices ≤ 512 }
@@ -40,14 +40,15 @@ pub(crate) fn number_of(choices: u32, legs: &[u16]) -> u32
     number
 }
 
-/// The block of a prefix: the number of the first of the plans that extend it, and the number behind the last one.
+/// The block of a prefix: the number of the first of the plans that extend it, and the number after the last one.
 pub(crate) fn block_of(choices: u32, legs: u8, prefix: &[u16]) -> (u32, u32)
     requires some_choice { 1 ≤ choices }
     requires few_legs { length prefix.now ≤ legs }
     requires below { AllBelowBase choices prefix.now }
     requires few_plans { choices ^ legs ≤ 2 ^ 30 }
     ensures first { result.0 ≡ number_of choices prefix.now * choices ^ (legs - length prefix.now) }
-    ensures behind { result.1 ≡ (number_of choices prefix.now + 1) * choices ^ (legs - length prefix.now) }
+    ensures behind { result.1
+        ≡ (number_of choices prefix.now + 1) * choices ^ (legs - length prefix.now) }
     ensures some { result.0 < result.1 }
     ensures within { result.1 ≤ choices ^ legs }
 {

@@ -28,11 +28,15 @@ impl Lattice {
         requires near { steps * (tick * GREATEST_VELOCITY) ≤ FARTHEST }
         requires start { IsUnderWay (FARTHEST - steps * (tick * GREATEST_VELOCITY)) start }
         ensures value { HasAdvanced self.now plan.now tick start steps result }
-        ensures moved { (step : ℕ) → steps ≡ step + 1 → IsWithin (tick * GREATEST_VELOCITY)
-            (displacement (point_after self.now plan.now tick start.point start.direction start.speed step) result.point) }
+        ensures moved { (step : ℕ) → steps ≡ step + 1
+            → IsWithin (tick * GREATEST_VELOCITY)
+            (displacement (point_after self.now plan.now tick start.point start.direction
+            start.speed step) result.point) }
         ensures within { IsUnderWay FARTHEST result }
-        ensures near_x { unsigned_abs result.point.x ≤ unsigned_abs start.point.x + steps * (tick * GREATEST_VELOCITY) }
-        ensures near_y { unsigned_abs result.point.y ≤ unsigned_abs start.point.y + steps * (tick * GREATEST_VELOCITY) }
+        ensures near_x { unsigned_abs result.point.x
+            ≤ unsigned_abs start.point.x + steps * (tick * GREATEST_VELOCITY) }
+        ensures near_y { unsigned_abs result.point.y
+            ≤ unsigned_abs start.point.y + steps * (tick * GREATEST_VELOCITY) }
     {
         let mut passage = self.passage(plan, start, start, tick, 0);
         for step in 0..steps {
@@ -57,14 +61,22 @@ impl Lattice {
         requires start { IsUnderWay FARTHEST start }
         requires passage { IsPassage self.now plan.now tick start k passage }
         requires point { IsWithin FARTHEST passage.vessel.point }
-        ensures value { HasAdvanced self.now plan.now tick start k passage.vessel → result.0 ≡ own_state self.now plan.now tick start.point start.direction start.speed k }
+        ensures value { HasAdvanced self.now plan.now tick start k passage.vessel
+            → result.0 ≡ own_state self.now plan.now tick start.point start.direction start.speed
+            k }
         ensures state { IsTickState FARTHEST result.0 }
         ensures point { result.0.point ≡ passage.vessel.point }
-        ensures advanced { HasAdvanced self.now plan.now tick start k passage.vessel → k < positions_of self.now → HasAdvanced self.now plan.now tick start (k + 1) result.1.vessel }
-        ensures passage { k < positions_of self.now → IsPassage self.now plan.now tick start (k + 1) result.1 }
-        ensures moved { IsWithin (tick * GREATEST_VELOCITY) (displacement passage.vessel.point result.1.vessel.point) }
-        ensures near_x { unsigned_abs result.1.vessel.point.x ≤ unsigned_abs passage.vessel.point.x + tick * GREATEST_VELOCITY }
-        ensures near_y { unsigned_abs result.1.vessel.point.y ≤ unsigned_abs passage.vessel.point.y + tick * GREATEST_VELOCITY }
+        ensures advanced { HasAdvanced self.now plan.now tick start k passage.vessel
+            → k < positions_of self.now
+            → HasAdvanced self.now plan.now tick start (k + 1) result.1.vessel }
+        ensures passage { k < positions_of self.now
+            → IsPassage self.now plan.now tick start (k + 1) result.1 }
+        ensures moved { IsWithin (tick * GREATEST_VELOCITY)
+            (displacement passage.vessel.point result.1.vessel.point) }
+        ensures near_x { unsigned_abs result.1.vessel.point.x
+            ≤ unsigned_abs passage.vessel.point.x + tick * GREATEST_VELOCITY }
+        ensures near_y { unsigned_abs result.1.vessel.point.y
+            ≤ unsigned_abs passage.vessel.point.y + tick * GREATEST_VELOCITY }
     {
         let next = if k < self.positions() {
             self.stepped(plan, start, passage, tick, k)
@@ -84,10 +96,14 @@ impl Lattice {
         requires plan { IsPlan (choices_of self.now) self.now.legs plan.now }
         requires planned { k ≤ positions_of self.now }
         requires near { positions_of self.now * (tick * GREATEST_VELOCITY) ≤ FARTHEST }
-        requires start { IsUnderWay (FARTHEST - positions_of self.now * (tick * GREATEST_VELOCITY)) start }
-        ensures value { result ≡ own_state self.now plan.now tick start.point start.direction start.speed k }
-        ensures moved { (step : ℕ) → k ≡ step + 1 → IsWithin (tick * GREATEST_VELOCITY)
-            (displacement (point_after self.now plan.now tick start.point start.direction start.speed step) result.point) }
+        requires start { IsUnderWay
+            (FARTHEST - positions_of self.now * (tick * GREATEST_VELOCITY)) start }
+        ensures value { result
+            ≡ own_state self.now plan.now tick start.point start.direction start.speed k }
+        ensures moved { (step : ℕ) → k ≡ step + 1
+            → IsWithin (tick * GREATEST_VELOCITY)
+            (displacement (point_after self.now plan.now tick start.point start.direction
+            start.speed step) result.point) }
         ensures state { IsTickState FARTHEST result }
     {
         let _some = self.positions();
@@ -101,14 +117,15 @@ impl Lattice {
         requires plan { IsPlan (choices_of self.now) self.now.legs plan.now }
         requires planned { steps ≤ positions_of self.now }
         requires near { positions_of self.now * (tick * GREATEST_VELOCITY) ≤ FARTHEST }
-        requires start { IsUnderWay (FARTHEST - positions_of self.now * (tick * GREATEST_VELOCITY)) start }
+        requires start { IsUnderWay
+            (FARTHEST - positions_of self.now * (tick * GREATEST_VELOCITY)) start }
         ensures { IsReached self.now plan.now tick start steps result }
     {
         let _some = self.positions();
         self.advanced(plan, start, tick, steps)
     }
 
-    /// The same at each tick from this one on, where she has got so far.
+    /// The same at each tick from this one on, if she has got so far.
     #[inline(always)]
     fn fill(
         &self,
@@ -123,14 +140,18 @@ impl Lattice {
         requires begun { first ≤ positions_of self.now }
         requires planned { first + length path.old ≤ positions_of self.now + 1 }
         requires near { positions_of self.now * (tick * GREATEST_VELOCITY) ≤ FARTHEST }
-        requires start { IsUnderWay (FARTHEST - positions_of self.now * (tick * GREATEST_VELOCITY)) start }
+        requires start { IsUnderWay
+            (FARTHEST - positions_of self.now * (tick * GREATEST_VELOCITY)) start }
         requires reached { IsReached self.now plan.now tick start first reached }
         ensures count { length path.new ≡ length path.old }
         ensures value { (j : ℕ) (d : TickState) → j < length path.new
-            → get_or path.new j d ≡ own_state self.now plan.now tick start.point start.direction start.speed (first + j) }
+            → get_or path.new j d
+            ≡ own_state self.now plan.now tick start.point start.direction start.speed (first + j) }
         ensures moved { (j : ℕ) (d : TickState) → j + 1 < length path.new
-            → IsWithin (tick * GREATEST_VELOCITY) (displacement (get_or path.new j d).point (get_or path.new (j + 1) d).point) }
-        ensures states { (j : ℕ) (d : TickState) → j < length path.new → IsTickState FARTHEST (get_or path.new j d) }
+            → IsWithin (tick * GREATEST_VELOCITY)
+            (displacement (get_or path.new j d).point (get_or path.new (j + 1) d).point) }
+        ensures states { (j : ℕ) (d : TickState) → j < length path.new
+            → IsTickState FARTHEST (get_or path.new j d) }
     {
         let _some = self.positions();
         let mut passage = self.passage(plan, start, reached, tick, first);
@@ -141,16 +162,19 @@ impl Lattice {
         }
     }
 
-    /// Where own ship is, and how she heads and moves, after so many planned steps. `start` is as for `own_motion`.
+    /// Where own ship is, and how she heads and moves, after this many planned steps. `start` is as for `own_motion`.
     pub fn motion_after(&self, start: &TickState, plan: &Plan, tick: u32, steps: u32) -> UnderWay
         requires plan { IsPlan (choices_of self.now) self.now.legs plan.now }
         requires course { IsSome start.now.direction }
         requires speed { IsSome start.now.speed }
         requires planned { steps ≤ positions_of self.now }
         requires near { positions_of self.now * tick * GREATEST_VELOCITY ≤ FARTHEST }
-        requires start { IsTickState (FARTHEST - positions_of self.now * tick * GREATEST_VELOCITY) start.now }
-        ensures { IfSome start.now.direction (λ course. IfSome start.now.speed (λ speed.
-            IsReached self.now plan.now tick (record { point = start.now.point; direction = course; speed = speed }) steps result)) }
+        requires start { IsTickState
+            (FARTHEST - positions_of self.now * tick * GREATEST_VELOCITY) start.now }
+        ensures { IfSome start.now.direction
+            (λ course. IfSome start.now.speed
+            (λ speed. IsReached self.now plan.now tick
+            (record { point = start.now.point; direction = course; speed = speed }) steps result)) }
     {
         let start = UnderWay {
             point: start.point,
@@ -178,15 +202,24 @@ impl Lattice {
         requires begun { first ≤ positions_of self.now }
         requires planned { first + length path.old ≤ positions_of self.now + 1 }
         requires near { positions_of self.now * tick * GREATEST_VELOCITY ≤ FARTHEST }
-        requires start { IsTickState (FARTHEST - positions_of self.now * tick * GREATEST_VELOCITY) start.now }
-        requires reached { IfSome start.now.direction (λ course. IfSome start.now.speed (λ speed.
-            IsReached self.now plan.now tick (record { point = start.now.point; direction = course; speed = speed }) first reached)) }
+        requires start { IsTickState
+            (FARTHEST - positions_of self.now * tick * GREATEST_VELOCITY) start.now }
+        requires reached { IfSome start.now.direction
+            (λ course. IfSome start.now.speed
+            (λ speed. IsReached self.now plan.now tick
+            (record { point = start.now.point; direction = course; speed = speed }) first
+            reached)) }
         ensures count { length path.new ≡ length path.old }
-        ensures value { IfSome start.now.direction (λ course. IfSome start.now.speed (λ speed. (j : ℕ) (d : TickState) → j < length path.new
-            → get_or path.new j d ≡ own_state self.now plan.now tick start.now.point course speed (first + j))) }
+        ensures value { IfSome start.now.direction
+            (λ course. IfSome start.now.speed
+            (λ speed. (j : ℕ) (d : TickState) → j < length path.new
+            → get_or path.new j d
+            ≡ own_state self.now plan.now tick start.now.point course speed (first + j))) }
         ensures moved { (j : ℕ) (d : TickState) → j + 1 < length path.new
-            → IsWithin (tick * GREATEST_VELOCITY) (displacement (get_or path.new j d).point (get_or path.new (j + 1) d).point) }
-        ensures states { (j : ℕ) (d : TickState) → j < length path.new → IsTickState FARTHEST (get_or path.new j d) }
+            → IsWithin (tick * GREATEST_VELOCITY)
+            (displacement (get_or path.new j d).point (get_or path.new (j + 1) d).point) }
+        ensures states { (j : ℕ) (d : TickState) → j < length path.new
+            → IsTickState FARTHEST (get_or path.new j d) }
     {
         let start = UnderWay {
             point: start.point,
@@ -207,11 +240,16 @@ impl Lattice {
         requires speed { IsSome start.now.speed }
         requires planned { k ≤ positions_of self.now }
         requires near { positions_of self.now * tick * GREATEST_VELOCITY ≤ FARTHEST }
-        requires start { IsTickState (FARTHEST - positions_of self.now * tick * GREATEST_VELOCITY) start.now }
+        requires start { IsTickState
+            (FARTHEST - positions_of self.now * tick * GREATEST_VELOCITY) start.now }
         ensures value { IfSome start.now.direction (λ course. IfSome start.now.speed (λ speed.
             result ≡ own_state self.now plan.now tick start.now.point course speed k)) }
-        ensures moved { IfSome start.now.direction (λ course. IfSome start.now.speed (λ speed. (step : ℕ) → k ≡ step + 1
-            → IsWithin (tick * GREATEST_VELOCITY) (displacement (point_after self.now plan.now tick start.now.point course speed step) result.point))) }
+        ensures moved { IfSome start.now.direction
+            (λ course. IfSome start.now.speed
+            (λ speed. (step : ℕ) → k ≡ step + 1
+            → IsWithin (tick * GREATEST_VELOCITY)
+            (displacement (point_after self.now plan.now tick start.now.point course speed step)
+            result.point))) }
         ensures state { IsTickState FARTHEST result }
     {
         let start = UnderWay {

@@ -48,7 +48,7 @@ fn product(tick: u32, velocity: i64) -> i64
     i64::from(tick) * velocity
 }
 
-/// One component of the way that a velocity leads in a tick of so many seconds.
+/// One component of the way that a velocity leads in a tick of this many seconds.
 fn scale(velocity: i64, tick: u32) -> i64
     requires velocity { unsigned_abs velocity ≤ GREATEST_VELOCITY }
     requires tick { tick ≤ LONGEST_TICK }
@@ -58,7 +58,7 @@ fn scale(velocity: i64, tick: u32) -> i64
     product(tick, velocity)
 }
 
-/// The way of a direction and a speed in a tick of so many seconds.
+/// The way of a direction and a speed in a tick of this many seconds.
 fn way_of(direction: u16, speed: u16, tick: u32) -> Point
     requires direction { direction < 3600 }
     requires speed { speed ≤ 1022 }
@@ -133,7 +133,7 @@ impl Lattice {
         }
     }
 
-    /// The passage of a vessel that has reached a place after so many steps.
+    /// The passage of a vessel that has reached a place after this many steps.
     pub(crate) fn passage(
         &self,
         plan: &Plan,
@@ -165,8 +165,10 @@ impl Lattice {
         requires on_her_way { IsOnHerWay tick passage }
         requires course { passage.orders.course < 3600 }
         requires speed { passage.orders.speed ≤ 1022 }
-        ensures direction { result.vessel.direction ≡ turned self.now.turn_rate passage.vessel.direction passage.orders.course }
-        ensures speed { result.vessel.speed ≡ hastened self.now.speed_rate passage.vessel.speed passage.orders.speed }
+        ensures direction { result.vessel.direction
+            ≡ turned self.now.turn_rate passage.vessel.direction passage.orders.course }
+        ensures speed { result.vessel.speed
+            ≡ hastened self.now.speed_rate passage.vessel.speed passage.orders.speed }
         ensures point { result.vessel.point ≡ passage.vessel.point }
         ensures on_her_way { IsOnHerWay tick result }
         ensures orders { result.orders ≡ passage.orders }
@@ -211,14 +213,20 @@ impl Lattice {
         requires passage { IsPassage self.now plan.now tick start step passage }
         requires point { IsWithin FARTHEST passage.vessel.point }
         ensures passage { IsPassage self.now plan.now tick start (step + 1) result }
-        ensures direction { result.vessel.direction ≡ turned self.now.turn_rate passage.vessel.direction
+        ensures direction { result.vessel.direction
+            ≡ turned self.now.turn_rate passage.vessel.direction
             (ordered_course self.now (choice_in_force self.now plan.now step) start.direction) }
         ensures speed { result.vessel.speed ≡ hastened self.now.speed_rate passage.vessel.speed
             (ordered_speed self.now (choice_in_force self.now plan.now step) start.speed) }
-        ensures point { result.vessel.point ≡ point_by tick (velocity_of result.vessel.direction result.vessel.speed) passage.vessel.point }
-        ensures moved { IsWithin (tick * GREATEST_VELOCITY) (displacement passage.vessel.point result.vessel.point) }
-        ensures near_x { unsigned_abs result.vessel.point.x ≤ unsigned_abs passage.vessel.point.x + tick * GREATEST_VELOCITY }
-        ensures near_y { unsigned_abs result.vessel.point.y ≤ unsigned_abs passage.vessel.point.y + tick * GREATEST_VELOCITY }
+        ensures point { result.vessel.point
+            ≡ point_by tick (velocity_of result.vessel.direction result.vessel.speed)
+            passage.vessel.point }
+        ensures moved { IsWithin (tick * GREATEST_VELOCITY)
+            (displacement passage.vessel.point result.vessel.point) }
+        ensures near_x { unsigned_abs result.vessel.point.x
+            ≤ unsigned_abs passage.vessel.point.x + tick * GREATEST_VELOCITY }
+        ensures near_y { unsigned_abs result.vessel.point.y
+            ≤ unsigned_abs passage.vessel.point.y + tick * GREATEST_VELOCITY }
     {
         let steered = self.steered(passage, tick);
         Passage {

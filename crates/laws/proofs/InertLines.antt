@@ -143,7 +143,7 @@ module _ {B : Type 0} (f : List (List ℕ) → List ℕ → B) where
     pub without_line : (back : List (List ℕ)) → each_line f (front ++ back) ≡ each_line f front ++ each_after f front back
     without_line back = after_append [] front back
 
--- What is kept of each line is the same without one of which nothing is kept.
+-- If nothing is kept of a line, what is kept of each other line is the same without it.
 module _ {A E : Type 0} (f : List (List ℕ) → List ℕ → Result A E) (front : List (List ℕ)) (line : List ℕ) (why : E)
     (blind : (between : List (List ℕ)) (x : List ℕ) → f (front ++ line ∷ between) x ≡ f (front ++ between) x) (none : f front line ≡ Err why) where
   pub kept_same : (back : List (List ℕ)) → filter_map ok_value (each_line f (front ++ line ∷ back)) ≡ filter_map ok_value (each_line f (front ++ back))

@@ -98,7 +98,7 @@ module _ (scenario : Scenario) (log less : List ℕ) (front : List (List ℕ)) (
   points_same = ap point_rows with_line ∙ flat_map-append rows_of_line before (judged.Without (line_outcome cause) ∷ after)
       ∙ sym (flat_map-append rows_of_line before after) ∙ ap point_rows (sym without_line)
 
-  -- Rows that are the same, the counts behind them, and reasons that are the same.
+  -- Rows that are the same, then the counts, then reasons that are the same.
   one_count_among : (rows reasons text other : List ℕ) → text ≡ rows ++ count_rows (judged_lines scenario (lines_of log)) ++ reasons
       → other ≡ rows ++ count_rows (judged_lines scenario (lines_of less)) ++ reasons → HasOneFewer (line_outcome cause) text other
   one_count_among rows reasons text other is is_other = record {

@@ -69,7 +69,7 @@ module _ (numbers : AuditNumbers) (ticks : List Sighting) (shares : List Share)
     }),
   )
 
-  -- Two rows that are kept and stand at one place are one: either is told by the share that keeps the other.
+  -- Two kept rows at the same place are equal: the share that keeps one of them reports the other too.
   one_kept : (a b : Row) → IsKeptOf shares a → IsKeptOf shares b → sort_key_of a ≡ sort_key_of b → a ≡ b
   one_kept a b (share, (inside, kept)) other e =
       let pair : pair_of a ≡ pair_of b = sym (same_pair a) ∙ (ap (λ (key : SortKey). topic_pair key.topic) e ∙ same_pair b) in
@@ -82,7 +82,7 @@ module _ (numbers : AuditNumbers) (ticks : List Sighting) (shares : List Share)
   merged [] among =
       let none = none_merged in
       record {
-        rows = none.rows;
+        items = none.items;
         ordered = none.ordered;
         sound = λ row i. absurd (none.sound row i);
         complete = λ row kept. in_none kept.0 kept.1.0;
@@ -91,11 +91,11 @@ module _ (numbers : AuditNumbers) (ticks : List Sighting) (shares : List Share)
       let rest = merged some (λ other i. among other (in_tail share some other i)) in
       let inside = among share (in_head share some) in
       let all = chosen_too (IsKeptOf shares) (λ row. Contains share.group (pair_of row).subject) (λ row. is_among share.group (pair_of row).subject) one_kept
-      share.rows rest.rows rest.ordered
+      share.rows rest.items rest.ordered
       (λ row i. let (other, (j, kept)) = rest.sound row i in (other, (among other (in_tail share some other j), kept)))
       (λ row told subject. (share, (inside, record { told = told; subject = subject }))) in
       record {
-        rows = all.rows;
+        items = all.items;
         ordered = all.ordered;
         sound = λ row i. elim (all.sound row i) [
           | inl mine ↦ (share, (in_head share some, record { told = mine.0; subject = mine.1 }))
@@ -110,4 +110,4 @@ module _ (numbers : AuditNumbers) (ticks : List Sighting) (shares : List Share)
   pub some_joined : (rows : List Row) × AreJoined shares rows
   some_joined =
       let all = merged shares (λ share i. i) in
-      (all.rows, record { each = λ row. (all.sound row, all.complete row); ordered = all.ordered })
+      (all.items, record { each = λ row. (all.sound row, all.complete row); ordered = all.ordered })

@@ -7,6 +7,8 @@ mod InertLines
 mod InertReports
 mod OneLine
 mod OtherSubjects
+mod Refuted
+mod Sorting
 mod Merging
 mod Joining
 mod ReportedShares
@@ -22,3 +24,14 @@ mod SeenAlike
 mod SameVessels
 mod SameMessages
 mod Stamps
+mod HaveRows
+mod Candidates
+mod OneRow
+mod SomeAuditRows
+mod SomeTotals
+mod SomeAlarms
+mod SomeSettledText
+mod SomeCanonicalList
+mod RightRows
+mod SomePlanReport
+mod SomeEnding

@@ -1,4 +1,4 @@
--- One answer is due at most; and to a request that none is due is refuted, where the shelf and the log are told.
+-- One answer is due at most; and that none is due is refuted if `clap` takes the arguments or refuses them, and the contents of shelf and log are known.
 use Rattle.std.proofs.lemmas.Bool.{cases_lt}
 use Rattle.std.proofs.Common.{ℕ, ◌≡◌, ◌≤◌, ◌<◌, ◌⊎◌, ◌∙◌, inl, inr, Bool, true, false, IsTrue, List, [], length, Option, None, Some, Ok, Err, refl, sym, subst, arith}
 use Rattle.outside.specs.Shelves.{Files, content_of}
@@ -17,6 +17,7 @@ use Rattle.tasks.specs.Modes.{needs_own, needs_rows, reads_log}
 use Rattle.tasks.specs.Tasks.{task_mode, task_rows, task_seed}
 use Rattle.sessions.specs.Refusals.{IsMet}
 use Rattle.sessions.specs.declared.session_fault.SessionFault.TheVariants as why
+use Rattle.laws.specs.Requests.{AreRead, SomeDue}
 use Rattle.laws.proofs.SomeAnswer.{memory_not_met, some_met}
 use Rattle.colregs_program.specs.Answers.{AreRows, AreRowsWhere, AskForMigration, CanMigrate, HasScenario, IsDue, IsRefusedBy, IsScenario, LiesUnder, MeetsAnswer, greatest_scenario}
 use Rattle.colregs_program.specs.AskedScenarios.{log_of, scenario_name, task_of, with_options}
@@ -203,8 +204,8 @@ module _ (words : List (List ℕ)) (held : Files) (bytes : List ℕ) where
   short_due (asks.Report report) asked text lies none short = some_report report asked text lies none short
   short_due (asks.Migration name) asked text lies none short = some_migration name asked text lies none short
 
-  pub some_due : (request : Request) → AskFor words request → ¬ ((due : Status) → ¬ Due due)
-  some_due request asked none = by (content_of (scenario_name request) held) refl
+  of_request : (request : Request) → AskFor words request → ¬ ((due : Status) → ¬ Due due)
+  of_request request asked none = by (content_of (scenario_name request) held) refl
     where
       by : (found : Option (List ℕ)) → content_of (scenario_name request) held ≡ found → ⊥
       by None is = none status.ShelfFault (request, asked, inl is)
@@ -212,3 +213,10 @@ module _ (words : List (List ℕ)) (held : Files) (bytes : List ℕ) where
         | inl long ↦ not_too_long request asked text is none long
         | inr short ↦ short_due request asked text is none short
       ]
+
+  of_arguments : AreRead words → ¬ ((due : Status) → ¬ Due due)
+  of_arguments (inl nothing) none = none status.Usage nothing
+  of_arguments (inr (request, asked)) none = of_request request asked none
+
+pub some_due : SomeDue
+some_due = of_arguments

@@ -58,7 +58,7 @@ one_drill_report scenario log text other a b =
     one_list_of_totals numbers ticks a.rows a.totals b.totals a.are_totals (subst (λ (rs : List Row). AreTotals numbers ticks rs b.totals) (sym rows) b.are_totals) in
     a.is ∙ ap (drill_text scenario log) totals ∙ sym b.is
 
--- Why every plan fails is told by one text.
+-- Only one text says why every plan fails.
 one_reasons : (why : Bool) (s : Situation) → AllPairs (λ (a b : Target). a.mmsi < b.mmsi) s.targets → (manoeuvre : Option (List ℕ)) (text other : List ℕ)
     → AreReasons why s manoeuvre text → AreReasons why s manoeuvre other → text ≡ other
 one_reasons false s order manoeuvre text other a b = a ∙ sym b

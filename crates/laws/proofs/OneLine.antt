@@ -75,7 +75,7 @@ among_append (part ∷ []) [] some = absurd (omega arith)
 among_append (part ∷ []) (first ∷ more) some = refl
 among_append (part ∷ next ∷ ended) later some = ap (λ lines. part ∷ lines) (among_append (next ∷ ended) later some)
 
--- Behind an ended line, lines begin anew.
+-- After an ended line, a new line begins.
 pub lines_behind : (before rest : List ℕ) → open_part before ≡ [] → lines_of (before ++ rest) ≡ ended_lines before ++ lines_of rest
 unfolding ended_lines open_part
 lines_behind before rest begins =

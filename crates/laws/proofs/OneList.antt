@@ -53,7 +53,7 @@ module _ (s : Situation) (ascending : AllPairs (λ (a b : Target). a.mmsi < b.mm
     ]
   ]
 
-  -- ---- one moment tells of an entry
+  -- ---- an entry has only one moment
 
   told_by : (plan : List ℕ) (target : Target) (step : ℕ) (m n : Moment) → TellsMoment s plan target (Domain step m) → TellsMoment s plan target (Domain step n) → m ≡ n
   told_by plan target step m n a b =

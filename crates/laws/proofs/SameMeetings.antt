@@ -267,7 +267,7 @@ module _ (numbers : AuditNumbers) (pair : Pair) (kind : Class) (least : ℕ) (xs
       same_steps : AgreeFrom (steps_x t.start) (steps_y begin.start) t.from q m
       same_steps = alike t.start t.from begin.start q m from_is q_is few in_x in_y
 
-      -- what stands at a step of the other window: within the meeting, and just behind it, what stands there in the one
+      -- the mark at a step of the other window: within the meeting, and just after it, the same as in the first
       abbrev Stands : ℕ → Mark → Type 0
       Stands i mark = IsMeetingMark numbers.detect (steps_y begin.start) i mark × ((j : ℕ) → j ≤ m → i ≡ q + j → mark ≡ mark_at t.marks (t.from + j))
 
@@ -450,7 +450,7 @@ module _ (numbers : AuditNumbers) (behind : ℕ) (earlier later : List Sighting)
       ))
       anew last (behind + last) (omega arith) (omega arith) t (len + 1) (omega arith) (omega arith) (omega arith) (omega arith) (λ lt. refl)
 
--- A meeting that begins after both windows have is told by both.
+-- Both windows report a meeting that begins after both have begun.
 pub meetings_of_windows : (numbers : AuditNumbers) (behind : ℕ) (earlier later : List Sighting) (row : Row) → IsSeenAlike behind earlier later (pair_of row).subject
     → IsSeenAlike behind earlier later (pair_of row).other → IsMeeting row
     → last_step_of row + 2 < length later → behind + last_step_of row + 2 < length earlier

@@ -1,4 +1,4 @@
--- The rows of a pair that first comes into contact behind the beginning of two windows are the same in both.
+-- If a pair first comes into contact after two windows have begun, its rows are the same in both.
 use Rattle.std.proofs.Common.{◌≡◌, ℕ, zero, suc, ◌+◌, ◌-◌, ◌<◌, ◌≤◌, ◌⊎◌, inl, inr, List, [], ◌∷◌, ◌++◌, length, length-take, take, drop, map, refl, sym, ap, ap₂, subst, ◌∙◌, arith}
 use Rattle.std.specs.Prelude.{◌↔◌, Option, None, Some, IsSomeAnd, slice_get}
 use Rattle.std.proofs.lemmas.List.{get_or-take, take-append-drop}
@@ -53,7 +53,7 @@ reach_within [] rule lt = absurd (omega arith)
 reach_within (r ∷ rs) zero lt = omega arith
 reach_within (r ∷ rs) (suc rule) lt = let rest = reach_within rs rule (omega arith) in omega arith
 
--- ---- what is known at a step of a front, whatever steps come behind it
+-- ---- what is known at a step of a front, whatever steps come after it
 
 agreed_mark : (detect : Detect) (steps others : List (Option PairStep)) (i : ℕ) (mark : Mark) → Agree steps others i → seen_at steps i ≡ seen_at others i
     → IsMeetingMark detect steps i mark → IsMeetingMark detect others i mark
@@ -117,7 +117,7 @@ module _ (numbers : AuditNumbers) (xs ys : List Sighting) (pair : Pair) (dx dy u
       };
     }
 
-    -- the steps up to the tick, and those behind it
+    -- the steps up to the tick, and those after it
     front_of : List Sighting → ℕ → List (Option PairStep)
     front_of seen d = steps_from (seen_state_at seen pair.subject) (seen_state_at seen pair.other) (d + s) (until - s)
 

@@ -13,14 +13,11 @@ use Rattle.sessions.specs.Refusals.{HasManySettled, IsLogRefused, IsMet, IsRefus
 use Rattle.sessions.specs.Tasks.{Task}
 use Rattle.sessions.specs.declared.session_fault.SessionFault.TheVariants as fault
 use Rattle.sessions.proofs.ForCallers.{behind_own, behind_search, behind_targets, behind_traces, behind_vessels, entry_fault, reported}
+use Rattle.laws.proofs.Refuted.{holds_or_not}
 
 -- that there is none is refuted
 abbrev pub ComesToSome : (Came → Type 0) → Type 0
 ComesToSome Comes = ¬ ((came : Came) → ¬ Comes came)
-
--- that a fact neither holds nor fails is refuted
-holds_or_not : (P : Type 0) → ¬ ¬ (P ⊎ ¬ P)
-holds_or_not P neither = neither (inr (λ holds. neither (inl holds)))
 
 -- ---- at the log's end
 
@@ -118,7 +115,7 @@ module _ (m : Mode) (scenario : Scenario) where
 pub some_met : (task : Task) (scenario : Scenario) (log : List ℕ) → ComesToSome (IsMet task scenario log)
 some_met task scenario log = some_met_in task.mode scenario log task.why task.rows
 
--- ---- want of memory is nothing that a log comes to
+-- ---- no log results in out of memory
 
 first_not : (Stands : Type 0) (here : Came) (Else : Came → Type 0) (came : Came) → (here ≡ came → ⊥) → (Else came → ⊥) → First Stands here Else came → ⊥
 first_not Stands here Else came other rest (inl (stands, is)) = other (sym is)

@@ -34,7 +34,7 @@ rows_of_counts count = flat_map (λ outcome. row_of (count_fields outcome (count
 abbrev pub one_fewer : LineOutcome → (LineOutcome → ℕ) → LineOutcome → ℕ
 one_fewer fewer count outcome = if outcome_index fewer == outcome_index outcome then count outcome - 1 else count outcome
 
--- The second text is the first but for the count of an outcome, which is smaller by one. Behind the counts stands at most why every plan fails.
+-- The second text is the first but for the count of an outcome, which is smaller by one. Only the reasons why every plan fails may follow the counts.
 pub record HasOneFewer (outcome : LineOutcome) (text other : List ℕ) : Type 0 where
   pub rows : List ℕ
   pub count : LineOutcome → ℕ
@@ -43,7 +43,7 @@ pub record HasOneFewer (outcome : LineOutcome) (text other : List ℕ) : Type 0 
   pub is : text ≡ rows ++ rows_of_counts count ++ reasons
   pub is_other : other ≡ rows ++ rows_of_counts (one_fewer outcome count) ++ reasons
 
--- what a report is without the line: the same but for that count; and that of a recheck, which tells no counts, is the same
+-- what a report is without the line: the same but for that count; the report of a recheck has no counts and is the same
 abbrev pub IsWithoutLine : Mode → LineOutcome → List ℕ → List ℕ → Type 0
 IsWithoutLine mode.Recheck outcome text other = other ≡ text
 IsWithoutLine m outcome text other = HasOneFewer outcome text other

@@ -6,3 +6,7 @@ pub mod Subjects
 pub mod Lookback
 pub mod Windows
 pub mod Vessels
+pub mod Findings
+pub mod Reasons
+pub mod Endings
+pub mod Requests

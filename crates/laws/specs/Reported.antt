@@ -16,7 +16,7 @@ AreReported scenario log rows = AreAuditRows (audit_numbers scenario) (sightings
 abbrev pub IsReported : Scenario → List ℕ → Row → Type 0
 IsReported scenario log row = IsAuditRow (audit_numbers scenario) (sightings_of scenario log) row
 
--- the ordered pair of which a row tells
+-- the ordered pair that a row is about
 abbrev pub pair_of : Row → Pair
 pair_of (row.Meeting pair kind first last least) = pair
 pair_of (row.Verdict pair rule undecided first last) = pair

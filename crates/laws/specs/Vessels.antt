@@ -1,4 +1,4 @@
--- Shares by vessels: two logs that tell the same of the two vessels of a pair.
+-- Shares by vessels: two logs that say the same about the two vessels of a pair.
 use Rattle.std.specs.Prelude.{ℕ, ◌≡◌, List, true}
 use Rattle.ranks.specs.VesselRanks.{rank_by_type}
 use Rattle.log_lines.specs.LogLines.{lines_of}

@@ -1,4 +1,4 @@
--- Shares by time: one log, audited over two windows with ticks of one length, of which the later begins some ticks behind the earlier.
+-- Shares by time: one log, audited over two windows with ticks of one length. The later window begins some ticks after the earlier.
 use Rattle.std.specs.Prelude.{ℕ, ◌≡◌, ◌+◌, ◌-◌, ◌<◌, ◌≤◌, List, filter, length, Option, true}
 use Rattle.encounters.specs.Engagement.{IsEngaged}
 use Rattle.encounters.specs.declared.pair_step.PairStep.{PairStep}

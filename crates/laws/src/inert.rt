@@ -9,11 +9,13 @@ ghost use Rattle.scenario_values.specs.declared.values.Scenario.{Scenario};
 ghost use Rattle.sessions.specs.Endings.{IsEnding};
 ghost use Rattle.sessions.specs.Tasks.{Task};
 
-/// A line without a stamp that is dropped for what it is changes nothing but a count: the log without it, and without the carriage return
-/// and the line feed that end it, has the same report, whatever is asked, but that the count of the line's outcome, where it is told, is smaller by one.
+/// A line without a stamp that is dropped for what it is changes only a count: for every task, the log without it, and without the carriage
+/// return and the line feed that end it, has the same report, except that the count of the line's outcome, if it is reported, is smaller by one.
 pub fn inert_lines()
-    ensures { (task : Task) (scenario : Scenario) (before part ending after text : List ℕ) (cause : LineCause) →
-        IsOneLine before part ending after → IsInert scenario (ended_lines before) (without_carriage_return part) cause →
-        IsEnding task scenario (before ++ part ++ ending ++ after) text →
-        (other : List ℕ) × IsEnding task scenario (before ++ after) other × IsWithoutLine task.mode (line_outcome cause) text other }
+    ensures { (task : Task) (scenario : Scenario) (before part ending after text : List ℕ)
+        (cause : LineCause) → IsOneLine before part ending after
+        → IsInert scenario (ended_lines before) (without_carriage_return part) cause
+        → IsEnding task scenario (before ++ part ++ ending ++ after) text
+        → (other : List ℕ) × IsEnding task scenario (before ++ after) other
+        × IsWithoutLine task.mode (line_outcome cause) text other }
 {}

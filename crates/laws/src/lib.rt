@@ -3,6 +3,7 @@
 //! - `checks`: rows that say rightly why there is no plan have no first bad row.
 //! - `reports`: a request has at most one report on a log, further lines never change bytes that are already settled, and at most one
 //!   answer of a run is due.
+//! - `existence`: that there is no such report, settled text, canonical list, or list of rows or alarms, is refuted.
 //! - `inert`: removing a line of noise without a time stamp changes the report by one count only.
 //! - `shares`: when the joined reports of several audits are the report of one. A long audit runs in shares: by subjects (one log, a group
 //!   of vessels each), by time (one log, a window each) or by vessels (the lines of some vessels, and of the others what keeps the clock).
@@ -12,6 +13,7 @@
 #![tactic(auto)]
 
 pub mod checks;
+pub mod existence;
 pub mod inert;
 pub mod reports;
 pub mod shares;

@@ -1,11 +1,9 @@
 //! Laws of reports and answers, which stand over the definitions alone.
-ghost use Rattle.std.specs.Prelude.{◌≡◌, ◌++◌, ℕ, List, Some};
+ghost use Rattle.std.specs.Prelude.{◌≡◌, ◌++◌, ℕ, List};
 ghost use Rattle.std.specs.declared.option.Option.{Option};
 ghost use Rattle.colregs_program.specs.Answers.{IsDue};
 ghost use Rattle.colregs_program.specs.declared.status.Status.{Status};
-ghost use Rattle.command_line.specs.Requests.{AskFor};
 ghost use Rattle.tasks.specs.declared.mode.Mode.{Mode};
-ghost use Rattle.command_line.specs.declared.request.Request.{Request};
 ghost use Rattle.outside.specs.Shelves.{Files};
 ghost use Rattle.refutation_search.specs.CanonicalLists.{IsCanonical};
 ghost use Rattle.refutations.specs.declared.entry.WhyEntry.{WhyEntry};
@@ -15,6 +13,7 @@ ghost use Rattle.sessions.specs.Refusals.{IsMet};
 ghost use Rattle.sessions.specs.SettledText.{IsSettledText};
 ghost use Rattle.sessions.specs.Tasks.{Task};
 ghost use Rattle.plan_situations.specs.Situations.{IsSituation};
+ghost use Rattle.laws.specs.Requests.{SomeDue};
 
 use log_lines::laws::ended_lines_stay;
 use plan_situations::Situation;
@@ -27,7 +26,8 @@ use settling::laws::{
 /// There is at most one canonical list of why every plan fails.
 pub fn one_canonical_list(situation: &Situation)
     requires { IsSituation situation.now }
-    ensures { (entries other : List WhyEntry) → IsCanonical situation.now entries → IsCanonical situation.now other → entries ≡ other }
+    ensures { (entries other : List WhyEntry) → IsCanonical situation.now entries
+        → IsCanonical situation.now other → entries ≡ other }
 {}
 
 /// A request has at most one report on a log.
@@ -38,13 +38,15 @@ pub fn one_ending()
 
 /// A log comes to something: that it comes to nothing is refuted.
 pub fn some_answer()
-    ensures { (task : Task) (scenario : Scenario) (log : List ℕ) → ¬ ((came : Came) → ¬ IsMet task scenario log came) }
+    ensures { (task : Task) (scenario : Scenario) (log : List ℕ)
+        → ¬ ((came : Came) → ¬ IsMet task scenario log came) }
 {}
 
 /// The settled bytes of a front of a log are one text at most.
 pub fn one_settled_text()
-    ensures { (mode : Mode) (scenario : Scenario) (front text other : List ℕ) →
-        IsSettledText mode scenario front text → IsSettledText mode scenario front other → text ≡ other }
+    ensures { (mode : Mode) (scenario : Scenario) (front text other : List ℕ)
+        → IsSettledText mode scenario front text → IsSettledText mode scenario front other
+        → text ≡ other }
 {
     one_list_of_decided_rows();
     one_list_of_decided_alarms();
@@ -52,10 +54,13 @@ pub fn one_settled_text()
 
 /// The settled bytes of a front are a front of those of each longer front, and of the report of every log that begins with it.
 pub fn settled_bytes_stay()
-    ensures longer { (mode : Mode) (scenario : Scenario) (front more text later : List ℕ) → IsSettledText mode scenario front text →
-        IsSettledText mode scenario (front ++ more) later → (rest : List ℕ) × (later ≡ text ++ rest) }
-    ensures report { (task : Task) (scenario : Scenario) (front more text report : List ℕ) → IsSettledText task.mode scenario front text →
-        IsEnding task scenario (front ++ more) report → (rest : List ℕ) × (report ≡ text ++ rest) }
+    ensures longer { (mode : Mode) (scenario : Scenario) (front more text later : List ℕ)
+        → IsSettledText mode scenario front text → IsSettledText mode scenario (front ++ more) later
+        → (rest : List ℕ) × (later ≡ text ++ rest) }
+    ensures report { (task : Task) (scenario : Scenario) (front more text report : List ℕ)
+        → IsSettledText task.mode scenario front text
+        → IsEnding task scenario (front ++ more) report
+        → (rest : List ℕ) × (report ≡ text ++ rest) }
 {
     ended_lines_stay();
     decided_rows_are_a_front();
@@ -64,16 +69,16 @@ pub fn settled_bytes_stay()
     decided_alarms_begin_the_report();
 }
 
-/// One answer is due at most, whatever is told of words, shelf and log.
+/// At most one answer is due, whatever is known of the arguments, the files and the log.
 pub fn one_due()
-    ensures { (words : List (List ℕ)) (files : Option Files) (log : Option (List ℕ)) (due other : Status) →
-        IsDue words files log due → IsDue words files log other → due ≡ other }
+    ensures { (words : List (List ℕ)) (files : Option Files) (log : Option (List ℕ))
+        (due other : Status) → IsDue words files log due → IsDue words files log other
+        → due ≡ other }
 {
     one_answer();
 }
 
-/// Where words ask for a request, and the shelf and the log tell what they hold, some answer is due: that none is is refuted.
+/// If `clap` takes the arguments of a run or refuses them, and the contents of shelf and log are known, some answer is due: that none is is refuted.
 pub fn some_due()
-    ensures { (words : List (List ℕ)) (held : Files) (bytes : List ℕ) (request : Request) → AskFor words request →
-        ¬ ((due : Status) → ¬ IsDue words (Some held) (Some bytes) due) }
+    ensures { SomeDue }
 {}

@@ -19,100 +19,136 @@ ghost use Rattle.laws.specs.Windows.{BeginsAnew, ComeIntoContactBehind, HaveMetB
 
 /// A row whose subject is in a group is an audit's with the group as subjects exactly where it is the audit's of all pairs.
 pub fn rows_of_a_subject()
-    ensures { (numbers : AuditNumbers) (ticks : List Sighting) (group : List ℕ) (row : Row) → Contains group (pair_of row).subject →
-        IsAuditRow (for_subjects group numbers) ticks row ↔ IsAuditRow (for_subjects [] numbers) ticks row }
+    ensures { (numbers : AuditNumbers) (ticks : List Sighting) (group : List ℕ) (row : Row)
+        → Contains group (pair_of row).subject
+        → IsAuditRow (for_subjects group numbers) ticks row
+        ↔ IsAuditRow (for_subjects [] numbers) ticks row }
 {}
 
 /// Of shares whose groups cover all vessels that are seen, the rows kept of each and merged in order are the rows of all pairs. There is
 /// such a list for all shares, and the report of all pairs begins with its text.
 pub fn shares_by_subjects()
-    ensures whole { (scenario : Scenario) (log : List ℕ) (shares : List Share) (rows : List Row) → AreShares scenario log shares →
-        CoverAllSeen scenario log shares → AreJoined shares rows ↔ AreReported (of_all scenario) log rows }
-    ensures some { (scenario : Scenario) (log : List ℕ) (shares : List Share) → AreShares scenario log shares →
-        (rows : List Row) × AreJoined shares rows }
-    ensures text { (scenario : Scenario) (log text : List ℕ) (shares : List Share) (rows : List Row) → AreShares scenario log shares →
-        CoverAllSeen scenario log shares → AreJoined shares rows → IsAuditReport (of_all scenario) log text →
-        (behind : List ℕ) × (text ≡ stretch_rows scenario.rules rows ++ behind) }
+    ensures whole { (scenario : Scenario) (log : List ℕ) (shares : List Share) (rows : List Row)
+        → AreShares scenario log shares → CoverAllSeen scenario log shares
+        → AreJoined shares rows ↔ AreReported (of_all scenario) log rows }
+    ensures some { (scenario : Scenario) (log : List ℕ) (shares : List Share)
+        → AreShares scenario log shares → (rows : List Row) × AreJoined shares rows }
+    ensures text { (scenario : Scenario) (log text : List ℕ) (shares : List Share) (rows : List Row)
+        → AreShares scenario log shares
+        → CoverAllSeen scenario log shares → AreJoined shares rows
+        → IsAuditReport (of_all scenario) log text
+        → (behind : List ℕ) × (text ≡ stretch_rows scenario.rules rows ++ behind) }
 {}
 
 /// Where two windows see the two vessels of a pair alike, a meeting of theirs that ends early enough in both and begins after both have
 /// is one of the earlier window exactly where it is one of the later, and none is under way in the earlier where it begins.
 pub fn meetings_of_two_windows()
-    ensures { (numbers : AuditNumbers) (behind : ℕ) (earlier later : List Sighting) (row : Row) →
-        IsSeenAlike behind earlier later (pair_of row).subject → IsSeenAlike behind earlier later (pair_of row).other → IsMeeting row →
-        last_step_of row + 2 < length later → behind + last_step_of row + 2 < length earlier →
-        IsAuditRow (over earlier numbers) earlier (moved behind row) ↔
-        (IsAuditRow (over later numbers) later row × BeginsAnew numbers earlier (pair_of row) (behind + first_step_of row)) }
+    ensures { (numbers : AuditNumbers) (behind : ℕ) (earlier later : List Sighting) (row : Row)
+        → IsSeenAlike behind earlier later (pair_of row).subject
+        → IsSeenAlike behind earlier later (pair_of row).other → IsMeeting row
+        → last_step_of row + 2 < length later → behind + last_step_of row + 2 < length earlier
+        → IsAuditRow (over earlier numbers) earlier (moved behind row)
+        ↔ (IsAuditRow (over later numbers) later row
+        × BeginsAnew numbers earlier (pair_of row) (behind + first_step_of row)) }
 {}
 
 /// Where two windows see the two vessels of a pair alike and rank them alike, and the two first come into contact when both have begun,
 /// their rows that the windows decide are the same in both.
 pub fn rows_of_two_windows()
-    ensures { (numbers : AuditNumbers) (behind : ℕ) (earlier later : List Sighting) (row : Row) →
-        IsSeenAlike behind earlier later (pair_of row).subject → IsSeenAlike behind earlier later (pair_of row).other →
-        IsRankedAlike behind earlier later (pair_of row).subject → IsRankedAlike behind earlier later (pair_of row).other →
-        ComeIntoContactBehind behind numbers earlier (pair_of row) →
-        last_step_of row + audit_reach numbers + 2 < length later → behind + last_step_of row + audit_reach numbers + 2 < length earlier →
-        IsAuditRow (over earlier numbers) earlier (moved behind row) ↔ IsAuditRow (over later numbers) later row }
+    ensures { (numbers : AuditNumbers) (behind : ℕ) (earlier later : List Sighting) (row : Row)
+        → IsSeenAlike behind earlier later (pair_of row).subject
+        → IsSeenAlike behind earlier later (pair_of row).other
+        → IsRankedAlike behind earlier later (pair_of row).subject
+        → IsRankedAlike behind earlier later (pair_of row).other
+        → ComeIntoContactBehind behind numbers earlier (pair_of row)
+        → last_step_of row + audit_reach numbers + 2 < length later
+        → behind + last_step_of row + audit_reach numbers + 2 < length earlier
+        → IsAuditRow (over earlier numbers) earlier (moved behind row)
+        ↔ IsAuditRow (over later numbers) later row }
 {}
 
 /// Where two windows see the two vessels of a pair alike and rank them alike, a verdict that both windows decide is the same in both, if its
 /// rule looks back no further than to a step by which the two had met in the later window, and before which none of their meetings was under way.
 pub fn verdicts_of_two_windows()
-    ensures { (numbers : AuditNumbers) (behind : ℕ) (earlier later : List Sighting) (step : ℕ) (row : Row) →
-        IsSeenAlike behind earlier later (pair_of row).subject → IsSeenAlike behind earlier later (pair_of row).other →
-        IsRankedAlike behind earlier later (pair_of row).subject → IsRankedAlike behind earlier later (pair_of row).other →
-        HaveMetBy numbers later (pair_of row) step → BeginsAnew numbers earlier (pair_of row) (behind + step) → LooksBackTo numbers step row →
-        last_step_of row + audit_reach numbers + 2 < length later → behind + last_step_of row + audit_reach numbers + 2 < length earlier →
-        IsAuditRow (over earlier numbers) earlier (moved behind row) ↔ IsAuditRow (over later numbers) later row }
+    ensures { (numbers : AuditNumbers) (behind : ℕ) (earlier later : List Sighting) (step : ℕ)
+        (row : Row) → IsSeenAlike behind earlier later (pair_of row).subject
+        → IsSeenAlike behind earlier later (pair_of row).other
+        → IsRankedAlike behind earlier later (pair_of row).subject
+        → IsRankedAlike behind earlier later (pair_of row).other
+        → HaveMetBy numbers later (pair_of row) step
+        → BeginsAnew numbers earlier (pair_of row) (behind + step) → LooksBackTo numbers step row
+        → last_step_of row + audit_reach numbers + 2 < length later
+        → behind + last_step_of row + audit_reach numbers + 2 < length earlier
+        → IsAuditRow (over earlier numbers) earlier (moved behind row)
+        ↔ IsAuditRow (over later numbers) later row }
 {}
 
 /// Where two windows judge a vessel's reports alike, they see her alike.
 pub fn windows_see_alike()
-    ensures { (scenario : Scenario) (log : List ℕ) (start ticks behind more mmsi : ℕ) → scenario.own ≡ None →
-        IsJudgedAlike (with_window start ticks scenario) (with_window (start + behind * scenario.window.tick) more scenario) log mmsi →
-        IsSeenAlike behind (sightings_of (with_window start ticks scenario) log)
-        (sightings_of (with_window (start + behind * scenario.window.tick) more scenario) log) mmsi }
+    ensures { (scenario : Scenario) (log : List ℕ) (start ticks behind more mmsi : ℕ)
+        → scenario.own ≡ None
+        → IsJudgedAlike (with_window start ticks scenario)
+        (with_window (start + behind * scenario.window.tick) more scenario) log mmsi
+        → IsSeenAlike behind (sightings_of (with_window start ticks scenario) log)
+        (sightings_of (with_window (start + behind * scenario.window.tick) more scenario) log)
+        mmsi }
 {}
 
 /// Two windows that judge the reports of a pair's vessels alike. A meeting that ends two ticks before the end of either and begins when both
 /// have begun is reported of the earlier exactly where it is of the later, and none is under way in the earlier where it begins. Of a pair
 /// that first comes into contact when both have begun, each row that both windows decide is reported of the one exactly where it is of the other.
 pub fn shares_by_time()
-    ensures meetings { (scenario : Scenario) (log : List ℕ) (start ticks behind more : ℕ) (row : Row) → scenario.own ≡ None →
-        IsJudgedAlike (with_window start ticks scenario) (with_window (start + behind * scenario.window.tick) more scenario) log (pair_of row).subject →
-        IsJudgedAlike (with_window start ticks scenario) (with_window (start + behind * scenario.window.tick) more scenario) log (pair_of row).other →
-        IsMeeting row → last_step_of row + 2 ≤ more → behind + last_step_of row + 2 ≤ ticks →
-        IsReported (with_window start ticks scenario) log (moved behind row) ↔
-        (IsReported (with_window (start + behind * scenario.window.tick) more scenario) log row ×
-        BeginsAnew (audit_numbers scenario) (sightings_of (with_window start ticks scenario) log) (pair_of row) (behind + first_step_of row)) }
-    ensures rows { (scenario : Scenario) (log : List ℕ) (start ticks behind more : ℕ) (row : Row) → scenario.own ≡ None →
-        IsJudgedAlike (with_window start ticks scenario) (with_window (start + behind * scenario.window.tick) more scenario) log (pair_of row).subject →
-        IsJudgedAlike (with_window start ticks scenario) (with_window (start + behind * scenario.window.tick) more scenario) log (pair_of row).other →
-        IsTypedAlike (with_window start ticks scenario) (with_window (start + behind * scenario.window.tick) more scenario) log (pair_of row).subject →
-        IsTypedAlike (with_window start ticks scenario) (with_window (start + behind * scenario.window.tick) more scenario) log (pair_of row).other →
-        ComeIntoContactBehind behind (audit_numbers scenario) (sightings_of (with_window start ticks scenario) log) (pair_of row) →
-        last_step_of row + audit_reach (audit_numbers scenario) + 2 ≤ more →
-        behind + last_step_of row + audit_reach (audit_numbers scenario) + 2 ≤ ticks →
-        IsReported (with_window start ticks scenario) log (moved behind row) ↔
-        IsReported (with_window (start + behind * scenario.window.tick) more scenario) log row }
+    ensures meetings { (scenario : Scenario) (log : List ℕ) (start ticks behind more : ℕ)
+        (row : Row) → scenario.own ≡ None
+        → IsJudgedAlike (with_window start ticks scenario)
+        (with_window (start + behind * scenario.window.tick) more scenario) log
+        (pair_of row).subject
+        → IsJudgedAlike (with_window start ticks scenario)
+        (with_window (start + behind * scenario.window.tick) more scenario) log (pair_of row).other
+        → IsMeeting row → last_step_of row + 2 ≤ more → behind + last_step_of row + 2 ≤ ticks
+        → IsReported (with_window start ticks scenario) log (moved behind row)
+        ↔ (IsReported (with_window (start + behind * scenario.window.tick) more scenario) log row
+        × BeginsAnew (audit_numbers scenario) (sightings_of (with_window start ticks scenario) log)
+        (pair_of row) (behind + first_step_of row)) }
+    ensures rows { (scenario : Scenario) (log : List ℕ) (start ticks behind more : ℕ) (row : Row)
+        → scenario.own ≡ None
+        → IsJudgedAlike (with_window start ticks scenario)
+        (with_window (start + behind * scenario.window.tick) more scenario) log
+        (pair_of row).subject
+        → IsJudgedAlike (with_window start ticks scenario)
+        (with_window (start + behind * scenario.window.tick) more scenario) log (pair_of row).other
+        → IsTypedAlike (with_window start ticks scenario)
+        (with_window (start + behind * scenario.window.tick) more scenario) log
+        (pair_of row).subject
+        → IsTypedAlike (with_window start ticks scenario)
+        (with_window (start + behind * scenario.window.tick) more scenario) log (pair_of row).other
+        → ComeIntoContactBehind behind (audit_numbers scenario)
+        (sightings_of (with_window start ticks scenario) log) (pair_of row)
+        → last_step_of row + audit_reach (audit_numbers scenario) + 2 ≤ more
+        → behind + last_step_of row + audit_reach (audit_numbers scenario) + 2 ≤ ticks
+        → IsReported (with_window start ticks scenario) log (moved behind row)
+        ↔ IsReported (with_window (start + behind * scenario.window.tick) more scenario) log row }
 {}
 
 /// A row of a pair is an audit's by the states and ranks of its two vessels alone.
 pub fn rows_of_two_vessels()
-    ensures { (numbers : AuditNumbers) (ticks others : List Sighting) (row : Row) → length ticks ≡ length others →
-        IsSeenAs ticks others (pair_of row).subject → IsSeenAs ticks others (pair_of row).other →
-        IsAuditRow numbers ticks row ↔ IsAuditRow numbers others row }
+    ensures { (numbers : AuditNumbers) (ticks others : List Sighting) (row : Row)
+        → length ticks ≡ length others → IsSeenAs ticks others (pair_of row).subject
+        → IsSeenAs ticks others (pair_of row).other
+        → IsAuditRow numbers ticks row ↔ IsAuditRow numbers others row }
 {}
 
 /// Where the two vessels of a pair have sent alike by two logs, a row of theirs is reported of the one exactly where it is of the other.
 pub fn shares_by_vessels()
-    ensures { (scenario : Scenario) (log other : List ℕ) (row : Row) → HasSentAlike scenario log other (pair_of row).subject →
-        HasSentAlike scenario log other (pair_of row).other → IsReported scenario log row ↔ IsReported scenario other row }
+    ensures { (scenario : Scenario) (log other : List ℕ) (row : Row)
+        → HasSentAlike scenario log other (pair_of row).subject
+        → HasSentAlike scenario log other (pair_of row).other
+        → IsReported scenario log row ↔ IsReported scenario other row }
 {}
 
 /// Whether a line's sentence is in time, and at which time it is sent, hangs on the stamps of the lines before it alone.
 pub fn stamps_keep_the_clock()
-    ensures { (scenario : Scenario) (before others : List (List ℕ)) (line : List ℕ) → stamps_of before ≡ stamps_of others →
-        heard_of scenario before line ≡ heard_of scenario others line }
+    ensures { (scenario : Scenario) (before others : List (List ℕ)) (line : List ℕ)
+        → stamps_of before ≡ stamps_of others
+        → heard_of scenario before line ≡ heard_of scenario others line }
 {}

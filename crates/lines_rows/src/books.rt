@@ -1,4 +1,4 @@
-//! What reports come to in a book of vessels.
+//! What reports result in within a book of vessels.
 ghost use Rattle.std.specs.Prelude.{◌≡◌, ◌≤◌, ◌<◌, IfOk, IfSome, unsigned_abs};
 ghost use Rattle.ais_messages.specs.MessageFields.{IsMessage, IsReport, IsStatic};
 ghost use Rattle.tracks.specs.declared.keeping.Keeping.TheVariants.{Tracks};
@@ -80,12 +80,12 @@ const OTHER: u32 = 477553000;
 /// A position report of a ship: her identity, her latitude, when it comes, and what it results in.
 type Reported = (u32, i32, u64, Entry);
 
-/// The point on the meridian so many millimetres north.
+/// The point on the meridian this many millimetres north.
 fn at(y: i64) -> Entry {
     Entry::Point(Point { x: 0, y })
 }
 
-/// What a position report results in, where it is of a ship and of a place on the Earth.
+/// What a position report results in, if it is of a ship and of a place on the Earth.
 fn entry(book: &mut Book, mmsi: u32, latitude: i32, time: u64) -> Option<Result<Entry, BookFault>> {
     if mmsi < 200000000 || 799999999 < mmsi || 54000000 < latitude.unsigned_abs() {
         return None;
@@ -240,7 +240,7 @@ fn directions_by_heading_or_course(rt: HostRuntime) {
     }
 }
 
-/// What a line completes, where it is a sentence.
+/// What a line completes, if it is a sentence.
 fn joined(joiner: &mut Joiner, line: &[u8]) -> Option<Joined> {
     match read_line(line).body {
         Body::Sentence(sentence) => joiner.take(&sentence, 0).ok(),
@@ -266,9 +266,9 @@ fn message_of(alloc: Global, line: &[u8]) -> Option<Message>
 fn a_name_stays_when_ship_data_comes(rt: HostRuntime) -> Result<(), Fail> {
     let mut book = book(rt.alloc(), 500)?;
     let name = b"!AIVDM,1,1,,A,H42O55i18tMET000000000000000,0*5F";
-    let name = message_of(rt.alloc(), name).ok_or("it tells a name")?;
+    let name = message_of(rt.alloc(), name).ok_or("it gives a name")?;
     let ship = b"!AIVDM,1,1,,A,H42O55lti4hhhilD3nink000?050,0*40";
-    let ship = message_of(rt.alloc(), ship).ok_or("it tells ship's data")?;
+    let ship = message_of(rt.alloc(), ship).ok_or("it gives ship's data")?;
     is(&rt, book.take(&name, 1000), Ok(Entry::Static));
     is(&rt, book.take(&ship, 1000), Ok(Entry::Static));
     is(&rt, book.vessels(), 1);
@@ -420,7 +420,7 @@ fn the_latest_report_alone_serves_to_judge(rt: HostRuntime) -> Result<(), Fail> 
     Ok(())
 }
 
-/// Takes a report of so many vessels, and counts the refusals.
+/// Takes a report of this many vessels, and counts the refusals.
 fn take_many(rt: &impl Abort, book: &mut Book, count: u32) -> u32
     requires { count ≤ 10000 }
 {

@@ -1,5 +1,5 @@
 //! What a test compares, in one place each: a test that calls them is proved in a fraction of the time that the macros take in it. What fails is
-//! told with both values, by the name of its test. Where a table has many rows, both have what the row shows beside them.
+//! reported with both values, by the name of its test. If a table has many rows, both have what the row shows beside them.
 use std::fmt::Debug;
 use std::process::Abort;
 

@@ -20,7 +20,7 @@ fn a_word_is_its_text(rt: HostRuntime) -> Result<(), Memory> {
     Ok(())
 }
 
-/// What a read gives, and the first byte of the room, which is 0 where nothing is put there.
+/// What a read gives, and the first byte of the room, which is 0 if nothing is put there.
 fn read(source: &mut impl Source) -> (Taken, u8) {
     let mut room = [0u8; 8];
     let taken = source.read(&mut room);
@@ -203,7 +203,7 @@ fn is_whole(
     }
 }
 
-// One byte behind the limit is read, and no more.
+// One byte after the limit is read, and no more.
 #[test]
 fn what_is_too_long_is_read_up_to_the_byte_behind_the_limit(rt: HostRuntime) -> Result<(), Memory> {
     let mut source = PlainSource::new(b"abcdef".to_vec(rt.alloc())?, 3);
@@ -235,7 +235,7 @@ fn a_folder_is_a_fault_and_no_file(rt: HostRuntime) -> Result<(), Fail> {
     Ok(())
 }
 
-/// Of two files, which hold "red" and "green", the second is fetched.
+/// The second of two files, which hold "red" and "green", is fetched.
 fn is_fetched_of_two<R: Abort + Files>(
     rt: &R,
     alloc: Global,

@@ -10,7 +10,7 @@ use out_of_memory::Memory;
 use std::alloc::Global;
 use std::process::Abort;
 
-/// What a static report tells: the ship's identity, her name, and her type and size.
+/// What a static report says: the ship's identity, her name, and her type and size.
 type Told<'a> = (u32, Option<&'a [u8]>, Option<ShipData>);
 
 fn told(report: &StaticReport) -> Told<'_> {
@@ -20,7 +20,7 @@ fn told(report: &StaticReport) -> Told<'_> {
     }
 }
 
-/// What a message says: its position report, and what its static report tells.
+/// What a message says: its position report, and its static report.
 type Said<'a> = (Option<PositionReport>, Option<Told<'a>>);
 
 /// What a message says, or why it is not read.

@@ -13,7 +13,7 @@ pub(crate) fn joined(joiner: &mut Joiner, line: &[u8], time: u64) -> Option<Join
     }
 }
 
-/// A message of so many bits, or why a line completes none.
+/// A message of this many bits, or why a line completes none.
 type Completes = Result<usize, &'static str>;
 
 /// What a line completes.
@@ -40,7 +40,7 @@ enum Form {
 /// A number in some bits: the first of them, how many they are, its form, and the number.
 type Field = (usize, u32, Form, i64);
 
-/// The number that stands in some bits, where there are so many.
+/// The number that stands in some bits, if there are this many.
 fn number(bits: &Bits, first: usize, width: u32, form: Form) -> Option<i64> {
     let short = bits.len() < first || bits.len() - first < width as usize;
     if width == 0 || 32 < width || short {

@@ -1,4 +1,4 @@
--- The ship types that are noted, behind one message more.
+-- The ship types that are noted after one more message.
 use Rattle.std.proofs.Common.{◌≡◌, ◌<◌, ℕ, Bool, List, [], ◌∷◌, ◌++◌, append-nil, Option, None, Some, refl, ap, sym, subst, ◌∙◌, arith}
 use Rattle.std.specs.Prelude.{option_and_then}
 use Rattle.std.specs.List.{filter_map}
@@ -28,13 +28,13 @@ noted_nothing : (messages : List Sent) (one : Sent) → note_in one ≡ None →
 noted_nothing messages one none =
     noted-push messages one ∙ ap (λ (note : Option Note). noted messages ++ option_to_list note) none ∙ append-nil (noted messages)
 
--- a message that tells no ship type
+-- a message that reports no ship type
 pub nothing_noted : (ranked : Bool) (kept : Option (List (ℕ × List Change))) (messages : List Sent) (one : Sent) → note_in one ≡ None
     → AreNoted ranked kept messages → AreNoted ranked kept (messages ++ one ∷ [])
 nothing_noted ranked None messages one none are = are
 nothing_noted ranked (Some kept) messages one none are = (are.0, subst (RanksStandFor kept) (sym (noted_nothing messages one none)) are.1)
 
--- a message that tells one
+-- a message that reports one
 pub note_more : (ranked : Bool) (old new : List (ℕ × List Change)) (messages : List Sent) (one : Sent) (note : Note) → note_in one ≡ Some note
     → ((all : List Note) → RanksStandFor old all → RanksStandFor new (all ++ note ∷ []))
     → AreNoted ranked (Some old) messages → AreNoted ranked (Some new) (messages ++ one ∷ [])

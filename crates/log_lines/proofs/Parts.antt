@@ -9,7 +9,7 @@ use Rattle.std.specs.Prelude.{◌==◌, if◌then◌else◌, slice_index}
 use Rattle.log_lines.specs.LogLines.{is_line_feed, lines_among, lines_of, without_carriage_return}
 use Rattle.log_lines.specs.GrowingLog.{ended_among, ended_lines, last_part, open_lines, open_part}
 
--- the parts of two lists one after the other, of which the last part of the first goes on
+-- the parts of two lists in order; the first part of the second continues the last of the first
 abbrev append_parts : List (List ℕ) → List (List ℕ) → List (List ℕ)
 append_parts [] later = later
 append_parts (part ∷ []) [] = part ∷ []

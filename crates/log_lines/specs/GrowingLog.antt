@@ -1,4 +1,4 @@
--- The lines of a log that grows: those that a line feed has ended, and what stands behind the last of them.
+-- The lines of a growing log: those that a line feed has ended, and the bytes after the last one.
 use Rattle.std.specs.Prelude.{ℕ, ◌==◌, List, [], ◌∷◌, length, map, if◌then◌else◌}
 use Rattle.std.specs.List.{slice_split}
 use Rattle.log_lines.specs.LogLines.{is_line_feed, without_carriage_return}
@@ -19,10 +19,10 @@ last_part [] = []
 last_part (part ∷ []) = part
 last_part (part ∷ next ∷ more) = last_part (next ∷ more)
 
--- what stands behind the last line feed
+-- the bytes after the last line feed
 unfoldable pub open_part : List ℕ → List ℕ
 open_part log = last_part (slice_split is_line_feed log)
 
--- the same as a line, where it has a byte
+-- the same as a line, if it has a byte
 abbrev pub open_lines : List ℕ → List (List ℕ)
 open_lines part = if length part == 0 then [] else without_carriage_return part ∷ []

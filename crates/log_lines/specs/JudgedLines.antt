@@ -1,4 +1,4 @@
--- What the lines of a log come to.
+-- The results of the lines of a log.
 use Rattle.std.specs.Prelude.{ℕ, ◌==◌, ◌∷◌, [], ◌++◌, Bool, count_by, nat_lt, List, length, Option, Some, None, Result, Ok, Err}
 use Rattle.std.specs.List.{list_any}
 use Rattle.ais_messages.specs.declared.message.PositionReport.{PositionReport}
@@ -30,30 +30,30 @@ abbrev pub accepted_at : ℕ → Point → Option PositionReport → Judged
 accepted_at time point (Some report) = judged.Accepted (record { time = time; point = point; report = report })
 accepted_at time point None = judged.Without outcome.Static
 
--- what a message comes to, from its entry in the book of vessels
+-- the result of a message, from its entry in the book of vessels
 abbrev pub judged_entry : Sent → Entry → Judged
 judged_entry one (entry.Point point) = accepted_at one.time point (report_in one.message)
 judged_entry one entry.Static = judged.Without outcome.Static
 judged_entry one (entry.Dropped cause) = judged.Without (report_outcome cause)
 
--- what a message comes to, after the messages before it; or what came of a line without one
+-- the result of a message, after the messages before it; or of a line without a message
 abbrev pub judged_sent : JudgingNumbers → List Sent → Result Sent LineOutcome → Judged
 judged_sent numbers before (Ok one) = judged_entry one (entry_of numbers before one)
 judged_sent numbers before (Err came) = judged.Without came
 
--- what a line comes to, after the lines before it
+-- the result of a line, after the lines before it
 unfoldable pub judged_line : Scenario → List (List ℕ) → List ℕ → Judged
 judged_line scenario before line = judged_sent (numbers_of scenario) (sent scenario before) (sent_of scenario before line)
 
--- what lines come to
+-- the results of lines
 unfoldable pub judged_lines : Scenario → List (List ℕ) → List Judged
 judged_lines scenario lines = each_line (judged_line scenario) lines
 
--- how many lines came to an outcome
+-- how many lines have an outcome
 abbrev pub count_of : LineOutcome → List Judged → ℕ
 count_of outcome lines = count_by (λ line. outcome_index (outcome_of line) == outcome_index outcome) lines
 
--- how many vessels are held behind a line, after the lines before it
+-- how many vessels are held after a line and the lines before it
 unfoldable pub held_behind : Scenario → List (List ℕ) → List ℕ → ℕ
 held_behind scenario before line = length (held_of (numbers_of scenario) (sent scenario (before ++ line ∷ [])))
 

@@ -13,16 +13,16 @@ stamp_of line = (reading_of line).stamp
 abbrev pub stamps_of : List (List ℕ) → List ℕ
 stamps_of lines = filter_map stamp_of lines
 
--- The time of the last of these lines: its stamp, else the nearest earlier stamp, else the window's start.
+-- The time of the last of these lines: its stamp, the nearest earlier one, or the window's start.
 unfoldable pub time_of : Scenario → List (List ℕ) → ℕ
 time_of scenario lines = unwrap_or (last_or None (stamps_of lines)) scenario.window.start
 
--- how far the window of lines reaches behind the last tick: a gap, and not at all where own ship is planned for, whose now that tick is
+-- how long the window of lines lasts after the last tick: a gap, or 0 if own ship is planned for, because that tick is her now
 abbrev pub reach_behind : Option OwnPart → ℕ → ℕ
 reach_behind None gap = gap
 reach_behind (Some own) gap = 0
 
--- The window of lines reaches so far before the first tick and behind the last.
+-- The window of lines: from `before` seconds before the first tick to `behind` after the last.
 abbrev pub lies_in : Window → ℕ → ℕ → ℕ → Bool
 lies_in window before behind time = nat_le window.start (time + before) && nat_le time (window_end window + behind)
 
@@ -33,11 +33,11 @@ unfoldable pub greatest : List ℕ → Option ℕ
 greatest [] = None
 greatest (n ∷ ns) = Some (max n (unwrap_or (greatest ns) n))
 
--- The clock behind these lines: the greatest of their stamps that lies in the window of lines.
+-- The clock after these lines: the greatest of their stamps that is in the window of lines.
 unfoldable pub clock_of : Scenario → List (List ℕ) → Option ℕ
 clock_of scenario lines = greatest (filter (is_in_window scenario) (stamps_of lines))
 
--- A time is late where the clock is past it by more than the slack.
+-- A time is late if the clock is past it by more than the slack.
 abbrev pub is_late : ℕ → Option ℕ → ℕ → Bool
 is_late slack None time = false
 is_late slack (Some clock) time = nat_lt (time + slack) clock

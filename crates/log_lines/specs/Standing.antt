@@ -1,4 +1,4 @@
--- What a judge stands for: the lines of a log that it was given, and what each of them came to. What an open line and streamed lines
+-- What a judge stands for: the lines of a log that it was given, and the result of each. What an open line and streamed lines
 -- stand for: the bytes of a log so far.
 use Rattle.std.specs.Prelude.{ℕ, ◌≡◌, ◌≤◌, ◌<◌, ◌==◌, ◌^◌, Bool, false, count_by, length, slice_index, take, unwrap_or, List, MatchOption, Option, None}
 use Rattle.std.specs.List.{last_or}
@@ -25,20 +25,20 @@ use Rattle.tracks.specs.declared.keeping.Keeping.{Keeping}
 abbrev pub keeping_of : Judge → Keeping
 keeping_of judge = judge.book.keeping
 
--- whether a line came to the outcome at this index
+-- whether a line has the outcome at this index
 abbrev pub is_at_place : ℕ → Judged → Bool
 is_at_place place line = outcome_index (outcome_of line) == place
 
--- At each index stands how many lines came to the outcome there.
+-- The count at each index is the number of lines with the outcome at that index.
 pub record AreCounts (counts : List ℕ) (lines : List Judged) : Type 0 where
   pub many : length counts ≡ 21
   pub each : (place : ℕ) → place < 21 → slice_index counts place ≡ count_by (is_at_place place) lines
 
--- what the last of the lines tells of a vessel's static data
+-- what the last of the lines reports of a vessel's static data
 abbrev pub last_told : Scenario → List (List ℕ) → Option ToldStatic
 last_told scenario lines = unwrap_or (last_or None (each_line (told_of scenario) lines)) None
 
--- The judge stands for these lines, which are no more than it can count, and make no more vessels held than it can hold.
+-- The judge stands for these lines. They are no more than it can count, and no more vessels are held than it can hold.
 pub record StandsFor (judge : Judge) (scenario : Scenario) (lines : List (List ℕ)) : Type 0 where
   pub countable : length lines < 2 ^ 64
   pub times : KeepsTimes judge.times scenario lines
@@ -50,7 +50,7 @@ pub record StandsFor (judge : Judge) (scenario : Scenario) (lines : List (List �
   pub told : judge.told ≡ last_told scenario lines
   pub counts : AreCounts judge.counts (judged_lines scenario lines)
 
--- An open line stands for a log: of the part behind the last line feed its first bytes are kept, two more than a line may have.
+-- An open line stands for a log: it stores the first bytes after the last line feed, at most two more than a line may have.
 abbrev pub OpenLineStandsFor : OpenLine → List ℕ → Type 0
 OpenLineStandsFor line log = line.bytes.items ≡ take 1026 (open_part log)
 
@@ -62,7 +62,7 @@ IsKnownLine known line = MatchOption known (1024 < length line) (λ (bytes : Lis
 abbrev pub kept_of : StreamedLines → Keeping
 kept_of lines = keeping_of lines.judge
 
--- Streamed lines stand for the bytes of a log so far: its ended lines were judged, and the open one is kept.
+-- Streamed lines stand for the bytes of a log so far: its ended lines were judged, and the open one is stored.
 pub record LinesStandFor (lines : StreamedLines) (scenario : Scenario) (log : List ℕ) : Type 0 where
   pub judge : StandsFor lines.judge scenario (ended_lines log)
   pub line : OpenLineStandsFor lines.line log

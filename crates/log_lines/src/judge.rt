@@ -47,8 +47,10 @@ fn position_report(message: &Message) -> Option<&PositionReport>
 #[inline(always)]
 fn report_of(room: &mut SentenceRoom, sentence: &Sentence<'_>) -> Option<PositionReport>
     requires { IsSentence (fields_seen sentence.now) }
-    ensures report { IfSome result (λ report. (sentence.now.total ≡ 1)
-        × (decoded_of (bits_of sentence.now.payload.now sentence.now.fill) ≡ decoded.Message (Position report))) }
+    ensures report { IfSome result
+        (λ report. (sentence.now.total ≡ 1)
+        × (decoded_of (bits_of sentence.now.payload.now sentence.now.fill)
+        ≡ decoded.Message (Position report))) }
     ensures ranges { IfSome result IsReport }
 {
     if sentence.total != 1 {
@@ -57,28 +59,29 @@ fn report_of(room: &mut SentenceRoom, sentence: &Sentence<'_>) -> Option<Positio
     position(&room.bits_of(sentence))
 }
 
-/// What a line comes to, where a report that is accepted lies with the judge. It is handed from call to call in place of the report.
+/// The result of a line, without an accepted report itself: the judge stores that. Calls pass this
+/// instead of the report.
 #[derive(Clone, Copy)]
 pub(crate) enum Came {
     /// Its report is accepted: it is the one that was accepted last.
     Accepted,
-    /// It has no report that is accepted.
+    /// It has no accepted report.
     Without(LineOutcome),
 }
 
-/// What is kept of the lines of a log so far: it stands for the list of them.
+/// What is stored of the lines of a log so far: it stands for the list of them.
 #[derive(Drop)]
 pub struct Judge {
     times: LineTimes,
     joiner: Joiner,
     book: Book,
-    /// What the last line tells of a vessel's static data.
+    /// What the last line reports of a vessel's static data.
     told: Option<ToldStatic>,
-    /// The ship types that vessels told, where ranks count.
+    /// The ship types that vessels reported, if ranks count.
     ranks: Option<Ranks>,
     /// The report that was accepted last.
     latest: Option<Accepted>,
-    /// How many lines came to each outcome, by its index.
+    /// How many lines have each outcome, by its index.
     counts: [u64; 21],
 }
 
@@ -88,8 +91,8 @@ impl Judge {
     ghost use Rattle.log_lines.specs.Standing.{AreCounts, StandsFor, keeping_of};
     ghost use Rattle.log_lines.specs.Inner.JudgeState.{Enters, GoesOn, Keeps, heard_by, held_with, judged_by};
 
-    /// A judge by the numbers of a scenario, to whom no line came yet, and whose book keeps so much of each vessel. This takes no
-    /// memory.
+    /// Returns a judge with the numbers of a scenario, before the first line. Its book keeps of
+    /// each vessel what `keeping` says. This takes no memory.
     pub fn new(alloc: Global, keeping: Keeping, scenario: &Scenario) -> Judge
         requires { IsInRange scenario.now }
         ensures keeping { keeping_of result ≡ keeping }
@@ -112,7 +115,7 @@ impl Judge {
         }
     }
 
-    /// How many lines came to each outcome, by its index in the order of the report.
+    /// Returns how many lines have each outcome, by its index in the order of the report.
     pub fn counts(&self) -> &[u64; 21]
         ensures { (scenario : Scenario) (lines : List (List ℕ)) → StandsFor self.now scenario lines
             → AreCounts result.now (judged_lines scenario lines) }
@@ -120,10 +123,11 @@ impl Judge {
         &self.counts
     }
 
-    /// The book of vessels, as the lines so far tell of them.
+    /// Returns the book of vessels, from the lines so far.
     pub fn book(&self) -> &Book
         ensures keeping { result.now.keeping ≡ keeping_of self.now }
-        ensures stands { (scenario : Scenario) (lines : List (List ℕ)) → StandsFor self.now scenario lines
+        ensures stands { (scenario : Scenario) (lines : List (List ℕ))
+            → StandsFor self.now scenario lines
             → BookStandsFor result.now (numbers_of scenario) (sent scenario lines) }
     {
         &self.book
@@ -131,31 +135,36 @@ impl Judge {
 
     /// Forgets where vessels were before a time, as [`Book::forget`] does.
     pub fn forget(&mut self, time: u64)
-        ensures stands { (scenario : Scenario) (lines : List (List ℕ)) → StandsFor self.old scenario lines → StandsFor self.new scenario lines }
+        ensures stands { (scenario : Scenario) (lines : List (List ℕ))
+            → StandsFor self.old scenario lines → StandsFor self.new scenario lines }
         ensures keeping { keeping_of self.new ≡ forgetting (keeping_of self.old) time }
     {
         self.book.forget(time);
     }
 
-    /// What the last line tells of a vessel's static data, if it completes a message with a static report.
+    /// Returns the static report of the message that the last line completes, if it has one.
     pub fn told(&self) -> Option<ToldStatic>
-        ensures line { (scenario : Scenario) (before : List (List ℕ)) (line : List ℕ) → StandsFor self.now scenario (before ++ line ∷ [])
+        ensures line { (scenario : Scenario) (before : List (List ℕ)) (line : List ℕ)
+            → StandsFor self.now scenario (before ++ line ∷ [])
             → result ≡ told_of scenario before line }
-        ensures reports { (scenario : Scenario) (before : List (List ℕ)) (line : List ℕ) → StandsFor self.now scenario (before ++ line ∷ [])
-            → static_reports scenario (before ++ line ∷ []) ≡ static_reports scenario before ++ option_to_list result }
+        ensures reports { (scenario : Scenario) (before : List (List ℕ)) (line : List ℕ)
+            → StandsFor self.now scenario (before ++ line ∷ [])
+            → static_reports scenario (before ++ line ∷ [])
+            ≡ static_reports scenario before ++ option_to_list result }
     {
         self.told
     }
 
-    /// The ship types that the lines so far tell, where ranks count.
+    /// Returns the ship types that the lines so far report, if ranks count.
     pub fn ranks(&self) -> Option<&Ranks>
         ensures { (scenario : Scenario) (lines : List (List ℕ)) → StandsFor self.now scenario lines
-            → AreNoted (counts_ranks (keeping_of self.now) scenario) (option_copied result) (sent scenario lines) }
+            → AreNoted (counts_ranks (keeping_of self.now) scenario) (option_copied result)
+            (sent scenario lines) }
     {
         self.ranks.as_ref()
     }
 
-    /// The clock behind the lines so far.
+    /// Returns the clock after the lines so far.
     pub fn clock(&self) -> Option<u64>
         ensures { (scenario : Scenario) (lines : List (List ℕ)) → StandsFor self.now scenario lines
             → result ≡ clock_of scenario lines }
@@ -163,7 +172,7 @@ impl Judge {
         self.times.clock()
     }
 
-    /// Counts one line more, as far as a count goes.
+    /// Counts one more line, up to the greatest count.
     fn count(&mut self, outcome: LineOutcome)
         ensures { self.new ≡ record self.old {
           counts = slice_set self.old.counts (outcome_index outcome)
@@ -174,11 +183,12 @@ impl Judge {
         self.counts[place] = self.counts[place].saturating_add(1);
     }
 
-    /// Enters what a message comes to, whose position report is this, from its entry in the book.
+    /// Enters the result of a message with this position report, from its entry in the book.
     #[inline(always)]
     fn enter(&mut self, report: Option<&PositionReport>, time: u64, entry: Entry) -> Came
         ensures came { (message : Message) → report_in message ≡ option_copied report.entry
-            → judged_by result self.new.latest ≡ judged_entry (record { message = message; time = time }) entry }
+            → judged_by result self.new.latest
+            ≡ judged_entry (record { message = message; time = time }) entry }
         ensures same { self.new ≡ record self.old { latest = self.new.latest } }
     {
         match (entry, report) {
@@ -195,7 +205,7 @@ impl Judge {
         }
     }
 
-    /// What the latest line comes to.
+    /// Returns the result of the latest line.
     #[inline(always)]
     fn judged(&self, came: Came) -> Judged
         ensures { result ≡ judged_by came self.now.latest }
@@ -207,16 +217,27 @@ impl Judge {
         }
     }
 
-    /// Judges a message, and keeps what it tells.
+    /// Judges a message, and stores what it reports.
     fn judge_message(&mut self, message: &Message, time: u64) -> Result<Came, BookFault>
         requires message { IsMessage message.now }
         requires untold { self.old.told ≡ None }
-        ensures judged { IfOk result (λ came. (numbers : JudgingNumbers) (ranked : Bool) (before : List Sent)
+        ensures judged { IfOk result
+            (λ came. (numbers : JudgingNumbers) (ranked : Bool) (before : List Sent)
             → Keeps self.old.book self.old.ranks numbers ranked before
-            → Enters numbers ranked self.new (judged_by came self.new.latest) before (Ok (record { message = message.now; time = time }))) }
-        ensures crowded { result ≡ Err TooManyVessels → (numbers : JudgingNumbers) (before : List Sent) → BookStandsFor self.old.book numbers before
-            → greatest_held < held_with numbers before (Ok (record { message = message.now; time = time })) }
-        ensures same { self.new ≡ record self.old { book = self.new.book; told = self.new.told; ranks = self.new.ranks; latest = self.new.latest } }
+            → Enters numbers ranked self.new (judged_by came self.new.latest) before
+            (Ok (record { message = message.now; time = time }))) }
+        ensures crowded { result ≡ Err TooManyVessels
+            → (numbers : JudgingNumbers) (before : List Sent)
+            → BookStandsFor self.old.book numbers before
+            → greatest_held < held_with numbers before
+            (Ok (record { message = message.now; time = time })) }
+        ensures same { self.new
+            ≡ record self.old {
+              book = self.new.book;
+              told = self.new.told;
+              ranks = self.new.ranks;
+              latest = self.new.latest;
+            } }
         ensures keeping { keeping_of self.new ≡ keeping_of self.old }
     {
         let entry = self.book.take(message, time)?;
@@ -229,12 +250,22 @@ impl Judge {
     fn judge_decoded(&mut self, decoded: &Decoded, time: u64) -> Result<Came, BookFault>
         requires message { IfMessage decoded.now IsMessage }
         requires untold { self.old.told ≡ None }
-        ensures judged { IfOk result (λ came. (numbers : JudgingNumbers) (ranked : Bool) (before : List Sent)
+        ensures judged { IfOk result
+            (λ came. (numbers : JudgingNumbers) (ranked : Bool) (before : List Sent)
             → Keeps self.old.book self.old.ranks numbers ranked before
-            → Enters numbers ranked self.new (judged_by came self.new.latest) before (sent_decoded time decoded.now)) }
-        ensures crowded { result ≡ Err TooManyVessels → (numbers : JudgingNumbers) (before : List Sent) → BookStandsFor self.old.book numbers before
+            → Enters numbers ranked self.new (judged_by came self.new.latest) before
+            (sent_decoded time decoded.now)) }
+        ensures crowded { result ≡ Err TooManyVessels
+            → (numbers : JudgingNumbers) (before : List Sent)
+            → BookStandsFor self.old.book numbers before
             → greatest_held < held_with numbers before (sent_decoded time decoded.now) }
-        ensures same { self.new ≡ record self.old { book = self.new.book; told = self.new.told; ranks = self.new.ranks; latest = self.new.latest } }
+        ensures same { self.new
+            ≡ record self.old {
+              book = self.new.book;
+              told = self.new.told;
+              ranks = self.new.ranks;
+              latest = self.new.latest;
+            } }
         ensures keeping { keeping_of self.new ≡ keeping_of self.old }
     {
         match decoded {
@@ -248,12 +279,23 @@ impl Judge {
     fn judge_report(&mut self, report: &PositionReport, time: u64) -> Result<Came, BookFault>
         requires report { IsReport report.now }
         requires untold { self.old.told ≡ None }
-        ensures judged { IfOk result (λ came. (numbers : JudgingNumbers) (ranked : Bool) (before : List Sent)
+        ensures judged { IfOk result
+            (λ came. (numbers : JudgingNumbers) (ranked : Bool) (before : List Sent)
             → Keeps self.old.book self.old.ranks numbers ranked before
-            → Enters numbers ranked self.new (judged_by came self.new.latest) before (Ok (record { message = Position report.now; time = time }))) }
-        ensures crowded { result ≡ Err TooManyVessels → (numbers : JudgingNumbers) (before : List Sent) → BookStandsFor self.old.book numbers before
-            → greatest_held < held_with numbers before (Ok (record { message = Position report.now; time = time })) }
-        ensures same { self.new ≡ record self.old { book = self.new.book; told = self.new.told; ranks = self.new.ranks; latest = self.new.latest } }
+            → Enters numbers ranked self.new (judged_by came self.new.latest) before
+            (Ok (record { message = Position report.now; time = time }))) }
+        ensures crowded { result ≡ Err TooManyVessels
+            → (numbers : JudgingNumbers) (before : List Sent)
+            → BookStandsFor self.old.book numbers before
+            → greatest_held < held_with numbers before
+            (Ok (record { message = Position report.now; time = time })) }
+        ensures same { self.new
+            ≡ record self.old {
+              book = self.new.book;
+              told = self.new.told;
+              ranks = self.new.ranks;
+              latest = self.new.latest;
+            } }
         ensures keeping { keeping_of self.new ≡ keeping_of self.old }
     {
         let entry = self.book.take_report(report, time)?;
@@ -270,13 +312,26 @@ impl Judge {
     ) -> Result<Came, BookFault>
         requires sentence { IsSentence (fields_seen sentence) }
         requires untold { self.old.told ≡ None }
-        ensures judged { IfOk result (λ came. (numbers : JudgingNumbers) (ranked : Bool) (taken : List Taken) (messages : List Sent)
-            → JoinerStandsFor self.old.joiner taken → Keeps self.old.book self.old.ranks numbers ranked messages
-            → GoesOn numbers ranked self.new (judged_by came self.new.latest) taken messages (Ok (record { sentence = fields_seen sentence.entry; time = time }))) }
-        ensures crowded { result ≡ Err TooManyVessels → (numbers : JudgingNumbers) (taken : List Taken) (messages : List Sent)
+        ensures judged { IfOk result
+            (λ came. (numbers : JudgingNumbers) (ranked : Bool) (taken : List Taken)
+            (messages : List Sent) → JoinerStandsFor self.old.joiner taken
+            → Keeps self.old.book self.old.ranks numbers ranked messages
+            → GoesOn numbers ranked self.new (judged_by came self.new.latest) taken messages
+            (Ok (record { sentence = fields_seen sentence.entry; time = time }))) }
+        ensures crowded { result ≡ Err TooManyVessels
+            → (numbers : JudgingNumbers) (taken : List Taken) (messages : List Sent)
             → JoinerStandsFor self.old.joiner taken → BookStandsFor self.old.book numbers messages
-            → greatest_held < held_with numbers messages (sent_heard taken (Ok (record { sentence = fields_seen sentence.entry; time = time }))) }
-        ensures same { self.new ≡ record self.old { joiner = self.new.joiner; book = self.new.book; told = self.new.told; ranks = self.new.ranks; latest = self.new.latest } }
+            → greatest_held < held_with numbers messages
+            (sent_heard taken
+            (Ok (record { sentence = fields_seen sentence.entry; time = time }))) }
+        ensures same { self.new
+            ≡ record self.old {
+              joiner = self.new.joiner;
+              book = self.new.book;
+              told = self.new.told;
+              ranks = self.new.ranks;
+              latest = self.new.latest;
+            } }
         ensures keeping { keeping_of self.new ≡ keeping_of self.old }
     {
         match report_of(room, &sentence) {
@@ -290,13 +345,25 @@ impl Judge {
     fn judge_part(&mut self, sentence: &Sentence<'_>, time: u64) -> Result<Came, BookFault>
         requires sentence { IsSentence (fields_seen sentence.now) }
         requires untold { self.old.told ≡ None }
-        ensures judged { IfOk result (λ came. (numbers : JudgingNumbers) (ranked : Bool) (taken : List Taken) (messages : List Sent)
-            → JoinerStandsFor self.old.joiner taken → Keeps self.old.book self.old.ranks numbers ranked messages
-            → GoesOn numbers ranked self.new (judged_by came self.new.latest) taken messages (Ok (record { sentence = fields_seen sentence.now; time = time }))) }
-        ensures crowded { result ≡ Err TooManyVessels → (numbers : JudgingNumbers) (taken : List Taken) (messages : List Sent)
+        ensures judged { IfOk result
+            (λ came. (numbers : JudgingNumbers) (ranked : Bool) (taken : List Taken)
+            (messages : List Sent) → JoinerStandsFor self.old.joiner taken
+            → Keeps self.old.book self.old.ranks numbers ranked messages
+            → GoesOn numbers ranked self.new (judged_by came self.new.latest) taken messages
+            (Ok (record { sentence = fields_seen sentence.now; time = time }))) }
+        ensures crowded { result ≡ Err TooManyVessels
+            → (numbers : JudgingNumbers) (taken : List Taken) (messages : List Sent)
             → JoinerStandsFor self.old.joiner taken → BookStandsFor self.old.book numbers messages
-            → greatest_held < held_with numbers messages (sent_heard taken (Ok (record { sentence = fields_seen sentence.now; time = time }))) }
-        ensures same { self.new ≡ record self.old { joiner = self.new.joiner; book = self.new.book; told = self.new.told; ranks = self.new.ranks; latest = self.new.latest } }
+            → greatest_held < held_with numbers messages
+            (sent_heard taken (Ok (record { sentence = fields_seen sentence.now; time = time }))) }
+        ensures same { self.new
+            ≡ record self.old {
+              joiner = self.new.joiner;
+              book = self.new.book;
+              told = self.new.told;
+              ranks = self.new.ranks;
+              latest = self.new.latest;
+            } }
         ensures keeping { keeping_of self.new ≡ keeping_of self.old }
     {
         match self.joiner.take(sentence, time)? {
@@ -316,13 +383,25 @@ impl Judge {
     ) -> Result<Came, BookFault>
         requires sentence { IfSentence body (λ s. IsSentence (fields_seen s)) }
         requires untold { self.old.told ≡ None }
-        ensures judged { IfOk result (λ came. (numbers : JudgingNumbers) (ranked : Bool) (taken : List Taken) (messages : List Sent)
-            → JoinerStandsFor self.old.joiner taken → Keeps self.old.book self.old.ranks numbers ranked messages
-            → GoesOn numbers ranked self.new (judged_by came self.new.latest) taken messages (heard_by self.old.times time (body_seen body.entry))) }
-        ensures crowded { result ≡ Err TooManyVessels → (numbers : JudgingNumbers) (taken : List Taken) (messages : List Sent)
+        ensures judged { IfOk result
+            (λ came. (numbers : JudgingNumbers) (ranked : Bool) (taken : List Taken)
+            (messages : List Sent) → JoinerStandsFor self.old.joiner taken
+            → Keeps self.old.book self.old.ranks numbers ranked messages
+            → GoesOn numbers ranked self.new (judged_by came self.new.latest) taken messages
+            (heard_by self.old.times time (body_seen body.entry))) }
+        ensures crowded { result ≡ Err TooManyVessels
+            → (numbers : JudgingNumbers) (taken : List Taken) (messages : List Sent)
             → JoinerStandsFor self.old.joiner taken → BookStandsFor self.old.book numbers messages
-            → greatest_held < held_with numbers messages (sent_heard taken (heard_by self.old.times time (body_seen body.entry))) }
-        ensures same { self.new ≡ record self.old { joiner = self.new.joiner; book = self.new.book; told = self.new.told; ranks = self.new.ranks; latest = self.new.latest } }
+            → greatest_held < held_with numbers messages
+            (sent_heard taken (heard_by self.old.times time (body_seen body.entry))) }
+        ensures same { self.new
+            ≡ record self.old {
+              joiner = self.new.joiner;
+              book = self.new.book;
+              told = self.new.told;
+              ranks = self.new.ranks;
+              latest = self.new.latest;
+            } }
         ensures keeping { keeping_of self.new ≡ keeping_of self.old }
     {
         match body {
@@ -334,16 +413,20 @@ impl Judge {
         }
     }
 
-    /// Takes the next line, and gives what it comes to. Where it makes a 4097th vessel held, or memory runs out, the judge may
-    /// only be dropped.
+    /// Takes the next line and returns its result. If it adds a 4097th vessel, or memory runs out,
+    /// the judge may only be dropped.
     #[inline(always)]
     pub fn take(&mut self, room: &mut SentenceRoom, line: &[u8]) -> Result<Judged, BookFault>
-        ensures judged { IfOk result (λ judged. (scenario : Scenario) (before : List (List ℕ)) → StandsFor self.old scenario before
-            → judged ≡ judged_line scenario before line.now) }
-        ensures stands { OnOk result ((scenario : Scenario) (before : List (List ℕ)) → length before + 1 < 2 ^ 64
-            → StandsFor self.old scenario before → StandsFor self.new scenario (before ++ line.now ∷ [])) }
+        ensures judged { IfOk result
+            (λ judged. (scenario : Scenario) (before : List (List ℕ))
+            → StandsFor self.old scenario before → judged ≡ judged_line scenario before line.now) }
+        ensures stands { OnOk result
+            ((scenario : Scenario) (before : List (List ℕ)) → length before + 1 < 2 ^ 64
+            → StandsFor self.old scenario before
+            → StandsFor self.new scenario (before ++ line.now ∷ [])) }
         ensures keeping { keeping_of self.new ≡ keeping_of self.old }
-        ensures crowded { result ≡ Err TooManyVessels → (scenario : Scenario) (before : List (List ℕ)) → StandsFor self.old scenario before
+        ensures crowded { result ≡ Err TooManyVessels
+            → (scenario : Scenario) (before : List (List ℕ)) → StandsFor self.old scenario before
             → greatest_held < held_behind scenario before line.now }
     {
         let reading = read_line(line);
@@ -356,13 +439,15 @@ impl Judge {
         Ok(judged)
     }
 
-    /// Takes the next line, of which it is only known that it is longer than a line may be, and gives what it comes to: such a line
-    /// is read no further, and has no stamp.
+    /// Takes the next line, known only to be longer than a line may be, and returns its result.
+    /// Such a line is not read any further and has no stamp.
     pub fn take_long(&mut self) -> Judged
-        ensures judged { (scenario : Scenario) (before : List (List ℕ)) (line : List ℕ) → 1024 < length line
-            → StandsFor self.old scenario before → result ≡ judged_line scenario before line }
-        ensures stands { (scenario : Scenario) (before : List (List ℕ)) (line : List ℕ) → 1024 < length line → length before + 1 < 2 ^ 64
-            → StandsFor self.old scenario before → StandsFor self.new scenario (before ++ line ∷ []) }
+        ensures judged { (scenario : Scenario) (before : List (List ℕ)) (line : List ℕ)
+            → 1024 < length line → StandsFor self.old scenario before
+            → result ≡ judged_line scenario before line }
+        ensures stands { (scenario : Scenario) (before : List (List ℕ)) (line : List ℕ)
+            → 1024 < length line → length before + 1 < 2 ^ 64 → StandsFor self.old scenario before
+            → StandsFor self.new scenario (before ++ line ∷ []) }
         ensures keeping { keeping_of self.new ≡ keeping_of self.old }
     {
         self.told = None;

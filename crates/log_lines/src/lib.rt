@@ -1,16 +1,20 @@
-//! The lines of a log, and what each of them comes to.
+//! The lines of a log, and the outcome of each of them.
 //!
-//! A log is cut into lines, and each line comes to exactly one outcome: it is dropped for a cause, it is a part of a message, or its
-//! message is judged by the messages before it. The judge takes the lines one after the other and keeps what was heard: the times,
-//! the open messages, the book of vessels, and where ranks count the ship types that vessels told.
+//! A log is split into lines, and each line has exactly one outcome: it is dropped for a cause, it
+//! is a part of a message, or its message is judged by the messages before it. The judge takes the
+//! lines one after the other and stores what was heard: the times, the open messages, the book of
+//! vessels and, if ranks count, the ship types that vessels reported.
 //!
-//! A log comes in pieces, and a line in any number of them. `StreamedLines` gives the judge each line as its line feed comes, and tells
-//! whether one is left open, which at the log's end a line feed may end all the same. `OpenLine` keeps what stands behind the last line feed,
-//! and of a line that is too long no more than tells so: its room is the same whatever the log holds.
+//! A log arrives in chunks, and a line may span any number of them. `StreamedLines` passes each
+//! line to the judge when its line feed arrives, and reports whether a line is still open. At the
+//! end of the log, the caller may end that line as if by a line feed. `OpenLine` stores the bytes
+//! after the last line feed, at most enough of them to know that the line is too long, so its
+//! memory is bounded whatever the log holds.
 //!
-//! Of a line `x` and the two sentences of a message in two parts, the first line is dropped as `other`, the second is a `part`, and the third
-//! comes to the message: `static` where that tells of a ship. The same two sentences in the other order are an `orphan` and a `part`.
-//! What is made of the reports has no place here: ticks, pairs and rows stand above.
+//! Given a line `x` and then the two sentences of a message in two parts, the first line is dropped
+//! as `other`, the second is a `part`, and the third has the outcome of the message: `static` if it
+//! reports a ship's static data. The same two sentences in the other order are an `orphan` and a
+//! `part`. Ticks, pairs and rows are out of scope: the crates above make them from the reports.
 #![tactic(auto)]
 
 mod judge;

@@ -5,7 +5,8 @@ ghost use Rattle.log_lines.specs.LineTimes.{is_late, reach_behind};
 use crate::outcome::LineOutcome;
 use scenario_values::{Scenario, Window};
 
-/// How far the window of lines reaches behind the last tick, in seconds: a gap, and not at all where own ship is planned for.
+/// Returns how many seconds the window of lines lasts after the last tick: a gap, or 0 if own ship
+/// is planned for.
 fn reach_behind(scenario: &Scenario) -> u32
     ensures { result ≡ reach_behind scenario.now.own scenario.now.log.gap }
 {
@@ -27,9 +28,11 @@ impl LineWindow {
     ghost use Rattle.log_lines.specs.LineTimes.{is_in_window};
     ghost use Rattle.log_lines.specs.Inner.Times.{is_between};
 
-    /// The window of lines begins a gap before the first tick, and ends as far behind the last as `reach_behind` says.
+    /// Returns the window of lines: from a gap before the first tick to `reach_behind` after the
+    /// last.
     fn of(scenario: &Scenario) -> LineWindow
-        ensures { (time : ℕ) → time < 2 ^ 64 → is_between result time ≡ is_in_window scenario.now time }
+        ensures { (time : ℕ) → time < 2 ^ 64
+            → is_between result time ≡ is_in_window scenario.now time }
     {
         let Window { start, tick, ticks } = scenario.window;
         let length = u64::from(ticks) * u64::from(tick);
@@ -59,7 +62,7 @@ fn is_late(slack: u32, clock: Option<u64>, time: u64) -> bool
     }
 }
 
-/// The nearest stamp and the clock, behind the lines so far.
+/// The nearest stamp and the clock, after the lines so far.
 #[derive(Clone, Copy, PartialEq, Eq)]
 pub(crate) struct LineTimes {
     window: LineWindow,
@@ -90,7 +93,7 @@ impl LineTimes {
         }
     }
 
-    /// The time of the next line, in seconds: its stamp, else the nearest stamp, else the window's start.
+    /// Returns the time of the next line in seconds: its stamp, or the nearest one, or the start.
     pub(crate) fn time(&self, stamp: Option<u64>) -> u64
         ensures { result ≡ unwrap_or (nearest_of stamp self.now.nearest) self.now.start }
     {
@@ -121,7 +124,7 @@ impl LineTimes {
         self.clock
     }
 
-    /// The clock behind a stamp.
+    /// Returns the clock after a stamp.
     fn clock_behind(&self, stamp: u64) -> Option<u64>
         ensures { result ≡ clock_behind (is_between self.now.window stamp) self.now.clock stamp }
     {

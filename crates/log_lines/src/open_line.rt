@@ -1,4 +1,4 @@
-//! What stands behind the last line feed of a log.
+//! The bytes after the last line feed of a log.
 ghost use Rattle.std.specs.Prelude.{◌≡◌, ◌==◌, ◌++◌, ◌∷◌, [], ℕ, List, OnOk, false, length};
 ghost use Rattle.std.specs.List.{All};
 ghost use Rattle.std.specs.Option.{option_copied};
@@ -11,7 +11,8 @@ use crate::line_feeds::strip_carriage_return;
 use out_of_memory::Memory;
 use std::alloc::Global;
 
-/// How many bytes of an open line are kept: two more than a line may have, one of which may be a carriage return.
+/// The most bytes of an open line that are stored: two more than a line may have, because one may
+/// be a carriage return.
 const KEPT: usize = 1026;
 
 /// The line that no line feed has ended yet.
@@ -32,15 +33,18 @@ impl OpenLine {
 
     /// Whether it has no byte.
     pub fn is_empty(&self) -> bool
-        ensures { (log : List ℕ) → OpenLineStandsFor self.now log → result ≡ (length (open_part log) == 0) }
+        ensures { (log : List ℕ) → OpenLineStandsFor self.now log
+            → result ≡ (length (open_part log) == 0) }
     {
         self.bytes.is_empty()
     }
 
-    /// Goes on with bytes among which there is no line feed.
+    /// Appends bytes that contain no line feed.
     pub fn extend(&mut self, part: &[u8]) -> Result<(), Memory>
         requires { All (λ byte. is_line_feed byte ≡ false) part.now }
-        ensures { OnOk result ((log : List ℕ) → OpenLineStandsFor self.old log → OpenLineStandsFor self.new (log ++ part.now)) }
+        ensures { OnOk result
+            ((log : List ℕ) → OpenLineStandsFor self.old log
+            → OpenLineStandsFor self.new (log ++ part.now)) }
     {
         let room = KEPT.saturating_sub(self.bytes.len());
         let count = part.len().min(room);
@@ -48,10 +52,11 @@ impl OpenLine {
         Ok(())
     }
 
-    /// The open line, without a carriage return at its end. `None` where it has more than 1024 bytes, though not each longer line
-    /// is told so.
+    /// Returns the open line without a carriage return at its end, or `None` if it is too long:
+    /// more than 1024 bytes. A line of 1025 bytes may still be returned.
     pub fn line(&self) -> Option<&[u8]>
-        ensures { (log : List ℕ) → OpenLineStandsFor self.now log → IsKnownLine (option_copied result) (without_carriage_return (open_part log)) }
+        ensures { (log : List ℕ) → OpenLineStandsFor self.now log
+            → IsKnownLine (option_copied result) (without_carriage_return (open_part log)) }
     {
         if self.bytes.len() >= KEPT {
             return None;
@@ -59,10 +64,12 @@ impl OpenLine {
         Some(strip_carriage_return(self.bytes.as_slice()))
     }
 
-    /// Goes on with the bytes before the line feed that ends it, where it has a byte. Where it has none, none is kept: they are the line.
+    /// Appends the bytes before the line feed that ends the line. If the line is empty so far,
+    /// stores none of them: they are the whole line.
     pub(crate) fn extend_open(&mut self, part: &[u8]) -> Result<(), Memory>
         requires { All (λ byte. is_line_feed byte ≡ false) part.now }
-        ensures { OnOk result ((log : List ℕ) → OpenLineStandsFor self.old log → HasExtended self.new log part.now) }
+        ensures { OnOk result
+            ((log : List ℕ) → OpenLineStandsFor self.old log → HasExtended self.new log part.now) }
     {
         if self.is_empty() {
             return Ok(());
@@ -70,9 +77,12 @@ impl OpenLine {
         self.extend(part)
     }
 
-    /// The line that a line feed ends behind this part, where the line has gone on with it: the open line, or else the part in its place.
+    /// Returns the line that a line feed after this part ends, once `extend_open` was called with
+    /// the part: the open line or, if that is empty, the part.
     pub(crate) fn ended_by<'line>(&'line self, part: &'line [u8]) -> Option<&'line [u8]>
-        ensures { (log : List ℕ) → HasExtended self.now log part.now → IsKnownLine (option_copied result) (without_carriage_return (open_part log ++ part.now)) }
+        ensures { (log : List ℕ) → HasExtended self.now log part.now
+            → IsKnownLine (option_copied result)
+            (without_carriage_return (open_part log ++ part.now)) }
     {
         if self.is_empty() {
             Some(strip_carriage_return(part))
@@ -81,9 +91,10 @@ impl OpenLine {
         }
     }
 
-    /// Ends it by a line feed: a new one begins.
+    /// Ends the line with a line feed: a new one begins.
     pub fn end(&mut self)
-        ensures { (log : List ℕ) → OpenLineStandsFor self.old log → OpenLineStandsFor self.new (log ++ 10 ∷ []) }
+        ensures { (log : List ℕ) → OpenLineStandsFor self.old log
+            → OpenLineStandsFor self.new (log ++ 10 ∷ []) }
     {
         self.bytes.clear();
     }

@@ -43,11 +43,11 @@ pub enum LineOutcome {
     Far,
     /// The report is not after the vessel's latest accepted one.
     Back,
-    /// The report says again what the latest accepted one says.
+    /// The report repeats the latest accepted one.
     Repeat,
     /// The vessel cannot have come that far.
     Jump,
-    /// The message tells of the vessel and not of her place.
+    /// The message reports the vessel but not her place.
     Static,
     /// The report is accepted.
     Point,

@@ -1,4 +1,4 @@
-//! The ship types that vessels tell, noted where ranks count.
+//! The ship types that vessels report, noted if ranks count.
 ghost use Rattle.std.specs.Prelude.{◌≡◌, ◌++◌, ◌∷◌, [], Bool, List, OnOk};
 ghost use Rattle.log_lines.specs.ShipTypes.{AreNoted, counts_ranks};
 ghost use Rattle.log_lines.specs.StaticReports.{static_told};
@@ -11,14 +11,14 @@ use scenario_values::Scenario;
 use std::alloc::Global;
 use tracks::Keeping;
 
-/// Whether ranks count.
+/// Returns whether ranks count.
 fn counts_ranks(keeping: Keeping, scenario: &Scenario) -> bool
     ensures { result ≡ counts_ranks keeping scenario.now }
 {
     keeping != Keeping::Latest && scenario.ranks
 }
 
-/// What is kept before the first message. This takes no memory.
+/// Returns what is stored before the first message. This takes no memory.
 pub(crate) fn no_ship_types(alloc: Global, keeping: Keeping, scenario: &Scenario) -> Option<Ranks>
     ensures { AreNoted (counts_ranks keeping scenario.now) result [] }
 {
@@ -29,9 +29,10 @@ pub(crate) fn no_ship_types(alloc: Global, keeping: Keeping, scenario: &Scenario
     }
 }
 
-/// Takes what the next message tells of its sender's static data.
+/// Takes what the next message reports of its sender's static data.
 pub(crate) fn note(ranks: &mut Option<Ranks>, told: Option<ToldStatic>) -> Result<(), Memory>
-    ensures { OnOk result ((ranked : Bool) (messages : List Sent) (one : Sent) → told ≡ static_told one
+    ensures { OnOk result
+        ((ranked : Bool) (messages : List Sent) (one : Sent) → told ≡ static_told one
         → AreNoted ranked ranks.old messages → AreNoted ranked ranks.new (messages ++ one ∷ [])) }
 {
     let Some(ranks) = ranks else {

@@ -20,19 +20,26 @@ use scenario_values::Scenario;
 use std::alloc::Global;
 use tracks::{BookFault, Keeping};
 
-/// Judges a line, or one of which it is only known that it is longer than a line may be.
+/// Judges a line. `None` is a line of more than 1024 bytes.
 fn judge_line(
     judge: &mut Judge,
     room: &mut SentenceRoom,
     line: Option<&[u8]>,
 ) -> Result<Judged, BookFault>
-    ensures judged { IfOk result (λ judged. (scenario : Scenario) (before : List (List ℕ)) (known : List ℕ) → JudgeStandsFor judge.old scenario before
-        → IsKnownLine (option_copied line.entry) known → judged ≡ judged_line scenario before known) }
-    ensures stands { OnOk result ((scenario : Scenario) (before : List (List ℕ)) (known : List ℕ) → length before + 1 < 2 ^ 64
-        → JudgeStandsFor judge.old scenario before → IsKnownLine (option_copied line.entry) known → JudgeStandsFor judge.new scenario (before ++ known ∷ [])) }
+    ensures judged { IfOk result
+        (λ judged. (scenario : Scenario) (before : List (List ℕ)) (known : List ℕ)
+        → JudgeStandsFor judge.old scenario before → IsKnownLine (option_copied line.entry) known
+        → judged ≡ judged_line scenario before known) }
+    ensures stands { OnOk result
+        ((scenario : Scenario) (before : List (List ℕ)) (known : List ℕ)
+        → length before + 1 < 2 ^ 64 → JudgeStandsFor judge.old scenario before
+        → IsKnownLine (option_copied line.entry) known
+        → JudgeStandsFor judge.new scenario (before ++ known ∷ [])) }
     ensures keeping { keeping_of judge.new ≡ keeping_of judge.old }
-    ensures crowded { result ≡ Err TooManyVessels → (scenario : Scenario) (before : List (List ℕ)) (known : List ℕ) → JudgeStandsFor judge.old scenario before
-        → IsKnownLine (option_copied line.entry) known → greatest_held < held_behind scenario before known }
+    ensures crowded { result ≡ Err TooManyVessels
+        → (scenario : Scenario) (before : List (List ℕ)) (known : List ℕ)
+        → JudgeStandsFor judge.old scenario before → IsKnownLine (option_copied line.entry) known
+        → greatest_held < held_behind scenario before known }
 {
     match line {
         Some(line) => judge.take(room, line),
@@ -40,7 +47,7 @@ fn judge_line(
     }
 }
 
-/// The lines of a log that comes in pieces, each judged as it ends.
+/// The lines of a log that arrives in chunks, each judged as it ends.
 #[derive(Drop)]
 pub struct StreamedLines {
     judge: Judge,
@@ -49,7 +56,7 @@ pub struct StreamedLines {
 }
 
 impl StreamedLines {
-    /// No byte came yet. This takes no memory.
+    /// Returns the state before the first byte. This takes no memory.
     pub fn new(alloc: Global, keeping: Keeping, scenario: &Scenario) -> StreamedLines
         requires { IsInRange scenario.now }
         ensures keeping { kept_of result ≡ keeping }
@@ -62,41 +69,51 @@ impl StreamedLines {
         }
     }
 
-    /// The judge of the lines that are ended.
+    /// Returns the judge of the ended lines.
     pub fn judge(&self) -> &Judge
         ensures keeping { keeping_of result.now ≡ kept_of self.now }
-        ensures stands { (scenario : Scenario) (log : List ℕ) → LinesStandFor self.now scenario log → JudgeStandsFor result.now scenario (ended_lines log) }
+        ensures stands { (scenario : Scenario) (log : List ℕ) → LinesStandFor self.now scenario log
+            → JudgeStandsFor result.now scenario (ended_lines log) }
     {
         &self.judge
     }
 
     /// Forgets where vessels were before a time, as [`Judge::forget`] does.
     pub fn forget(&mut self, time: u64)
-        ensures stands { (scenario : Scenario) (log : List ℕ) → LinesStandFor self.old scenario log → LinesStandFor self.new scenario log }
+        ensures stands { (scenario : Scenario) (log : List ℕ) → LinesStandFor self.old scenario log
+            → LinesStandFor self.new scenario log }
         ensures keeping { kept_of self.new ≡ forgetting (kept_of self.old) time }
     {
         self.judge.forget(time);
     }
 
-    /// Takes bytes of a log among which there is no line feed. After an `Err` the lines may only be dropped.
+    /// Takes bytes of a log that contain no line feed. After an `Err` the lines may only be
+    /// dropped.
     pub fn extend(&mut self, part: &[u8]) -> Result<(), Memory>
         requires { All (λ byte. is_line_feed byte ≡ false) part.now }
-        ensures stands { OnOk result ((scenario : Scenario) (log : List ℕ) → LinesStandFor self.old scenario log → LinesStandFor self.new scenario (log ++ part.now)) }
+        ensures stands { OnOk result
+            ((scenario : Scenario) (log : List ℕ) → LinesStandFor self.old scenario log
+            → LinesStandFor self.new scenario (log ++ part.now)) }
         ensures keeping { kept_of self.new ≡ kept_of self.old }
     {
         self.line.extend(part)
     }
 
-    /// Takes bytes of a log among which there is no line feed, and the line feed behind them, and gives what the line came to that it ends.
-    /// After an `Err` the lines may only be dropped.
+    /// Takes bytes of a log that contain no line feed, and the line feed after them. Returns the
+    /// result of the line that it ends. After an `Err` the lines may only be dropped.
     pub fn end_line(&mut self, part: &[u8]) -> Result<Judged, BookFault>
         requires { All (λ byte. is_line_feed byte ≡ false) part.now }
-        ensures judged { IfOk result (λ judged. (scenario : Scenario) (log : List ℕ) → LinesStandFor self.old scenario log
-            → judged_lines scenario (ended_lines (log ++ (part.now ++ 10 ∷ []))) ≡ judged_lines scenario (ended_lines log) ++ judged ∷ []) }
-        ensures stands { OnOk result ((scenario : Scenario) (log : List ℕ) → length (ended_lines log) + 1 < 2 ^ 64 → LinesStandFor self.old scenario log
+        ensures judged { IfOk result
+            (λ judged. (scenario : Scenario) (log : List ℕ) → LinesStandFor self.old scenario log
+            → judged_lines scenario (ended_lines (log ++ (part.now ++ 10 ∷ [])))
+            ≡ judged_lines scenario (ended_lines log) ++ judged ∷ []) }
+        ensures stands { OnOk result
+            ((scenario : Scenario) (log : List ℕ) → length (ended_lines log) + 1 < 2 ^ 64
+            → LinesStandFor self.old scenario log
             → LinesStandFor self.new scenario (log ++ (part.now ++ 10 ∷ []))) }
         ensures keeping { kept_of self.new ≡ kept_of self.old }
-        ensures crowded { result ≡ Err TooManyVessels → (scenario : Scenario) (log : List ℕ) → LinesStandFor self.old scenario log
+        ensures crowded { result ≡ Err TooManyVessels → (scenario : Scenario) (log : List ℕ)
+            → LinesStandFor self.old scenario log
             → IsTrue (is_crowded scenario (ended_lines (log ++ (part.now ++ 10 ∷ [])))) }
     {
         self.line.extend_open(part)?;
@@ -106,7 +123,8 @@ impl StreamedLines {
         Ok(judged)
     }
 
-    /// Whether a line is open: bytes came behind the last line feed. At a log's end one is a line all the same, as if a line feed ended it.
+    /// Returns whether a line is open: there are bytes after the last line feed. At the end of a
+    /// log, an open line counts as a line, as if a line feed ended it.
     pub fn is_open(&self) -> bool
         ensures { (scenario : Scenario) (log : List ℕ) → LinesStandFor self.now scenario log
             → lines_of log ≡ (if result then ended_lines (log ++ 10 ∷ []) else ended_lines log) }

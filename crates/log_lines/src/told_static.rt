@@ -1,21 +1,22 @@
-//! What a line tells of a vessel's static data.
+//! What a line reports of a vessel's static data.
 ghost use Rattle.std.specs.Prelude.{◌≡◌};
 ghost use Rattle.log_lines.specs.StaticReports.{static_told, type_told};
 
 use ais_messages::{Message, ShipData, StaticReport};
 
-/// What a static report tells: of whom, when, and which type of ship.
+/// What a static report says: which vessel, when, and which type of ship.
 #[derive(Clone, Copy, Debug, PartialEq, Eq)]
 pub struct ToldStatic {
     /// The vessel's identity.
     pub mmsi: u32,
     /// The time of the line that completes the report, in seconds since 1970.
     pub time: u64,
-    /// The type of ship and cargo, 0 to 255 (ITU-R M.1371-5, annex 8, table 53), where the report has it.
+    /// The type of ship and cargo, 0 to 255 (ITU-R M.1371-5, annex 8, table 53), if the report has
+    /// it.
     pub kind: Option<u8>,
 }
 
-/// The type of ship and cargo that is told, if one is.
+/// Returns the type of ship and cargo, if it is reported.
 fn type_told(ship: Option<ShipData>) -> Option<u8>
     ensures { result ≡ type_told ship }
 {
@@ -25,7 +26,8 @@ fn type_told(ship: Option<ShipData>) -> Option<u8>
     }
 }
 
-/// What a message that came at this time tells of its sender's static data, if it has a static report.
+/// Returns what a message of this time reports of its sender's static data, if it has a static
+/// report.
 pub(crate) fn static_told(message: &Message, time: u64) -> Option<ToldStatic>
     ensures { result ≡ static_told (record { message = message.now; time = time }) }
 {

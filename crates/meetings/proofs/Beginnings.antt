@@ -22,7 +22,7 @@ pub begun_by : (i : ℕ) (state : EngagementState) → beginning_at i state ≤ 
 begun_by i Apart = omega arith
 begun_by i (Engaged kind age a b) = omega arith
 
--- ---- where they are engaged there are steps
+-- ---- if they are engaged there are steps
 
 -- Nobody is engaged before the first step.
 not_at_first : (state : EngagementState) → state ≡ Apart → IsSome (age_of state) → ⊥
@@ -57,7 +57,7 @@ module _ (detect : Detect) (steps : List (Option PairStep)) (seen : Option PairS
       let now : suc age ≡ age' + 1 = cc in
       (refl, omega arith)
 
-  -- Where they are engaged, what is kept is what the ranks said where the engagement began.
+  -- If they are engaged, what is kept is what the ranks said when the engagement began.
   pub kept_since : (ranks : ℕ → ByRank) (state later : EngagementState) (before : ByRank) → IsStateAfter detect steps state
       → IsState detect (steps ++ seen ∷ []) (length steps) later
       → (IsSome (age_of state) → before ≡ ranks (beginning_at (length steps - 1) state)) → IsSome (age_of later)

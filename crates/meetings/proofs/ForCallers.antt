@@ -80,7 +80,7 @@ module _ (detect : Detect) (a b : ℕ → Option TickState) (end start : ℕ) (b
 
 -- ---- rows
 
--- where an engagement began is the same where the steps are counted from further back
+-- where an engagement began is the same if the steps are counted from further back
 begun_behind : (detect : Detect) (steps : List (Option PairStep)) (n i : ℕ) (state : EngagementState) → IsState detect steps i state
     → n + beginning_at i state ≡ beginning_at (n + i) state
 begun_behind detect steps n i Apart h = refl

@@ -29,7 +29,7 @@ true_test : (r2 s e a n m t : ℤ) → AreEnds r2 s e a n m t → IsTrue (test r
 unfolding test
 true_test r2 s e a n m t h = grind (arith, ints, h.start, h.end, h.between)
 
--- The test holds exactly where the vessels are so far apart at every instant.
+-- The test holds exactly if the vessels are so far apart at every instant.
 pub by_test : (step : RelativeMove) (r : ℕ) → IsTrue (is_separated step r) → IsSeparatedByEnds step r
 unfolding is_separated test
 by_test step r h =

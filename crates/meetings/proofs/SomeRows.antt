@@ -37,7 +37,7 @@ module _ (terms : Terms) (ranks : ℕ → ByRank) (steps : List (Option PairStep
         },
       )
 
-  -- ---- the rows from step i on, so many of them
+  -- ---- the rows from step i on, this many of them
 
   rows_from : ℕ → ℕ → List (Atom → Verdict)
   rows_from i zero = []

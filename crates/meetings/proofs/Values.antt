@@ -218,7 +218,7 @@ module _ (terms : Terms) (before ranks : ByRank) (state : EngagementState) (seen
   ranked atom.ToPort = are atom.ToPort
   ranked atom.OtherApparent = are atom.OtherApparent
 
--- Where they are not engaged, the ranks do not count.
+-- If they are not engaged, the ranks do not count.
 module _ (terms : Terms) (before ranks : ByRank) (seen : Option PairStep) (answers : Atom → Verdict) where
   unranked : (verdict : Verdict) (counts : Bool) (other : Bool) (Counts : Type 0) → (Counts → ⊥) → Tells (Counts × IsTrue counts) verdict → Tells (Counts × IsTrue other) verdict
   unranked Yes counts other Counts none h = absurd (none h.0)

@@ -27,6 +27,6 @@ end_point step = record { x = step.p.x +ℤ step.w.x; y = step.p.y +ℤ step.w.y
 abbrev pub crosses_ahead_along : Point → Point → Point → Bool
 crosses_ahead_along u r0 r1 = crosses_ahead_by (dot_of u r0) (turn_of u r0) (dot_of u r1) (turn_of u r1)
 
--- A crosses the line ahead of B's bow within the step, where B has this direction.
+-- A crosses the line ahead of B's bow within the step, if B has this direction.
 unfoldable pub crosses_ahead : ℕ → RelativeMove → Bool
 crosses_ahead direction step = crosses_ahead_along (unit_of direction) (opposite step.p) (opposite (end_point step))

@@ -12,7 +12,7 @@ use Rattle.encounters.specs.declared.changes.Changes.{Changes}
 use Rattle.meetings.specs.declared.atom_row.Meeting.{Meeting}
 use Rattle.meetings.specs.declared.by_rank.ByRank.{ByRank}
 
--- what a row keeps: the step, where it is seen, the vessels' directions there, and what the engagement tells
+-- what a row keeps: the step, if it is seen, the vessels' directions there, and the state of the engagement
 pub record Kept : Type 0 where
   pub step : Option RelativeMove
   pub direction : Option ℕ
@@ -23,7 +23,7 @@ pub record Kept : Type 0 where
   pub changes : Changes
   pub by_rank : ByRank
 
--- Nothing has altered where the vessels are not engaged.
+-- Nothing has altered if the vessels are not engaged.
 abbrev pub HaveNotAltered : Option Meeting → Changes → Type 0
 HaveNotAltered None changes = changes ≡ (record { alters = No; apparent = No; to_starboard = No; to_port = No; other_apparent = No })
 HaveNotAltered (Some meeting) changes = ⊤

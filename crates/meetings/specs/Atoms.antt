@@ -20,13 +20,13 @@ use Rattle.meetings.specs.SinceBeginning.{age_of, changes_at, kind_of}
 use Rattle.meetings.specs.Terms.{Terms}
 use Rattle.meetings.specs.declared.by_rank.ByRank.{ByRank}
 
--- Yes where it holds, else No
+-- Yes if it holds, otherwise No
 abbrev pub Tells : Type 0 → Verdict → Type 0
 Tells Holds Yes = Holds
 Tells Holds Open = ⊥
 Tells Holds No = ¬ Holds
 
--- Open where it is not known, else as it tells
+-- Open if it is not known, otherwise as it says
 abbrev pub WhereKnown : {A : Type 0} → Option A → (A → Verdict → Type 0) → Verdict → Type 0
 WhereKnown None Says verdict = verdict ≡ Open
 WhereKnown (Some x) Says verdict = Says x verdict
@@ -35,7 +35,7 @@ WhereKnown (Some x) Says verdict = Says x verdict
 abbrev pub metres_in_tenths : ℕ → ℕ
 metres_in_tenths m = 10000 * m
 
--- They are nearer than so many metres_in_tenths at the step's first tick.
+-- They are nearer than this many metres_in_tenths at the step's first tick.
 abbrev pub IsClose : ℕ → PairStep → Type 0
 IsClose m pair = norm2_of pair.step.p <ℤ pos (metres_in_tenths m * metres_in_tenths m)
 
@@ -50,7 +50,7 @@ module _ (terms : Terms) (ranks : ByRank) (state : EngagementState) (seen : Opti
   abbrev pub IsOfKind : Class → Type 0
   IsOfKind kind = kind_of state ≡ Some kind
 
-  -- The ranks are those where the engagement begins.
+  -- The ranks are those when the engagement begins.
   abbrev pub IsAtomValue : Atom → Verdict → Type 0
   IsAtomValue Always verdict = verdict ≡ Yes
   IsAtomValue Never verdict = verdict ≡ No
@@ -98,7 +98,7 @@ pub record AreRankedRows (terms : Terms) (ranks : ℕ → ByRank) (steps : List 
   pub count : length rows ≡ length steps
   pub each : (i : ℕ) → i < length steps → IsSomeAnd (slice_get rows i) (IsRankedRow terms ranks steps i)
 
--- the same of vessels whose ranks are not told
+-- the same of vessels whose ranks are not known
 abbrev pub IsAtomRow : Terms → List (Option PairStep) → ℕ → (Atom → Verdict) → Type 0
 IsAtomRow terms = IsRankedRow terms all_power_driven
 

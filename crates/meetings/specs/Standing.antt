@@ -11,21 +11,22 @@ use Rattle.meetings.specs.Terms.{Terms}
 use Rattle.meetings.specs.declared.by_rank.ByRank.{ByRank}
 use Rattle.meetings.specs.declared.pair.Pair.{Pair}
 
--- what a follower keeps: its numbers, the engagement, and what the ranks say where it began
+-- what a follower keeps: its numbers, the engagement, and what the ranks say when it began
 pub record Following : Type 0 where
   pub act : Act
   pub tick : ℕ
   pub engagement : encounters.Kept
   pub by_rank : ByRank
 
--- A follower follows these steps, by these numbers and by what the ranks say at each step. Those count where the engagement began.
+-- A follower follows these steps, by these numbers and by what the ranks say at each step. Those
+-- of the step at which the engagement began count.
 pub record FollowsRanked (following : Following) (terms : Terms) (ranks : ℕ → ByRank) (steps : List (Option PairStep)) : Type 0 where
   pub by_act : following.act ≡ terms.act
   pub by_tick : following.tick ≡ terms.tick
   pub engagement : encounters.StandsFor following.engagement terms.detect steps
   pub begun : IsSome (age_of following.engagement.latest) → following.by_rank ≡ ranks (beginning_at (length steps - 1) following.engagement.latest)
 
--- the same of vessels whose ranks are not told
+-- the same of vessels whose ranks are not known
 abbrev pub Follows : Following → Terms → List (Option PairStep) → Type 0
 Follows following terms = FollowsRanked following terms all_power_driven
 

@@ -1,4 +1,4 @@
--- The numbers by which meetings are told.
+-- The numbers that define meetings.
 use Rattle.std.specs.Prelude.{ℕ}
 use Rattle.encounters.specs.declared.act.Act.{Act}
 use Rattle.encounters.specs.declared.detect.Detect.{Detect}

@@ -15,7 +15,7 @@ abbrev pub AreInContact : ℕ → Option TickState → Option TickState → Type
 AreInContact watch (Some a) (Some b) = IsContact watch a b
 AreInContact watch _ _ = ⊥
 
--- the step from one tick, at which A is seen as a0 and B as b0, to the next, as a1 and b1: it is seen where both are at both
+-- the step from one tick, at which A is seen as a0 and B as b0, to the next, as a1 and b1: it is seen if both are at both
 abbrev pub step_between : Option TickState → Option TickState → Option TickState → Option TickState → Option PairStep
 step_between (Some a0) (Some b0) (Some a1) (Some b1) = Some (record {
   step = record { p = displacement a0.point b0.point; w = displacement (displacement a0.point b0.point) (displacement a1.point b1.point) };
@@ -24,21 +24,21 @@ step_between (Some a0) (Some b0) (Some a1) (Some b1) = Some (record {
 })
 step_between _ _ _ _ = None
 
--- Where a vessel is seen, her point is one that a step may have.
+-- If a vessel is seen, her point is one that a step may have.
 abbrev pub IsPlaced : Option TickState → Type 0
 IsPlaced seen = IfSome seen (λ state. IsBelow (2 ^ 33) state.point)
 
--- Where she is seen at two ticks, she moves no further than a step may say.
+-- If she is seen at two ticks, she moves no further than a step may say.
 abbrev pub IsShortMove : Option TickState → Option TickState → Type 0
 IsShortMove (Some before) (Some after) = IsBelow (2 ^ 25) (displacement before.point after.point)
 IsShortMove _ _ = ⊤
 
--- Both vessels by their states at each tick, where they are seen.
+-- Both vessels by their states at each tick, if they are seen.
 module _ (a b : ℕ → Option TickState) where
   abbrev pub step_at : ℕ → Option PairStep
   step_at i = step_between (a i) (b i) (a (i + 1)) (b (i + 1))
 
-  -- the steps from tick i on, so many of them
+  -- the steps from tick i on, this many of them
   abbrev pub steps_from : ℕ → ℕ → List (Option PairStep)
   steps_from i zero = []
   steps_from i (suc count) = step_at i ∷ steps_from (i + 1) count

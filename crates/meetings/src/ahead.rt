@@ -20,7 +20,7 @@ fn has_sign_of(a: i128, b: i64) -> bool
     (0 < a && 0 < b) || (a < 0 && b < 0)
 }
 
-/// The same number, where it is known to be small.
+/// The same number, if it is known to be small.
 fn narrowed(n: i128) -> i64
     requires { unsigned_abs n ≤ 2 ^ 57 }
     ensures value { result ≡ n }
@@ -80,7 +80,7 @@ fn end(step: &Step) -> Point
     }
 }
 
-/// Whether A crosses ahead of B's bow within the step (Rule 15), where B has this direction, below 3600.
+/// Whether A crosses ahead of B's bow within the step (Rule 15), if B has this direction, below 3600.
 #[tactic(auto, unfolding(crate::specs::Ahead::crosses_ahead))]
 pub(crate) fn crosses_ahead(direction: u16, step: &Step) -> bool
     requires { direction < 3600 }

@@ -22,11 +22,12 @@ pub(crate) struct Meeting {
     pub(crate) age: u32,
 }
 
-/// One step of an ordered pair (A, B), with its answers to all atoms. It keeps what the engagement tells, and the step for
-/// those atoms that are found when they are asked.
+/// One step of an ordered pair (A, B), with its answers to all atoms. It keeps the state of the engagement, and the step
+/// for
+/// those atoms that are computed when they are asked for.
 #[derive(Clone, Copy)]
 pub struct AtomRow {
-    /// The step, where it is seen.
+    /// The step, if it is seen.
     pub(crate) step: Option<Step>,
     /// A's direction at its first tick.
     pub(crate) direction: Option<u16>,
@@ -34,13 +35,13 @@ pub struct AtomRow {
     pub(crate) other_direction: Option<u16>,
     /// Whether there is risk of collision.
     pub(crate) risk: bool,
-    /// The engagement, where there is one.
+    /// The engagement, if there is one.
     pub(crate) meeting: Option<Meeting>,
     /// How many seconds a tick lasts.
     pub(crate) tick: u32,
     /// How the vessels have altered since the engagement began.
     pub(crate) changes: Changes,
-    /// What the vessels' ranks say where the engagement begins.
+    /// What the vessels' ranks say when the engagement begins.
     pub(crate) by_rank: ByRank,
 }
 
@@ -50,11 +51,32 @@ impl Model for AtomRow {
 
     ghost Value = { Kept };
 
-    ghost view = { λ row. record { step = row.step; direction = row.direction; other_direction = row.other_direction; risk = row.risk; meeting = row.meeting; tick = row.tick; changes = row.changes; by_rank = row.by_rank } };
+    ghost view = { λ row.
+        record {
+          step = row.step;
+          direction = row.direction;
+          other_direction = row.other_direction;
+          risk = row.risk;
+          meeting = row.meeting;
+          tick = row.tick;
+          changes = row.changes;
+          by_rank = row.by_rank;
+        } };
 
-    ghost invariant = { λ row. IfSome row.direction (λ d. d < 3600) × (IfSome row.other_direction (λ d. d < 3600) × HaveNotAltered row.meeting row.changes) };
+    ghost invariant = { λ row. IfSome row.direction (λ d. d < 3600)
+        × (IfSome row.other_direction (λ d. d < 3600) × HaveNotAltered row.meeting row.changes) };
 
-    ghost inverse = { λ kept. record { step = kept.step; direction = kept.direction; other_direction = kept.other_direction; risk = kept.risk; meeting = kept.meeting; tick = kept.tick; changes = kept.changes; by_rank = kept.by_rank } };
+    ghost inverse = { λ kept.
+        record {
+          step = kept.step;
+          direction = kept.direction;
+          other_direction = kept.other_direction;
+          risk = kept.risk;
+          meeting = kept.meeting;
+          tick = kept.tick;
+          changes = kept.changes;
+          by_rank = kept.by_rank;
+        } };
 }
 
 pub(crate) fn told(holds: bool) -> Verdict
@@ -72,7 +94,7 @@ fn tenths(m: u32) -> u64
     10_000 * u64::from(m)
 }
 
-/// Whether so many steps, of so many seconds each, last so long.
+/// Whether this many steps, of this many seconds each, last this long.
 fn lasts(steps: u32, tick: u32, seconds: u32) -> bool
     ensures { result ≡ nat_le seconds (steps * tick) }
 {
@@ -80,11 +102,12 @@ fn lasts(steps: u32, tick: u32, seconds: u32) -> bool
 }
 
 impl AtomRow {
-    /// Open where the step is not seen.
+    /// Open if the step is not seen.
     #[inline(never)]
     fn clear(&self, m: u32) -> Verdict
         requires { m ≤ 100000 }
-        ensures { result ≡ seen_as (λ step. told (is_separated step (metres_in_tenths m))) self.now.step }
+        ensures { result ≡ seen_as
+            (λ step. told (is_separated step (metres_in_tenths m))) self.now.step }
     {
         match &self.step {
             None => Verdict::Open,
@@ -94,7 +117,8 @@ impl AtomRow {
 
     fn close(&self, m: u32) -> Verdict
         requires { m ≤ 100000 }
-        ensures { result ≡ seen_as (λ step. told (is_close (metres_in_tenths m) step)) self.now.step }
+        ensures { result ≡ seen_as
+            (λ step. told (is_close (metres_in_tenths m) step)) self.now.step }
     {
         let r = u128::from(tenths(m));
         match &self.step {
@@ -162,7 +186,7 @@ impl AtomRow {
         }
     }
 
-    /// Whether the vessels' ranks count: they do not where the one overtakes the other.
+    /// Whether the vessels' ranks count: they do not if the one overtakes the other.
     fn rank_counts(&self) -> bool
         ensures { result ≡ rank_counts self.now.meeting }
     {
@@ -172,7 +196,8 @@ impl AtomRow {
     }
 }
 
-// All atoms are asked at each position. So the choice among them is in line, and those that reckon more are calls of their own.
+// All atoms are asked for at each position. So the choice among them is inline, and those that compute more are calls of their
+// own.
 impl Atoms for AtomRow {
     ghost use Rattle.meetings.specs.Answers.{answer_of};
 

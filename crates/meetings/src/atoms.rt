@@ -52,7 +52,8 @@ fn changes_at(act: &Act, state: &EngagementState, seen: Option<&PairStep>) -> Ch
 
 fn has_risk(detect: &Detect, seen: Option<&PairStep>) -> bool
     requires { IsDetect detect.now }
-    ensures { IsTrue result ↔ IsSomeAnd (option_copied seen.entry) (λ pair. HasRisk detect.now pair.step) }
+    ensures { IsTrue result
+        ↔ IsSomeAnd (option_copied seen.entry) (λ pair. HasRisk detect.now pair.step) }
 {
     match seen {
         None => false,
@@ -85,7 +86,8 @@ fn other_direction(seen: Option<&PairStep>) -> Option<u16>
     seen?.b.direction
 }
 
-/// By what a row is told beside its step: how vessels alter, how many seconds a tick lasts, and what the ranks say where the engagement
+/// What a row depends on besides its step: how vessels alter, how many seconds a tick lasts, and what the ranks were when the
+/// engagement
 /// began.
 #[derive(Clone, Copy)]
 pub(crate) struct Telling {
@@ -94,7 +96,7 @@ pub(crate) struct Telling {
     pub(crate) by_rank: ByRank,
 }
 
-/// The row of a step, where it is known whether there is risk, and what the ranks say where the engagement begins.
+/// The row of a step, if it is known whether there is risk, and what the ranks say when the engagement begins.
 #[inline(always)]
 pub(crate) fn row_at(
     state: &EngagementState,
@@ -104,8 +106,10 @@ pub(crate) fn row_at(
 ) -> AtomRow
     requires seen { IfSome (option_copied seen) HaveDirections }
     requires since { HaveDirectionsSince state.now }
-    ensures { (detect : Detect) → (IsTrue risk ↔ IsSomeAnd (option_copied seen.entry) (λ pair. HasRisk detect pair.step)) →
-        AreAnswers (record { detect = detect; act = telling.now.act; tick = telling.now.tick }) telling.now.by_rank state.now (option_copied seen.entry) (answer_of result) }
+    ensures { (detect : Detect)
+        → (IsTrue risk ↔ IsSomeAnd (option_copied seen.entry) (λ pair. HasRisk detect pair.step))
+        → AreAnswers (record { detect = detect; act = telling.now.act; tick = telling.now.tick })
+        telling.now.by_rank state.now (option_copied seen.entry) (answer_of result) }
 {
     AtomRow {
         step: step_of(seen),
@@ -121,7 +125,7 @@ pub(crate) fn row_at(
 
 /// What a step of an ordered pair (A, B) answers to each atom with both power-driven, where `state` is that of their engagement
 /// at the step. A step of an engagement is seen; of one that is not seen the alterations are No. Risk and the alterations are
-/// found here, all else when it is asked. A tick lasts so many seconds. Directions are below 3600.
+/// found here, everything else when it is asked. A tick lasts this many seconds. Directions are below 3600.
 pub fn atoms_at(
     detect: &Detect,
     state: &EngagementState,
@@ -132,7 +136,9 @@ pub fn atoms_at(
     requires detect { IsDetect detect.now }
     requires seen { IfSome (option_copied seen) HaveDirections }
     requires since { HaveDirectionsSince state.now }
-    ensures { AreAnswers (record { detect = detect.now; act = act.now; tick = tick }) both_power_driven state.now (option_copied seen.entry) (answer_of result) }
+    ensures { AreAnswers
+        (record { detect = detect.now; act = act.now; tick = tick }) both_power_driven state.now
+        (option_copied seen.entry) (answer_of result) }
 {
     let telling = Telling {
         act: *act,
@@ -142,11 +148,14 @@ pub fn atoms_at(
     row_at(state, seen, has_risk(detect, seen), &telling)
 }
 
-/// The same row with these ranks where the engagement begins: whether A gives way to B by rank (Rule 18), whether B does to A,
+/// The same row with these ranks when the engagement begins: whether A gives way to B by rank (Rule 18), whether B does to A,
 /// and whether both are power-driven.
 pub fn with_ranks(row: &AtomRow, gives: bool, stands: bool, both_power: bool) -> AtomRow
-    ensures { (terms : Terms) (before : ByRank) (state : EngagementState) (seen : Option PairStep) → AreAnswers terms before state seen (answer_of row.now) →
-        AreAnswers terms (record { gives = gives; stands = stands; both_power = both_power }) state seen (answer_of result) }
+    ensures { (terms : Terms) (before : ByRank) (state : EngagementState) (seen : Option PairStep)
+        → AreAnswers terms before state seen (answer_of row.now)
+        → AreAnswers terms
+        (record { gives = gives; stands = stands; both_power = both_power }) state seen
+        (answer_of result) }
 {
     AtomRow {
         by_rank: ByRank {

@@ -1,6 +1,6 @@
 //! What two vessels owe one another by rank.
 
-/// What the ranks of the vessels of a pair (A, B) say by Rule 18, where their engagement begins.
+/// What the ranks of the vessels of a pair (A, B) say by Rule 18, when their engagement begins.
 #[derive(Clone, Copy, PartialEq, Eq)]
 pub struct ByRank {
     /// A gives way to B by rank.

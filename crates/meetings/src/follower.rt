@@ -33,16 +33,27 @@ impl Model for Follower {
 
     ghost Value = { Following };
 
-    ghost view = { λ f. record { act = f.telling.act; tick = f.telling.tick; engagement = f.engagement; by_rank = f.telling.by_rank } };
+    ghost view = { λ f.
+        record {
+          act = f.telling.act;
+          tick = f.telling.tick;
+          engagement = f.engagement;
+          by_rank = f.telling.by_rank;
+        } };
 
-    ghost inverse = { λ f. record { telling = record { act = f.act; tick = f.tick; by_rank = f.by_rank }; engagement = f.engagement } };
+    ghost inverse = { λ f.
+        record {
+          telling = record { act = f.act; tick = f.tick; by_rank = f.by_rank };
+          engagement = f.engagement;
+        } };
 }
 
-/// Keeps what the ranks say now, where an engagement begins. It is asked only there, since two vessels have to be found for it.
+/// Keeps what the ranks say now, if an engagement begins. It is asked only there, since two vessels have to be found for it.
 #[inline(always)]
 fn keep_at_beginning<F: FnOnce() -> ByRank>(kept: &mut ByRank, state: &EngagementState, now: F)
     requires { age_of state.now ≡ Some 0 → F.pre now }
-    ensures { (said : ByRank) → SaysOnly (F.post now) said → kept.new ≡ since_beginning state.now kept.old said }
+    ensures { (said : ByRank) → SaysOnly (F.post now) said
+        → kept.new ≡ since_beginning state.now kept.old said }
 {
     if let EngagementState::Engaged { age: 0, .. } = state {
         *kept = now();
@@ -50,7 +61,7 @@ fn keep_at_beginning<F: FnOnce() -> ByRank>(kept: &mut ByRank, state: &Engagemen
 }
 
 impl Follower {
-    /// A pair of no steps yet. A tick lasts so many seconds.
+    /// A pair of no steps yet. A tick lasts this many seconds.
     pub fn new(detect: Detect, act: Act, tick: u32) -> Follower
         requires { IsDetect detect }
         ensures { Follows result (record { detect = detect; act = act; tick = tick }) [] }
@@ -65,14 +76,15 @@ impl Follower {
         }
     }
 
-    /// The row of the next step, which is seen, or is not, of vessels whose ranks are not told. Over fewer than 2^31 steps its answers
-    /// are the atoms' values at that step, with both vessels power-driven. Directions are below 3600.
+    /// The row of the next step, which is seen, or is not, of vessels whose ranks are not known. Over fewer than 2^31 steps its
+    /// answers are the atoms' values at that step, with both vessels power-driven. Directions are below 3600.
     #[inline(always)]
     pub fn step(&mut self, seen: Option<&PairStep>) -> AtomRow
         requires { IfSome (option_copied seen) HaveDirections }
         ensures row { (terms : Terms) (steps : List (Option PairStep)) → length steps < 2 ^ 31
             → Follows self.old terms steps
-            → IsAtomRow terms (steps ++ option_copied seen.entry ∷ []) (length steps) (answer_of result) }
+            → IsAtomRow terms (steps ++ option_copied seen.entry ∷ []) (length steps)
+            (answer_of result) }
         ensures follows { (terms : Terms) (steps : List (Option PairStep)) → length steps < 2 ^ 31
             → Follows self.old terms steps
             → Follows self.new terms (steps ++ option_copied seen.entry ∷ []) }
@@ -80,7 +92,7 @@ impl Follower {
         self.step_ranked(seen, || BOTH_POWER_DRIVEN)
     }
 
-    /// The row of the next step, which is seen, or is not. `by_rank` says what the vessels' ranks say at the step; it is asked only where
+    /// The row of the next step, which is seen, or is not. `by_rank` says what the vessels' ranks say at the step; it is asked only if
     /// an engagement begins. Over fewer than 2^31 steps the row's answers are the atoms' values at that step, by the ranks at the step at
     /// which the engagement began. Directions are below 3600.
     #[inline(always)]
@@ -91,11 +103,14 @@ impl Follower {
     ) -> AtomRow
         requires directions { IfSome (option_copied seen) HaveDirections }
         requires by_rank { F.pre by_rank }
-        ensures row { (terms : Terms) (ranks : ℕ → ByRank) (steps : List (Option PairStep)) → length steps < 2 ^ 31
-            → SaysOnly (F.post by_rank) (ranks (length steps)) → FollowsRanked self.old terms ranks steps
-            → IsRankedRow terms ranks (steps ++ option_copied seen.entry ∷ []) (length steps) (answer_of result) }
-        ensures follows { (terms : Terms) (ranks : ℕ → ByRank) (steps : List (Option PairStep)) → length steps < 2 ^ 31
-            → SaysOnly (F.post by_rank) (ranks (length steps)) → FollowsRanked self.old terms ranks steps
+        ensures row { (terms : Terms) (ranks : ℕ → ByRank) (steps : List (Option PairStep))
+            → length steps < 2 ^ 31 → SaysOnly (F.post by_rank) (ranks (length steps))
+            → FollowsRanked self.old terms ranks steps
+            → IsRankedRow terms ranks (steps ++ option_copied seen.entry ∷ []) (length steps)
+            (answer_of result) }
+        ensures follows { (terms : Terms) (ranks : ℕ → ByRank) (steps : List (Option PairStep))
+            → length steps < 2 ^ 31 → SaysOnly (F.post by_rank) (ranks (length steps))
+            → FollowsRanked self.old terms ranks steps
             → FollowsRanked self.new terms ranks (steps ++ option_copied seen.entry ∷ []) }
     {
         let risk = self.engagement.take(seen);

@@ -35,7 +35,7 @@ impl Model for PairTrace {
 }
 
 impl PairTrace {
-    /// A trace of no steps yet. A tick lasts so many seconds. This takes no memory.
+    /// A trace of no steps yet. A tick lasts this many seconds. This takes no memory.
     pub fn new(alloc: Global, pair: Pair, detect: Detect, act: Act, tick: u32) -> PairTrace
         requires { IsDetect detect }
         ensures { StandsFor result pair (record { detect = detect; act = act; tick = tick }) [] }
@@ -47,12 +47,14 @@ impl PairTrace {
         }
     }
 
-    /// Puts a step after the others, fewer than 2^31, which is seen, or is not. Directions are below 3600. Where there is no
+    /// Puts a step after the others, fewer than 2^31, which is seen, or is not. Directions are below 3600. If there is no
     /// memory for its row, the trace is as before.
     pub fn push(&mut self, seen: Option<PairStep>) -> Result<(), Memory>
         requires { IfSome seen HaveDirections }
-        ensures ok { OnOk result ((pair : Pair) (terms : Terms) (steps : List (Option PairStep)) → length steps < 2 ^ 31
-            → StandsFor self.old pair terms steps → StandsFor self.new pair terms (steps ++ seen ∷ [])) }
+        ensures ok { OnOk result
+            ((pair : Pair) (terms : Terms) (steps : List (Option PairStep)) → length steps < 2 ^ 31
+            → StandsFor self.old pair terms steps
+            → StandsFor self.new pair terms (steps ++ seen ∷ [])) }
         ensures memory { OnErr result (self.new ≡ self.old) }
     {
         self.rows.try_reserve(1)?;
@@ -63,8 +65,9 @@ impl PairTrace {
 
     /// The rows of the steps, one a step: each answers every atom by its value at that step.
     pub fn rows(&self) -> &[AtomRow]
-        ensures { (pair : Pair) (terms : Terms) (steps : List (Option PairStep)) →
-            StandsFor self.now pair terms steps → AreAtomRows terms steps (map answer_of result.now) }
+        ensures { (pair : Pair) (terms : Terms) (steps : List (Option PairStep))
+            → StandsFor self.now pair terms steps
+            → AreAtomRows terms steps (map answer_of result.now) }
     {
         &self.rows
     }

@@ -21,7 +21,7 @@ pub fn contact(a: &TickState, b: &TickState, watch: u64) -> bool
 }
 
 /// The step of A and B from one tick, where they are seen as `a0` and `b0`, to the next, where they are seen as `a1` and `b1`:
-/// `None` where either is not seen at either tick. Components of the points are below 2^33 in size, and each vessel moves by
+/// `None` if either is not seen at either tick. Components of the points are below 2^33 in size, and each vessel moves by
 /// less than 2^25 in each.
 pub fn step_between(
     a0: Option<&TickState>,
@@ -35,8 +35,11 @@ pub fn step_between(
     requires b1 { IsPlaced (option_copied b1) }
     requires a_moves { IsShortMove (option_copied a0) (option_copied a1) }
     requires b_moves { IsShortMove (option_copied b0) (option_copied b1) }
-    ensures value { result ≡ step_between (option_copied a0.entry) (option_copied b0.entry) (option_copied a1.entry) (option_copied b1.entry) }
-    ensures directions { IfSome (option_copied a0.entry) HasDirection → IfSome (option_copied b0.entry) HasDirection → IfSome result HaveDirections }
+    ensures value { result
+        ≡ step_between (option_copied a0.entry) (option_copied b0.entry) (option_copied a1.entry)
+        (option_copied b1.entry) }
+    ensures directions { IfSome (option_copied a0.entry) HasDirection
+        → IfSome (option_copied b0.entry) HasDirection → IfSome result HaveDirections }
 {
     match (a0, b0, a1, b1) {
         (Some(a0), Some(b0), Some(a1), Some(b1)) => Some(PairStep {

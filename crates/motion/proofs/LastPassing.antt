@@ -10,7 +10,7 @@ filter_none p (x ∷ xs) none =
     let here : p x ≡ false = none 0 x (omega arith) in
     rw here (filter_none p xs (λ k d h. none (suc k) d (omega arith)))
 
--- an element that passes, where none after it does
+-- an element that passes, if none after it does
 last_passing_or : {X : Type 0} (p : X → Bool) (o : Option X) (xs : List X) (i : ℕ) (d : X) → i < length xs → p (get_or xs i d) ≡ true
     → ((k : ℕ) (e : X) → i < k → k < length xs → p (get_or xs k e) ≡ false) → last_or o (filter p xs) ≡ Some (get_or xs i d)
 last_passing_or p o [] i d lt passes none = absurd (omega arith)

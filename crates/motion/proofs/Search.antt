@@ -40,7 +40,7 @@ later_not legs time i parts k d le lt = not_begun time (get_or legs k d) (parts.
 pub none_begun : (legs : List Leg) (time i : ℕ) → IsBegun legs time i → i ≡ 0 → All (λ leg. holds time leg ≡ false) legs
 none_begun legs time i parts e k d lt = later_not legs time i parts k d (omega arith) lt
 
--- Where the last that has begun does not hold it, none does.
+-- If the last that has begun does not hold it, none does.
 pub none_holds : (legs : List Leg) (time i : ℕ) (d : Leg) → AreLegs legs → IsBegun legs time i → i ≤ length legs → 0 < i
     → holds time (get_or legs (i - 1) d) ≡ false → All (λ leg. holds time leg ≡ false) legs
 none_holds legs time i d h parts bound some not k e lt =

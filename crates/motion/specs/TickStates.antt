@@ -37,7 +37,7 @@ state_on t leg = record {
   speed = leg.speed;
 }
 
--- the state at a time, on the last of the legs that hold it: where two legs meet, the later one counts
+-- the state at a time, on the last of the legs that hold it: if two legs meet, the later one counts
 unfoldable pub state_at : ℕ → List Leg → Option TickState
 state_at t legs = option_map (state_on t) (last_or None (filter (holds t) legs))
 

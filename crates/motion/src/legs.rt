@@ -49,9 +49,9 @@ impl Legs {
         }
     }
 
-    /// Puts a leg after the others: it lasts at most an hour, lies in the region, and is no faster than 102.2 knots, the
-    /// greatest speed that ITU-R M.1371-5, Annex 8, section 3.1 can tell. Where there is no memory for it, the legs are as
-    /// before.
+    /// Appends a leg: it lasts at most an hour, lies in the region, and is no faster than 102.2 knots, the
+    /// greatest speed that ITU-R M.1371-5, Annex 8, section 3.1 can encode. If memory runs out, the legs are
+    /// unchanged.
     pub fn push(&mut self, leg: Leg) -> Result<(), Memory>
         requires leg { IsLeg leg }
         requires after { IfSome (last_or None self.old) (λ last. last.t2 ≤ leg.t1) }
@@ -62,7 +62,7 @@ impl Legs {
         Ok(())
     }
 
-    /// Forgets the first so many legs.
+    /// Forgets this many of the first legs.
     pub fn forget(&mut self, count: usize)
         requires { count ≤ length self.old }
         ensures { self.new ≡ drop count self.old }
@@ -70,7 +70,7 @@ impl Legs {
         let _ = self.legs.drain(..count);
     }
 
-    /// The vessel's state at a time, in seconds since the Unix epoch: on the last leg that holds it, or `None` where no leg
+    /// The vessel's state at a time, in seconds since the Unix epoch: on the last leg that holds it, or `None` if no leg
     /// does.
     pub fn at(&self, time: u64) -> Option<TickState>
         ensures value { result ≡ state_at time self.now }
@@ -89,7 +89,7 @@ impl Legs {
         }
     }
 
-    /// A law of the legs, which does nothing: where they meet or lie more than `gap` seconds apart, the vessel moves from one
+    /// A law of the legs, which does nothing: if they meet or lie more than `gap` seconds apart, the vessel moves from one
     /// time to another, at most `gap` seconds later, by at most the greatest velocity in each component, and by 2 more.
     pub fn moves_little(&self, gap: u64)
         requires { AreJoined gap self.now }

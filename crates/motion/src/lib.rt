@@ -3,10 +3,10 @@
 //!
 //! Lengths are counted in tenths of a millimetre, times in whole seconds since the Unix epoch, directions and speeds as
 //! ITU-R M.1371-5, Annex 8, section 3.1 gives courses and speeds: in tenths of a degree and of a knot. Points between two
-//! reports are rounded to the nearest whole number; all else is exact.
+//! reports are rounded to the nearest whole number; everything else is exact.
 //!
 //! On a leg from `(0, 0)` at second 0 to `(10, 0)` at second 3 the vessel is at `(3, 0)` at second 1 and at `(7, 0)` at second 2.
-//! Where A moves from `(0, 0)` to `(1, 0)` and B from `(3, 4)` to `(3, 6)`, the step has `p` `(3, 4)` and `w` `(-1, 2)`.
+//! If A moves from `(0, 0)` to `(1, 0)` and B from `(3, 4)` to `(3, 6)`, the step has `p` `(3, 4)` and `w` `(-1, 2)`.
 #![tactic(auto)]
 
 mod leg;

@@ -36,7 +36,7 @@ impl Model for Step {
 }
 
 impl Step {
-    /// The step with this displacement and this change, or `None` where a component is too large: 2^34 or more in size
+    /// The step with this displacement and this change, or `None` if a component is too large: 2^34 or more in size
     /// for `p`, 2^26 or more for `w`.
     pub fn new(p: Point, w: Point) -> Option<Step>
         ensures value { IfSome result (λ s. s ≡ record { p = p; w = w }) }

@@ -129,7 +129,7 @@ slice_get-take (suc n) k [] h = refl
 slice_get-take (suc n) zero (row ∷ rows) h = refl
 slice_get-take (suc n) (suc k) (row ∷ rows) h = slice_get-take n k rows (omega (arith, h))
 
--- The rows that a formula reaches tell its value.
+-- The rows that a formula reaches determine its value.
 pub value_take : (rows : Trace) (t : FormulaTree) (i n : ℕ) → i + reach_of t < n → value_in (take n rows) t i ≡ value_in rows t i
 value_take rows t i n far =
     value_of-same (λ row. row) (take n rows) (λ row. row) rows t i (λ k below. equal-AgreeAt (λ row. row) (take n rows) rows k (slice_get-take n k rows (omega (arith, far, below))))

@@ -12,8 +12,9 @@ use Rattle.mtl_formulas.specs.FormulaMeasures.{reach_of}
 use Rattle.mtl_formulas.specs.FormulaValue.{greatest_over, span_value, link_value, ahead_count}
 use Rattle.mtl_formulas.proofs.Values.{value_of-past}
 use Rattle.mtl_monitor.proofs.Windows.{least_over-turned}
-use Rattle.mtl_early.specs.declared.left.Left.{Left}
-use Rattle.mtl_early.specs.Inner.Counts.{left_after, left_under, left_value, Reads, sensed, held_ahead}
+use Rattle.mtl_monitor.specs.declared.left.Left.{Left}
+use Rattle.mtl_monitor.specs.WindowCounts.{left_after, left_under, left_value}
+use Rattle.mtl_early.specs.Inner.Counts.{Reads, sensed, held_ahead}
 use Rattle.mtl_early.specs.Inner.Cells.{ahead_kind}
 use Rattle.mtl_early.proofs.Deciding.{within_end, value_take}
 use Rattle.mtl_early.proofs.Ahead.{Reads-before, Reads-open, Reads-value, Reads-under, held_at, held-open}

@@ -69,7 +69,8 @@ fn add_now(building: Building, formula: &Formula) -> Result<Building, Memory>
 pub(crate) fn add(building: Building, formula: &Formula) -> Result<Option<Building>, Memory>
     requires valid { IsValid (tree_of formula.now) }
     requires few { length building.nodes.items + node_count (tree_of formula.now) ≤ 256 }
-    ensures adds { IfOk result (λ built. IfSome built (λ b. Adds building b (tree_of formula.now))) }
+    ensures adds { IfOk result
+        (λ built. IfSome built (λ b. Adds building b (tree_of formula.now))) }
     ensures none { IfOk result (λ built. built ≡ None → ¬ IsSweepable (tree_of formula.now)) }
 {
     if future_reach(formula) == 0 {
@@ -92,7 +93,8 @@ pub(crate) fn add(building: Building, formula: &Formula) -> Result<Option<Buildi
 fn add_not(building: Building, a: &Formula) -> Result<Option<Building>, Memory>
     requires valid { IsValid (negation (tree_of a.now)) }
     requires few { length building.nodes.items + node_count (negation (tree_of a.now)) ≤ 256 }
-    ensures adds { IfOk result (λ built. IfSome built (λ b. Adds building b (negation (tree_of a.now)))) }
+    ensures adds { IfOk result
+        (λ built. IfSome built (λ b. Adds building b (negation (tree_of a.now)))) }
     ensures none { IfOk result (λ built. built ≡ None → ¬ IsSweepable (tree_of a.now)) }
 {
     let Some(built) = add(building, a)? else {
@@ -110,9 +112,13 @@ fn add_pair(
     b: &Formula,
 ) -> Result<Option<Building>, Memory>
     requires valid { IsValid (pair kind (tree_of a.now) (tree_of b.now)) }
-    requires few { length building.nodes.items + node_count (pair kind (tree_of a.now) (tree_of b.now)) ≤ 256 }
-    ensures adds { IfOk result (λ built. IfSome built (λ new. Adds building new (pair kind (tree_of a.now) (tree_of b.now)))) }
-    ensures none { IfOk result (λ built. built ≡ None → ¬ IsSweepable (pair kind (tree_of a.now) (tree_of b.now))) }
+    requires few { length building.nodes.items
+        + node_count (pair kind (tree_of a.now) (tree_of b.now)) ≤ 256 }
+    ensures adds { IfOk result
+        (λ built. IfSome built
+        (λ new. Adds building new (pair kind (tree_of a.now) (tree_of b.now)))) }
+    ensures none { IfOk result
+        (λ built. built ≡ None → ¬ IsSweepable (pair kind (tree_of a.now) (tree_of b.now))) }
 {
     let Some(built) = add(building, a)? else {
         return Ok(None);
@@ -134,8 +140,11 @@ fn add_ahead(
     a: &Formula,
 ) -> Result<Option<Building>, Memory>
     requires valid { IsValid (span (ahead_kind turned) lower upper (tree_of a.now)) }
-    requires few { length building.nodes.items + node_count (span (ahead_kind turned) lower upper (tree_of a.now)) ≤ 256 }
-    ensures adds { IfOk result (λ built. IfSome built (λ b. Adds building b (span (ahead_kind turned) lower upper (tree_of a.now)))) }
+    requires few { length building.nodes.items
+        + node_count (span (ahead_kind turned) lower upper (tree_of a.now)) ≤ 256 }
+    ensures adds { IfOk result
+        (λ built. IfSome built
+        (λ b. Adds building b (span (ahead_kind turned) lower upper (tree_of a.now)))) }
     ensures none { IfOk result (λ built. built ≡ None → ¬ IsSweepable (tree_of a.now)) }
 {
     let Some(built) = add(building, a)? else {
@@ -154,9 +163,14 @@ fn add_until(
     b: &Formula,
 ) -> Result<Option<Building>, Memory>
     requires valid { IsValid (link U lower upper (tree_of a.now) (tree_of b.now)) }
-    requires few { length building.nodes.items + node_count (link U lower upper (tree_of a.now) (tree_of b.now)) ≤ 256 }
-    ensures adds { IfOk result (λ built. IfSome built (λ new. Adds building new (link U lower upper (tree_of a.now) (tree_of b.now)))) }
-    ensures none { IfOk result (λ built. built ≡ None → ¬ IsSweepable (link U lower upper (tree_of a.now) (tree_of b.now))) }
+    requires few { length building.nodes.items
+        + node_count (link U lower upper (tree_of a.now) (tree_of b.now)) ≤ 256 }
+    ensures adds { IfOk result
+        (λ built. IfSome built
+        (λ new. Adds building new (link U lower upper (tree_of a.now) (tree_of b.now)))) }
+    ensures none { IfOk result
+        (λ built. built ≡ None
+        → ¬ IsSweepable (link U lower upper (tree_of a.now) (tree_of b.now))) }
 {
     let Some(built) = add(building, a)? else {
         return Ok(None);

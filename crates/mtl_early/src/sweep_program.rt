@@ -37,9 +37,12 @@ impl SweepProgram {
     /// The program of a formula. `None` where O, H or S in it has an operand that looks ahead.
     pub fn of(alloc: Global, formula: &Formula) -> Result<Option<SweepProgram>, Memory>
         requires { IsValid (tree_of formula.now) }
-        ensures program { IfOk result (λ program. IfSome program (λ p. IsSweepProgramOf p (tree_of formula.now))) }
-        ensures sweepable { IfOk result (λ program. IfSome program (λ p. IsSweepable (tree_of formula.now))) }
-        ensures none { IfOk result (λ program. program ≡ None → ¬ IsSweepable (tree_of formula.now)) }
+        ensures program { IfOk result
+            (λ program. IfSome program (λ p. IsSweepProgramOf p (tree_of formula.now))) }
+        ensures sweepable { IfOk result
+            (λ program. IfSome program (λ p. IsSweepable (tree_of formula.now))) }
+        ensures none { IfOk result
+            (λ program. program ≡ None → ¬ IsSweepable (tree_of formula.now)) }
     {
         let reach = future_reach(formula);
         let building = Building {

@@ -19,7 +19,7 @@ pub struct SweepState {
     fed: u32,
     /// How many cells of each node hold values.
     pub(crate) size: usize,
-    /// How many of the formula's are to be looked at since the last row.
+    /// How many of the formula's are to be checked since the last row.
     place: usize,
     pub(crate) state: TraceState,
     /// The nodes' values at the last positions.
@@ -45,10 +45,11 @@ impl SweepState {
     ghost use Rattle.mtl_early.specs.Standing.{Continues, HasGivenAll, IsAt, IsGiving, IsStateOf, IsSweepProgramOf, left_to_look, rows_fed};
     ghost use Rattle.mtl_early.specs.Inner.Looking.{IsLooked, IsLooking};
 
-    /// The state over a trace of which no row was fed. It takes all its memory here.
+    /// Returns the state over a trace before its first row. It takes all its memory here.
     pub fn new(alloc: Global, program: &SweepProgram) -> Result<SweepState, Memory>
         ensures of { IfOk result (IsStateOf program.now) }
-        ensures at { IfOk result (λ s. (t : FormulaTree) → IsSweepProgramOf program.now t → IsAt program.now s t []) }
+        ensures at { IfOk result
+            (λ s. (t : FormulaTree) → IsSweepProgramOf program.now t → IsAt program.now s t []) }
         ensures fed { IfOk result (λ s. rows_fed s ≡ 0) }
         ensures done { IfOk result HasGivenAll }
     {
@@ -108,9 +109,11 @@ impl SweepState {
         requires of { IsStateOf program.now self.old }
         ensures of { IsStateOf program.now self.new }
         ensures position { IfSome result (λ a. a.0 < 2 ^ 31) }
-        ensures answer { (t : FormulaTree) (rows : Trace) (from : ℕ) → IsGiving program.now self.old t rows from →
-            IsNextDecided result t rows from × Continues program.now result self.new t rows }
-        ensures again { (t : FormulaTree) (rows : Trace) → IsAt program.now self.old t rows → (result ≡ None) × IsAt program.now self.new t rows }
+        ensures answer { (t : FormulaTree) (rows : Trace) (from : ℕ)
+            → IsGiving program.now self.old t rows from
+            → IsNextDecided result t rows from × Continues program.now result self.new t rows }
+        ensures again { (t : FormulaTree) (rows : Trace) → IsAt program.now self.old t rows
+            → (result ≡ None) × IsAt program.now self.new t rows }
         ensures done { result ≡ None → HasGivenAll self.new }
         ensures lower { IfSome result (λ a. left_to_look self.new < left_to_look self.old) }
         ensures fed { rows_fed self.new ≡ rows_fed self.old }
@@ -133,8 +136,10 @@ impl SweepState {
         ensures place { self.old.place ≡ self.new.place + 1 }
         ensures size { self.new.size ≡ self.old.size }
         ensures fed { rows_fed self.new ≡ rows_fed self.old }
-        ensures looked { (t : FormulaTree) (before : Trace) (row : Atom → Verdict) → IsLooking program.now self.old t before row →
-            IsLooking program.now self.new t before row × IsLooked result t (before ++ row ∷ []) self.new.place }
+        ensures looked { (t : FormulaTree) (before : Trace) (row : Atom → Verdict)
+            → IsLooking program.now self.old t before row
+            → IsLooking program.now self.new t before row
+            × IsLooked result t (before ++ row ∷ []) self.new.place }
     {
         let age = self.place - 1;
         self.place = age;

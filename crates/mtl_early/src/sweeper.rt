@@ -59,7 +59,7 @@ fn sweep_of(nodes: &[SweepNode], k: usize) -> Sweep
     nodes[k].sweep
 }
 
-/// Writes the cells of a node, of which these are its kind and its first cell.
+/// Writes the cells of a node of this kind, from its first cell on.
 fn sweep_one(
     nodes: &[SweepNode],
     cells: &mut [Verdict],
@@ -75,11 +75,14 @@ fn sweep_one(
     requires fit { HasFit (count_of program.now) k sweep }
     requires laid_out { AreLaidOut nodes.now stride (length cells.old) }
     requires size { size ≤ stride }
-    ensures right { (formulas trees : List FormulaTree) (rows : Trace) (row : Atom → Verdict) (t : FormulaTree)
-        → ReadsNow program.now state.now formulas rows row → Computes formulas trees sweep t → size ≤ length rows + 1
-        → OperandsRight nodes.now trees cells.old k size (rows ++ row ∷ []) → AreRight cells.old (cells_of nodes.now k) (size - 1) rows t
+    ensures right { (formulas trees : List FormulaTree) (rows : Trace) (row : Atom → Verdict)
+        (t : FormulaTree) → ReadsNow program.now state.now formulas rows row
+        → Computes formulas trees sweep t → size ≤ length rows + 1
+        → OperandsRight nodes.now trees cells.old k size (rows ++ row ∷ [])
+        → AreRight cells.old (cells_of nodes.now k) (size - 1) rows t
         → AreRight cells.new (cells_of nodes.now k) size (rows ++ row ∷ []) t }
-    ensures others { SameOutside cells.old cells.new (cells_of nodes.now k) (cells_of nodes.now k + size) }
+    ensures others { SameOutside cells.old cells.new (cells_of nodes.now k)
+        (cells_of nodes.now k + size) }
 {
     let at = cells_of(nodes, k);
     match sweep {
@@ -124,8 +127,8 @@ pub(crate) fn sweep_all(
     requires laid_out { AreLaidOut nodes.now stride (length cells.old) }
     requires size { size ≤ stride }
     ensures { (formulas trees : List FormulaTree) (rows : Trace) (row : Atom → Verdict)
-        → ReadsNow program.now state.now formulas rows row → AllCompute formulas trees nodes.now → size ≤ length rows + 1
-        → AllRight nodes.now trees cells.old (size - 1) rows
+        → ReadsNow program.now state.now formulas rows row → AllCompute formulas trees nodes.now
+        → size ≤ length rows + 1 → AllRight nodes.now trees cells.old (size - 1) rows
         → AllRight nodes.now trees cells.new size (rows ++ row ∷ []) }
 {
     for k in 0..nodes.len() {
@@ -158,8 +161,8 @@ pub(crate) fn sweep_row(
     requires size { size ≤ stride }
     requires as_many { length before.old ≡ length cells.old }
     ensures right { (formulas trees : List FormulaTree) (rows : Trace) (row : Atom → Verdict)
-        → ReadsNow program.now state.now formulas rows row → AllCompute formulas trees nodes.now → size ≤ length rows + 1
-        → AllRight nodes.now trees cells.old (size - 1) rows
+        → ReadsNow program.now state.now formulas rows row → AllCompute formulas trees nodes.now
+        → size ≤ length rows + 1 → AllRight nodes.now trees cells.old (size - 1) rows
         → AllRight nodes.now trees cells.new size (rows ++ row ∷ []) }
     ensures stay { result ≡ true → cells.new ≡ cells.old }
 {

@@ -12,8 +12,8 @@ ghost use Rattle.mtl_formulas.specs.Traces.{Trace, value_in};
 ghost use Rattle.mtl_early.specs.Inner.Counts.{sensed};
 ghost use Rattle.mtl_early.specs.Inner.Cells.{AreRight, SameOutside, ahead_kind, cell_at};
 
-use crate::left::Left;
 use mtl_formulas::{PairKind, Verdict};
+use mtl_monitor::Left;
 
 pub(crate) fn negated(value: Verdict) -> Verdict
     ensures { result ≡ turned_round value }
@@ -58,7 +58,8 @@ fn seen(turned: bool, value: Verdict) -> Verdict
 pub(crate) fn sweep_not(cells: &mut [Verdict], operand: usize, at: usize, size: usize)
     requires below { operand + size ≤ at }
     requires inside { at + size ≤ length cells.old }
-    ensures right { (rows : Trace) (s : FormulaTree) → AreRight cells.old operand size rows s → AreRight cells.new at size rows (negation s) }
+    ensures right { (rows : Trace) (s : FormulaTree) → AreRight cells.old operand size rows s
+        → AreRight cells.new at size rows (negation s) }
     ensures others { SameOutside cells.old cells.new at (at + size) }
 {
     for age in 0..size {
@@ -78,8 +79,8 @@ pub(crate) fn sweep_pair(
     requires first_below { first + size ≤ at }
     requires second_below { second + size ≤ at }
     requires inside { at + size ≤ length cells.old }
-    ensures right { (rows : Trace) (s t : FormulaTree) → AreRight cells.old first size rows s → AreRight cells.old second size rows t
-        → AreRight cells.new at size rows (pair kind s t) }
+    ensures right { (rows : Trace) (s t : FormulaTree) → AreRight cells.old first size rows s
+        → AreRight cells.old second size rows t → AreRight cells.new at size rows (pair kind s t) }
     ensures others { SameOutside cells.old cells.new at (at + size) }
 {
     for age in 0..size {
@@ -114,7 +115,8 @@ pub(crate) fn sweep_ahead(
     requires inside { at + size ≤ length cells.old }
     requires ordered { lower ≤ upper }
     requires small { upper ≤ 7200 }
-    ensures right { (rows : Trace) (s : FormulaTree) → size ≤ length rows → AreRight cells.old operand size rows s
+    ensures right { (rows : Trace) (s : FormulaTree) → size ≤ length rows
+        → AreRight cells.old operand size rows s
         → AreRight cells.new at size rows (span (ahead_kind turned) lower upper s) }
     ensures others { SameOutside cells.old cells.new at (at + size) }
 {
@@ -145,7 +147,8 @@ pub(crate) fn sweep_until(
     requires inside { at + size ≤ length cells.old }
     requires ordered { lower ≤ upper }
     requires small { upper ≤ 7200 }
-    ensures right { (rows : Trace) (s t : FormulaTree) → size ≤ length rows → AreRight cells.old first size rows s → AreRight cells.old second size rows t
+    ensures right { (rows : Trace) (s t : FormulaTree) → size ≤ length rows
+        → AreRight cells.old first size rows s → AreRight cells.old second size rows t
         → AreRight cells.new at size rows (link U lower upper s t) }
     ensures others { SameOutside cells.old cells.new at (at + size) }
 {
@@ -171,8 +174,9 @@ pub(crate) fn sweep_until(
 /// One row more: the values of a formula that looks no position ahead move on by a position, and the last row has this one.
 pub(crate) fn sweep_now(cells: &mut [Verdict], value: Verdict, at: usize, size: usize)
     requires inside { at + size ≤ length cells.old }
-    ensures right { (rows : Trace) (row : Atom → Verdict) (t : FormulaTree) → reach_of t ≡ 0 → size ≤ length rows + 1
-        → AreRight cells.old at (size - 1) rows t → value ≡ value_in (rows ++ row ∷ []) t (length rows)
+    ensures right { (rows : Trace) (row : Atom → Verdict) (t : FormulaTree) → reach_of t ≡ 0
+        → size ≤ length rows + 1 → AreRight cells.old at (size - 1) rows t
+        → value ≡ value_in (rows ++ row ∷ []) t (length rows)
         → AreRight cells.new at size (rows ++ row ∷ []) t }
     ensures others { SameOutside cells.old cells.new at (at + size) }
 {

@@ -75,7 +75,7 @@ pub(crate) fn old_at(was: &[Verdict], age: usize) -> Verdict
     }
 }
 
-/// So many values of which none is known.
+/// Returns this number of values, none of them known.
 pub(crate) fn all_open(alloc: Global, count: usize) -> Result<Vec<Verdict>, Memory>
     ensures { IfOk result (λ values. length values.items ≡ count) }
 {

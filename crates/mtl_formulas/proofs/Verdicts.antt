@@ -71,7 +71,7 @@ least_over-alike : (f : ℕ → Verdict) (start start' count count' : ℕ) → c
 least_over-alike f start start' zero count' is same = ap (least_over f start') is
 least_over-alike f start start' (suc count) count' is same = ap₂ (least_over f) (same (omega arith)) is
 
--- The positions back to the distance that a loop ended at are all, where the first position ends them too.
+-- The positions back to the distance that a loop ended at are all, if the first position ends them too.
 pub greatest_over-past : (f : ℕ → Verdict) (i lower upper distance : ℕ) (now : Verdict) → lower ≤ upper → lower ≤ distance
     → min upper i + 1 ≤ distance → (lower ≤ min upper i + 1 → distance ≤ min upper i + 1)
     → now ≡ greatest_over f ((i + 1) - distance) (((i + 1) - lower) - ((i + 1) - distance)) → now ≡ greatest_over f (past_start i upper) (past_count i lower upper)

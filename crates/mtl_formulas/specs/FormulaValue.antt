@@ -13,12 +13,12 @@ use Rattle.mtl_formulas.specs.declared.formula.LinkKind.TheVariants.{U, S}
 use Rattle.mtl_formulas.specs.VerdictOrder.{turned_round, least, greatest}
 use Rattle.mtl_formulas.specs.FormulaTree.{FormulaTree, leaf, negation, pair, span, link}
 
--- the greatest value at count positions from start on: No where there is none
+-- the greatest value at count positions from start on: No if there is none
 abbrev pub greatest_over : (ℕ → Verdict) → ℕ → ℕ → Verdict
 greatest_over f start zero = No
 greatest_over f start (suc count) = greatest (f start) (greatest_over f (start + 1) count)
 
--- the least value at count positions from start on: Yes where there is none
+-- the least value at count positions from start on: Yes if there is none
 abbrev pub least_over : (ℕ → Verdict) → ℕ → ℕ → Verdict
 least_over f start zero = Yes
 least_over f start (suc count) = least (f start) (least_over f (start + 1) count)
@@ -52,7 +52,7 @@ link_value U l u a b i = greatest_over (λ k. least (b k) (least_over a i (k - i
 link_value S l u a b i = greatest_over (λ k. least (b k) (least_over a (k + 1) (i - k))) (past_start i u) (past_count i l u)
 
 module _ {A : Type 0} (answer : A → Atom → Verdict) (rows : List A) where
-  -- what the row at a position answers, and Open where there is none
+  -- what the row at a position answers, and Open if there is none
   abbrev pub answer_at : Atom → Option A → Verdict
   answer_at a None = Open
   answer_at a (Some row) = answer row a

@@ -1,4 +1,4 @@
--- What one look at a position tells of its answers.
+-- What one look at a position shows of its answers.
 use Rattle.std.specs.Prelude.{◌≡◌, Option, Some, None, IfSome}
 use Rattle.mtl_formulas.specs.declared.atom.Atom.{Atom}
 use Rattle.mtl_formulas.specs.declared.atom.Atom.TheVariants.{Always, Seen, Opening, Clear, Close, OtherOnPort, Ahead}
@@ -28,13 +28,13 @@ unseen_answer OtherOnPort = Open
 unseen_answer Ahead = Open
 unseen_answer _ = No
 
--- the answer to an atom, where the glance tells it
+-- the answer to an atom, if the glance shows it
 abbrev pub told_by : Glance → Atom → Option Verdict
 told_by Nothing atom = None
 told_by Apart atom = apart_answer atom
 told_by Unseen atom = Some (unseen_answer atom)
 told_by Beyond atom = Some Open
 
--- The answers are those that the glance tells.
+-- The answers are those that the glance shows.
 abbrev pub IsTold : Glance → (Atom → Verdict) → Type 0
 IsTold glance answers = (atom : Atom) → IfSome (told_by glance atom) (λ verdict. answers atom ≡ verdict)

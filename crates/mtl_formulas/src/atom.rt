@@ -32,13 +32,13 @@ pub enum Atom {
     Passing,
     /// Engaged, and of no other kind.
     Unclassified,
-    /// Engaged for at least so many seconds, 0 to 7200.
+    /// Engaged for at least this many seconds, 0 to 7200.
     Age(u32),
     /// The distance does not shrink.
     Opening,
-    /// The step is separated by so many metres, 0 to 100,000.
+    /// The step is separated by this many metres, 0 to 100,000.
     Clear(u32),
-    /// The vessels are nearer than so many metres, 0 to 100,000.
+    /// The vessels are nearer than this many metres, 0 to 100,000.
     Close(u32),
     /// The other is on the subject's port side.
     OtherOnPort,
@@ -77,7 +77,7 @@ pub trait Atoms {
         requires { IsValidAtom atom }
         ensures { result ≡ answer self.now atom };
 
-    /// What a glance tells of the answers, so that not each atom is to be asked.
+    /// What a glance shows of the answers: it saves asking for each atom.
     fn glance(&self) -> Glance
         ensures { IsTold result (answer self.now) }
     {

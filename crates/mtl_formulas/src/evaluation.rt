@@ -14,7 +14,7 @@ use crate::verdict::Verdict;
 /// The value of a formula at position `i` of the trace `rows`, whose position 0 is the first row: metric temporal logic
 /// after Koymans (1990), read with three values. At the trace's end and beyond every formula is `Open`.
 ///
-/// Each operator over an interval asks its operands anew at each position of the interval.
+/// Each operator over an interval evaluates its operands again at each position of the interval.
 #[cycle(evaluation)]
 pub fn value<A: Atoms>(formula: &Formula, rows: &[A], i: usize) -> Verdict
     requires { IsValid (tree_of formula.now) }
@@ -32,12 +32,13 @@ pub fn value<A: Atoms>(formula: &Formula, rows: &[A], i: usize) -> Verdict
     }
 }
 
-/// The value of an operator without an interval. The second operand is asked only where the first one leaves the value open to it.
+/// The value of an operator without an interval. The second operand is asked only if the first one leaves the value open to it.
 #[cycle(evaluation)]
 fn pair_value<A: Atoms>(kind: PairKind, a: &Formula, b: &Formula, rows: &[A], i: usize) -> Verdict
     requires valid_a { IsValid (tree_of a.now) }
     requires valid_b { IsValid (tree_of b.now) }
-    ensures { result ≡ pair_value kind (value_of A.answer rows.now (tree_of a.now) i) (value_of A.answer rows.now (tree_of b.now) i) }
+    ensures { result ≡ pair_value kind (value_of A.answer rows.now (tree_of a.now) i)
+        (value_of A.answer rows.now (tree_of b.now) i) }
 {
     let first = value(a, rows, i);
     match (kind, first) {
@@ -99,7 +100,7 @@ fn link_value<A: Atoms>(
     }
 }
 
-/// The value at so many positions ahead of `i`. The trace's end stands for all that lies beyond it.
+/// The value at this many positions ahead of `i`. The trace's end stands for all that lies beyond it.
 #[cycle(evaluation)]
 fn value_ahead<A: Atoms>(formula: &Formula, rows: &[A], i: usize, distance: u32) -> Verdict
     requires { IsValid (tree_of formula.now) }

@@ -1,10 +1,10 @@
-//! What one look at a position tells of its answers.
+//! What one look at a position shows of its answers.
 ghost use Rattle.std.specs.Prelude.{◌≡◌, is_none};
 ghost use Rattle.mtl_formulas.specs.Glances.{apart_answer, told_by};
 
 use crate::atom::Atom;
 
-/// What a glance at a position tells of its answers.
+/// What a glance at a position shows of its answers.
 #[derive(Clone, Copy, PartialEq, Eq)]
 pub enum Glance {
     /// Each atom is to be asked.

@@ -1,4 +1,4 @@
-//! Laws of values, which stand over the definitions alone. A row of a trace is here what it answers to each atom.
+//! Laws of values, which follow from the definitions alone. A row of a trace is here what it answers to each atom.
 ghost use Rattle.std.specs.Prelude.{◌≡◌, ◌≢◌, ℕ, ◌+◌, ◌≤◌, List, ◌++◌, slice_get, map};
 ghost use Rattle.mtl_formulas.specs.declared.atom.Atom.{Atom};
 ghost use Rattle.mtl_formulas.specs.declared.verdict.Verdict.{Verdict};

@@ -2,10 +2,10 @@
 //! Systems 2, 1990) over discrete positions, with bounded closed intervals and three values: the tree, its
 //! measures and its plain meaning over a trace.
 //!
-//! A position is a step of one tick, so at a tick of 10 seconds `F[0,20] risk` looks at the positions `i`, `i + 1` and
+//! A position is a step of one tick, so at a tick of 10 seconds `F[0,20] risk` covers the positions `i`, `i + 1` and
 //! `i + 2`. Over a trace of four positions without risk its values are No at 0, No at 1, and Open at 2 and 3, where the
 //! window passes the trace's end and the answer is not yet known.
-//! What texts mean has no place here: `mtl_language` reads and prints them.
+//! What texts mean is out of scope: `mtl_language` reads and prints them.
 #![tactic(auto)]
 
 mod atom;

@@ -5,11 +5,11 @@
 /// A three-valued reading of Koymans' logic (1990): No and Yes are what every longer trace says too.
 #[derive(Clone, Copy, Debug, Default, PartialEq, Eq, PartialOrd, Ord)]
 pub enum Verdict {
-    /// The formula does not hold, however the trace goes on.
+    /// The formula does not hold, however the trace continues.
     No,
     /// The trace does not yet decide.
     #[default]
     Open,
-    /// The formula holds, however the trace goes on.
+    /// The formula holds, however the trace continues.
     Yes,
 }

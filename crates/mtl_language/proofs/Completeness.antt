@@ -42,7 +42,7 @@ run-skip : (e : Expected) (w : List PostfixItem) (σ : List Expected) (ts : List
 run-skip e w σ [] h p = rw h refl
 run-skip e w σ (t ∷ ts) h p = rw (p, h) (run_on-written w (taken t σ) (λ next. run next ts))
 
--- the same, where nothing is written
+-- the same, if nothing is written
 run-pass : (e : Expected) (σ : List Expected) (ts : List Token) → left_out e ≡ Some [] → Passes e ts → run (e ∷ σ) ts ≡ run σ ts
 run-pass e σ ts h p = run-skip e [] σ ts h p ∙ sym (left_with-none (run σ ts))
 

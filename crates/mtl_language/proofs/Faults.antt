@@ -1,4 +1,4 @@
--- Where the parser finds a wrong token, and nowhere else, the grammar has one.
+-- The parser finds a wrong token exactly where the grammar has one.
 use Rattle.std.proofs.Common.{◌≡◌, ℕ, List, [], ◌∷◌, ◌++◌, refl, sym, ◌∙◌, ap, subst, append_assoc, Option, Some, None, Result, Ok, Err, ◌⊎◌, inl, inr}
 use Rattle.std.proofs.lemmas.List.{append-nil, map-append}
 use Rattle.mtl_language.specs.declared.tokens.Token.{Token}
@@ -162,7 +162,7 @@ read_before-err : (w : List PostfixItem) (r : Result (List PostfixItem) ℕ) (in
 read_before-err w (Ok c) index h = cc
 read_before-err w (Err q) index h = h
 
--- Where reading answers an index, the tokens stop there.
+-- If reading answers an index, the tokens stop there.
 read_stops : (end : ℕ) (before : List IndexedToken) (σ : List Expected) (ps : List IndexedToken) (index : ℕ) →
     Reached (kinds before) σ → read end σ ps ≡ Err index → Stops end (before ++ ps) index
 unfolding Stops
@@ -194,7 +194,7 @@ read_stops end before σ (p ∷ ps) index h is = by_cases (taken p.token σ) ref
     by_cases (Some a) e stop rest =
         rw append_assoc at (rest a.0 (rw kinds-append (reached_more (kinds before) σ p.token a h e)) (read_before-err a.1 (read end a.0 ps) index stop))
 
--- Where the tokens stop, reading answers that index.
+-- If the tokens stop, reading answers that index.
 stop_read : (end : ℕ) (xs : List Token) (σ : List Expected) (before : List IndexedToken) (w : IndexedToken) (after : List IndexedToken) →
     Reached xs σ → BeginsFormula (xs ++ kinds before) → (BeginsFormula ((xs ++ kinds before) ++ w.token ∷ []) → ⊥) → read end σ (before ++ w ∷ after) ≡ Err w.index
 stop_read end xs σ [] w after h right none = by_cases (taken w.token σ) refl

@@ -1,4 +1,4 @@
--- A text has one meaning, and the parser's outcome tells it.
+-- A text has one meaning, and the parser returns it.
 use Rattle.std.proofs.Common.{◌≡◌, ℕ, ◌≤◌, ◌<◌, ◌⊎◌, List, [], ◌∷◌, length, refl, sym, ◌∙◌, ap, Option, Some, None, Result, Ok, Err, arith, inl, inr}
 use Rattle.std.specs.Prelude.{IfSome, IfOk}
 use Rattle.std.proofs.lemmas.Bool.{cases_lt}
@@ -67,7 +67,7 @@ module _ (text : List ℕ) (tick : ℕ) where
   only_answer None h m k = tt
   only_answer (Some n) h m k = one_meaning n m h k
 
-  -- what can be built where no number is refused
+  -- what can be built if no number is refused
   pub can_build : (c : List PostfixItem) → outcome text ≡ Ok c → refused_indices tick [] (tokens_of text) ≡ [] → 1 ≤ tick →
       (t : FormulaTree) × (c ≡ postfix_of t) × HasValidParts (in_positions tick t)
   can_build c is none some =

@@ -1,4 +1,4 @@
--- The loops of the parser keep what is said of all that was expected at their start.
+-- The loops of the parser keep every property of what was expected at their start.
 use Rattle.std.proofs.Common.{◌≡◌, true, false, List, [], ◌∷◌, ◌++◌, reverse, refl, sym, ◌∙◌, ap, append_assoc, Option, Some, None, length, ◌<◌, arith}
 use Rattle.std.proofs.lemmas.List.{reverse-append, reverse-reverse, append-nil, length_push}
 use Rattle.mtl_language.specs.declared.tokens.Token.{Token}

@@ -16,7 +16,7 @@ read_before-twice : (v w : List PostfixItem) (r : Result (List PostfixItem) ℕ)
 read_before-twice v w (Ok c) = ap Ok (sym (append_assoc v w c))
 read_before-twice v w (Err p) = refl
 
--- where memory ran out, nothing more is said
+-- if memory ran out, nothing more is said
 pub memory_out : (r : Result (Vec PostfixItem) ParseFault) (e : ParseFault) (outcome : Result (List PostfixItem) ℕ) → r ≡ Err e → e ≡ Memory → Arranges r outcome
 memory_out r e outcome is memory = rw (is, memory) tt
 

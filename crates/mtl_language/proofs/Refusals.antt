@@ -6,7 +6,7 @@ use Rattle.mtl_language.specs.declared.tokens.Measure.TheVariants as measures
 use Rattle.mtl_language.specs.declared.tokens.IndexedToken.{IndexedToken}
 use Rattle.mtl_language.specs.FormulaReading.{is_refused, is_refused_token, refused_indices}
 
--- the nearest token, where there is one
+-- the nearest token, if there is one
 abbrev pub nearest : List Token → Token
 nearest [] = tokens.Wrong
 nearest (t ∷ ts) = t

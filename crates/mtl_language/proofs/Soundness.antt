@@ -21,7 +21,7 @@ use Rattle.mtl_language.specs.FormulaGrammar.{unary, middle, conjunction, disjun
 use Rattle.mtl_language.specs.Inner.Postfix.{After, postfix_of, bounded_item, formula_and, replacement, left_out, taken_or_left, taken, left_with, all_left_out, at_start}
 
 -- Stands e ts c after: the tokens ts begin with what is expected, and c is written for it; the tokens after follow it.
--- A rest stands where it goes on with every phrase that ends where it begins.
+-- A rest stands if it continues with every phrase that ends where it begins.
 pub data Stands : Expected → List Token → List PostfixItem → List Token → Type 0 where
   operand : {ts after : List Token} {t : FormulaTree} → Phrase unary ts t after → Stands expected.Operand ts (postfix_of t) after
   link_rest : {ts after : List Token} {c : List PostfixItem} →
@@ -221,7 +221,7 @@ gives_append (e ∷ new) σ ts c after (first {mid = m} {c = d₁} {d = d₂} h 
     let (mid, d, f, front, back, same) = gives_append new σ m d₂ after g in
     (mid, d₁ ++ d, f, first h front, back, ap (λ (x : List PostfixItem). d₁ ++ x) same ∙ sym (append_assoc d₁ d f))
 
--- what is expected after a token goes on with what was expected before it
+-- what is expected after a token continues with what was expected before it
 abbrev pub Follows : Option After → List Expected → Token → Type 0
 Follows None σ t = Unit {0}
 Follows (Some a) σ t = (ts : List Token) (c : List PostfixItem) (after : List Token) → Gives a.0 ts c after → Gives σ (t ∷ ts) (a.1 ++ c) after
@@ -239,7 +239,7 @@ follows t (e ∷ σ) = by_cases (replacement e t) (left_out e) (taken t σ) (beg
     by_cases None (Some w) None b h k = tt
     by_cases None (Some w) (Some a) b h k = λ ts c after g. rw append_assoc (first (h (t ∷ ts)) (k ts c after g))
 
--- where all may be left out, nothing need follow
+-- if all may be left out, nothing need follow
 abbrev pub Ends : Option (List PostfixItem) → List Expected → Type 0
 Ends None σ = Unit {0}
 Ends (Some w) σ = (ts : List Token) → Gives σ ts w ts

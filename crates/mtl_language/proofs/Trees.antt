@@ -42,7 +42,7 @@ all_built-postfix tick (link kind l u s t) ws σ =
 pub all_built-tree : (tick : ℕ) (t : FormulaTree) → all_built tick (postfix_of t) [] ≡ Some (in_positions tick t ∷ [])
 all_built-tree tick t = ap (λ xs. all_built tick xs []) (sym (append-nil (postfix_of t))) ∙ all_built-postfix tick t [] []
 
--- The postfix form tells the tree.
+-- The postfix form determines the tree.
 pub same_tree : (tick : ℕ) (s t : FormulaTree) → postfix_of s ≡ postfix_of t → in_positions tick s ≡ in_positions tick t
 same_tree tick s t h =
     let both : Some (in_positions tick s ∷ []) ≡ Some (in_positions tick t ∷ []) =
@@ -63,7 +63,7 @@ length-postfix tick (link kind l u s t) =
     let one = length-append (postfix_of t) (postfix.Link kind l u ∷ []) in
     omega (arith, length-postfix tick s, length-postfix tick t)
 
--- a part of a tree is no deeper, no larger, reaches no further, and is valid where the tree is
+-- a part of a tree is no deeper, no larger, reaches no further, and is valid if the tree is
 pub record IsPart (x t : FormulaTree) : Type 0 where
   pub depth : depth_of x ≤ depth_of t
   pub nodes : node_count x ≤ node_count t
@@ -92,7 +92,7 @@ part_link_left kind l u x y t h = record { depth = omega arith; nodes = omega ar
 part_link_right : (kind : LinkKind) (l u : ℕ) (x y t : FormulaTree) → IsPart (link kind l u x y) t → IsPart y t
 part_link_right kind l u x y t h = record { depth = omega arith; nodes = omega arith; reach = omega arith; valid = λ v. (h.valid v).3 }
 
--- Where the items that are left make one tree, all that was built is part of it.
+-- If the items that are left make one tree, all that was built is part of it.
 pub parts_of : (tick : ℕ) (ws : List PostfixItem) (σ : List FormulaTree) (t : FormulaTree) → all_built tick ws σ ≡ Some (t ∷ []) → AreParts σ t
 parts_of tick [] σ t h =
     let one : σ ≡ t ∷ [] = cc in

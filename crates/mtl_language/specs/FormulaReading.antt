@@ -1,4 +1,4 @@
--- What a text means at a tick of so many seconds: a tree, or one fault.
+-- What a text means at a tick of this many seconds: a tree, or one fault.
 use Rattle.std.specs.Prelude.{ℕ, ◌≡◌, ◌<◌, ◌≤◌, ◌/◌, ◌%◌, Bool, false, ◌==◌, not, ◌||◌, nat_lt, if◌then◌else◌, List, [], ◌∷◌, ◌++◌, length, ◌⊎◌, Option, Some, None, Result, Ok, Err}
 use Rattle.mtl_formulas.specs.declared.formula.Formula.{Formula}
 use Rattle.mtl_language.specs.declared.parsing.ParseFault.{ParseFault}
@@ -12,12 +12,12 @@ use Rattle.mtl_formulas.specs.FormulaMeasures.{depth_of, node_count, reach_of}
 use Rattle.mtl_language.specs.FormulaTokens.{tokens_of, kinds}
 use Rattle.mtl_language.specs.FormulaGrammar.{IsFormula, BeginsFormula}
 
--- Seconds are refused above 7200 and where they are no multiple of the tick.
+-- Seconds are refused above 7200 and if they are no multiple of the tick.
 abbrev pub is_refused_time : ℕ → ℕ → Bool
 is_refused_time tick seconds = nat_lt 7200 seconds || not (seconds % tick == 0)
 
 -- Whether a number is refused, by the tokens before it, the nearest first: it is a lower bound after [, an upper bound after a
--- comma, and refused there where it is less than the lower one; in parentheses it is in seconds after `age`, else in metres.
+-- comma, and refused there if it is less than the lower one; in parentheses it is in seconds after `age`, otherwise in metres.
 abbrev pub is_refused : ℕ → List Token → ℕ → Bool
 is_refused tick (tokens.OpenBounds ∷ before) n = is_refused_time tick n
 is_refused tick (tokens.Comma ∷ tokens.Number l ∷ before) n = is_refused_time tick n || nat_lt n l
@@ -66,7 +66,7 @@ pub record IsUnfinished (ps : List IndexedToken) : Type 0 where
   pub right : BeginsFormula (kinds ps)
   pub none : (t : FormulaTree) → IsFormula (kinds ps) t → ⊥
 
--- The text is no formula: the index of the first wrong token, or the text's length where none is wrong.
+-- The text is no formula: the index of the first wrong token, or the text's length if none is wrong.
 abbrev pub IsSyntaxFault : List ℕ → ℕ → Type 0
 IsSyntaxFault text index = IsFirstWrong (tokens_of text) index ⊎ IsUnfinished (tokens_of text) × (index ≡ length text)
 
@@ -102,7 +102,7 @@ pub record HasOneMeaning (text : List ℕ) (tick : ℕ) : Type 0 where
   pub right : IsMeaning text tick meaning
   pub only : (other : Meaning) → IsMeaning text tick other → other ≡ meaning
 
--- the meaning that was answered; none where memory ran out
+-- the meaning that was answered; none if memory ran out
 abbrev pub answered : Result Formula ParseFault → Option Meaning
 answered (Ok f) = Some (tree (tree_of f))
 answered (Err (faults.Syntax index)) = Some (syntax_fault index)

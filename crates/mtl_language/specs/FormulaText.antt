@@ -1,4 +1,4 @@
--- The text of a formula, with its bounds in seconds at a tick of so many seconds.
+-- The text of a formula, with its bounds in seconds at a tick of this many seconds.
 use Rattle.std.specs.Prelude.{ℕ, ◌*◌, List, [], ◌++◌, Option, Some, None, codes}
 use Rattle.std.specs.Fmt.{decimal}
 use Rattle.mtl_formulas.specs.declared.atom.Atom.{Atom}
@@ -15,7 +15,7 @@ abbrev pub argument_text : Option ℕ → List ℕ
 argument_text None = []
 argument_text (Some n) = codes "(" ++ decimal n ++ codes ")"
 
--- the word, and the number in parentheses where there is one
+-- the word, and the number in parentheses if there is one
 abbrev pub atom_text : Atom → List ℕ
 atom_text a = word_of a ++ argument_text (atom_number a)
 

@@ -86,7 +86,7 @@ run_token (b ∷ bs) =
     else if bytes_eq (b ∷ bs) (codes "->") then tokens.Pair Implies
     else sign_token b
 
--- The tokens of a text that stands at an index, after so many bytes of a token before. Spaces stand between tokens.
+-- The tokens of a text at an index, after this many bytes of an earlier token. Spaces separate tokens.
 abbrev pub tokens_from : ℕ → ℕ → List ℕ → List IndexedToken
 tokens_from behind index [] = []
 tokens_from (suc behind) index (b ∷ bs) = tokens_from behind (index + 1) bs

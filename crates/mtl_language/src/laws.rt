@@ -1,4 +1,4 @@
-//! The law of texts, which stands over the definitions alone.
+//! The law of texts, which follows from the definitions alone.
 ghost use Rattle.std.specs.Prelude.{ℕ, List};
 ghost use Rattle.mtl_language.specs.FormulaReading.{HasOneMeaning};
 

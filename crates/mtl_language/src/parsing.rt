@@ -17,8 +17,8 @@ use std::fmt;
 /// Why a text gives no formula. The number is the index of a byte of the text, counted from 0.
 #[derive(Clone, Copy, Debug, PartialEq, Eq)]
 pub enum ParseFault {
-    /// The text is no formula. The byte is the first of the first token with which no formula goes on; or it is the text's
-    /// length, 0 to 1024, where the text ends too early.
+    /// The text is no formula. The byte is the first of the first token with which no formula continues; or it is the
+    /// text's length, 0 to 1024, if the text ends too early.
     Syntax(usize),
     /// The text is a formula. The byte is the first of its first refused number: metres above 100,000, seconds above 7200 or
     /// between ticks, an upper bound below the lower one.
@@ -96,7 +96,8 @@ impl From<Memory> for ParseFault {
 /// stand before, between and after the tokens. The operators are those of metric temporal logic (Koymans 1990) with bounded
 /// closed intervals; their letters are the usual ones.
 ///
-/// A wrong token is told before a refused number, and that before the size. At want of memory nothing is kept.
+/// A wrong token is reported before a refused number, and that before the size. If memory runs out, nothing is
+/// kept.
 pub fn parse(alloc: Global, text: &[u8], tick: u32) -> Result<Formula, ParseFault>
     requires text { length text.now ≤ 1024 }
     requires tick { IsTick tick }

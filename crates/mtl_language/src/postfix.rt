@@ -60,7 +60,7 @@ pub(crate) enum Expected {
     ShutNumber(Atom),
 }
 
-/// The postfix form of a formula, or the index where the tokens are wrong: `end` where none is wrong and
+/// The postfix form of a formula, or the index at which the tokens are wrong: `end` if none is wrong and
 /// they end too early.
 pub(crate) fn arrange(
     alloc: Global,
@@ -97,7 +97,7 @@ fn expect_formula(stack: &mut Vec<Expected>) -> Result<(), AllocError>
     Ok(())
 }
 
-/// Leaves things out until one takes the token. False where the token is wrong.
+/// Leaves things out until one takes the token. False if the token is wrong.
 fn offer(
     stack: &mut Vec<Expected>,
     postfix: &mut Vec<PostfixItem>,
@@ -118,10 +118,11 @@ fn offer(
     Ok(false)
 }
 
-/// Leaves out all that is expected. False where something may not be left out.
+/// Leaves out all that is expected. False if something may not be left out.
 fn finish(stack: &mut Vec<Expected>, postfix: &mut Vec<PostfixItem>) -> Result<bool, AllocError>
-    ensures { IfOk result (λ found.
-        LeavesOut found (all_left_out (reverse stack.old.items)) postfix.old.items postfix.new.items) }
+    ensures { IfOk result
+        (λ found. LeavesOut found
+        (all_left_out (reverse stack.old.items)) postfix.old.items postfix.new.items) }
 {
     while let Some(expected) = stack.pop() {
         if !leave_out(postfix, expected)? {
@@ -131,7 +132,7 @@ fn finish(stack: &mut Vec<Expected>, postfix: &mut Vec<PostfixItem>) -> Result<b
     Ok(true)
 }
 
-/// Leaves out a thing expected, and writes its item. False where it may not be left out.
+/// Leaves out a thing expected, and writes its item. False if it may not be left out.
 fn leave_out(postfix: &mut Vec<PostfixItem>, expected: Expected) -> Result<bool, AllocError>
     ensures { IfOk result (λ found.
         LeavesOut found (left_out expected) postfix.old.items postfix.new.items) }
@@ -148,7 +149,7 @@ fn leave_out(postfix: &mut Vec<PostfixItem>, expected: Expected) -> Result<bool,
     }
 }
 
-/// Replaces a thing expected by what is expected after the token. False where the token does not begin it.
+/// Replaces a thing expected by what is expected after the token. False if the token does not begin it.
 fn replace(stack: &mut Vec<Expected>, expected: Expected, token: Token) -> Result<bool, AllocError>
     ensures { IfOk result (λ found.
         Replaces found (replacement expected token) stack.old.items stack.new.items) }

@@ -14,7 +14,7 @@ use std::fmt::Write;
 
 /// The text of a formula, with its bounds in seconds at a tick of 1 to 60 seconds: an atom as its word, `!` before its
 /// operand, `F[0,20] a`, and the operators of two operands in parentheses with spaces, as `(a U[0,20] b)`. A formula that
-/// some text means at this tick is parsed from it again as the same tree, where it has at most 1024 bytes.
+/// some text means at this tick is parsed from it again as the same tree, if it has at most 1024 bytes.
 pub fn print(alloc: Global, formula: &Formula, tick: u32) -> Result<Vec<u8>, Memory>
     requires valid { IsValid (tree_of formula.now) }
     requires tick { IsTick tick }
@@ -107,8 +107,10 @@ fn write_link(
 ) -> Result<(), AllocError>
     requires parts { HasValidParts (link kind lower upper (tree_of a.now) (tree_of b.now)) }
     requires tick { tick ≤ 60 }
-    ensures { OnOk result (string_bytes out.new ≡
-        string_bytes out.old ++ text_of tick (link kind lower upper (tree_of a.now) (tree_of b.now))) }
+    ensures { OnOk result
+        (string_bytes out.new
+        ≡ string_bytes out.old
+        ++ text_of tick (link kind lower upper (tree_of a.now) (tree_of b.now))) }
 {
     out.push_str("(")?;
     write_formula(out, a, tick)?;

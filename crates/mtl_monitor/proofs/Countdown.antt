@@ -12,7 +12,8 @@ use Rattle.mtl_formulas.proofs.Verdicts.{greatest_over-suc}
 use Rattle.mtl_monitor.specs.Inner.Steps.{sensed}
 use Rattle.mtl_monitor.specs.Inner.Standing.{IsTimed}
 use Rattle.mtl_monitor.specs.declared.left.Left.{Left}
-use Rattle.mtl_monitor.specs.Inner.Countdown.{left_after, left_beyond, left_value, Lasts}
+use Rattle.mtl_monitor.specs.Inner.Countdown.{Lasts}
+use Rattle.mtl_monitor.specs.WindowCounts.{left_after, left_beyond, left_value}
 use Rattle.mtl_monitor.proofs.Windows.{least_over-turned}
 
 abbrev graded : Bool → Bool → Verdict
@@ -40,7 +41,7 @@ ran_down w d y h = elim (cases_lt (w - d) y) [
   | inr none ↦ le-ltb (w - (d + 1)) (y - 1) (omega arith) ∙ sym (le-ltb (w - d) y none)
 ]
 
-after-one : (s : Left) (w d : ℕ) (v : Verdict) → d + 1 ≤ w → left_beyond (left_after s w v) (w - (d + 1)) ≡ greatest (left_beyond s (w - d)) v
+pub after-one : (s : Left) (w d : ℕ) (v : Verdict) → d + 1 ≤ w → left_beyond (left_after s w v) (w - (d + 1)) ≡ greatest (left_beyond s (w - d)) v
 after-one s w d No h = rw (ran_down w d s.yes h, ran_down w d s.some h) (graded-no (nat_lt (w - d) s.yes) (nat_lt (w - d) s.some))
 after-one s w d Open h =
     let here : nat_lt (w - (d + 1)) w ≡ true = lt-ltb _ _ (omega arith) in
@@ -49,20 +50,20 @@ after-one s w d Yes h =
     let here : nat_lt (w - (d + 1)) w ≡ true = lt-ltb _ _ (omega arith) in
     rw here (graded-yes (nat_lt (w - d) s.yes) (nat_lt (w - d) s.some))
 
-beyond_all : (s : Left) (w : ℕ) → s.yes ≤ w → s.some ≤ w → left_beyond s w ≡ No
+pub beyond_all : (s : Left) (w : ℕ) → s.yes ≤ w → s.some ≤ w → left_beyond s w ≡ No
 beyond_all s w h k = rw (le-ltb w s.yes h, le-ltb w s.some k)
 
-yes_still : (s : Left) (w : ℕ) (v : Verdict) → s.yes ≤ w → (left_after s w v).yes ≤ w
+pub yes_still : (s : Left) (w : ℕ) (v : Verdict) → s.yes ≤ w → (left_after s w v).yes ≤ w
 yes_still s w No h = omega arith
 yes_still s w Open h = omega arith
 yes_still s w Yes h = omega arith
 
-some_still : (s : Left) (w : ℕ) (v : Verdict) → s.some ≤ w → (left_after s w v).some ≤ w
+pub some_still : (s : Left) (w : ℕ) (v : Verdict) → s.some ≤ w → (left_after s w v).some ≤ w
 some_still s w No h = omega arith
 some_still s w Open h = omega arith
 some_still s w Yes h = omega arith
 
-graded_still : (s : Left) (w : ℕ) (v : Verdict) → s.yes ≤ w → s.yes ≤ s.some → (left_after s w v).yes ≤ (left_after s w v).some
+pub graded_still : (s : Left) (w : ℕ) (v : Verdict) → s.yes ≤ w → s.yes ≤ s.some → (left_after s w v).yes ≤ (left_after s w v).some
 graded_still s w No fits h = omega arith
 graded_still s w Open fits h = omega arith
 graded_still s w Yes fits h = omega arith

@@ -10,11 +10,12 @@ use Rattle.mtl_formulas.specs.VerdictOrder.{turned_round, least, greatest}
 use Rattle.mtl_formulas.specs.FormulaValue.{greatest_over, least_over, link_value}
 use Rattle.mtl_formulas.proofs.Verdicts.{least_over-suc, greatest_over-same}
 use Rattle.mtl_monitor.specs.declared.left.Left.{Left}
-use Rattle.mtl_monitor.specs.Inner.Countdown.{left_after, left_beyond, left_value, left_under, Lasts, held_at}
+use Rattle.mtl_monitor.specs.Inner.Countdown.{Lasts, held_at}
+use Rattle.mtl_monitor.specs.WindowCounts.{left_after, left_beyond, left_value, left_under}
 use Rattle.mtl_monitor.proofs.Windows.{least_over-turned}
 use Rattle.mtl_monitor.proofs.Countdown.{Lasts-after, Lasts-value}
 
-least_assoc : (u v w : Verdict) → least u (least v w) ≡ least (least u v) w
+pub least_assoc : (u v w : Verdict) → least u (least v w) ≡ least (least u v) w
 least_assoc No v w = refl
 least_assoc Yes v w = refl
 least_assoc Open No w = refl
@@ -44,7 +45,7 @@ least_greatest Yes Yes No = refl
 least_greatest Yes Yes Open = refl
 least_greatest Yes Yes Yes = refl
 
-greatest_over-least : (f : ℕ → Verdict) (v : Verdict) (start count : ℕ) → greatest_over (λ k. least (f k) v) start count ≡ least (greatest_over f start count) v
+pub greatest_over-least : (f : ℕ → Verdict) (v : Verdict) (start count : ℕ) → greatest_over (λ k. least (f k) v) start count ≡ least (greatest_over f start count) v
 greatest_over-least f v start zero = refl
 greatest_over-least f v start (suc count) =
     ap (greatest (least (f start) v)) (greatest_over-least f v (start + 1) count) ∙ least_greatest (f start) (greatest_over f (start + 1) count) v
@@ -75,22 +76,22 @@ both_tests k y o h = by_tests (nat_lt k y) (nat_lt k o) refl refl
         let most : o ≤ k = grind (arith, nat_tests) in
         absurd (omega arith)
 
-under : (s : Left) (v : Verdict) (k : ℕ) → s.yes ≤ s.some → left_beyond (left_under s v) k ≡ least (left_beyond s k) v
+pub under : (s : Left) (v : Verdict) (k : ℕ) → s.yes ≤ s.some → left_beyond (left_under s v) k ≡ least (left_beyond s k) v
 under s No k h = let none : nat_lt k 0 ≡ false = le-ltb k 0 (omega arith) in rw none (least_no (left_beyond s k))
 under s Open k h = let none : nat_lt k 0 ≡ false = le-ltb k 0 (omega arith) in rw none (both_tests k s.yes s.some h)
 under s Yes k h = least_yes (left_beyond s k)
 
-under_yes : (s : Left) (v : Verdict) (w : ℕ) → s.yes ≤ w → (left_under s v).yes ≤ w
+pub under_yes : (s : Left) (v : Verdict) (w : ℕ) → s.yes ≤ w → (left_under s v).yes ≤ w
 under_yes s No w h = omega arith
 under_yes s Open w h = omega arith
 under_yes s Yes w h = h
 
-under_some : (s : Left) (v : Verdict) (w : ℕ) → s.some ≤ w → (left_under s v).some ≤ w
+pub under_some : (s : Left) (v : Verdict) (w : ℕ) → s.some ≤ w → (left_under s v).some ≤ w
 under_some s No w h = omega arith
 under_some s Open w h = h
 under_some s Yes w h = h
 
-under_graded : (s : Left) (v : Verdict) → s.yes ≤ s.some → (left_under s v).yes ≤ (left_under s v).some
+pub under_graded : (s : Left) (v : Verdict) → s.yes ≤ s.some → (left_under s v).yes ≤ (left_under s v).some
 under_graded s No h = omega arith
 under_graded s Open h = omega arith
 under_graded s Yes h = h

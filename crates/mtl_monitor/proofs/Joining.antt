@@ -70,7 +70,7 @@ module _ (old mid rest new : List ProgramNode) (a b x y k late : ℕ) (in_a : a 
       (λ trees s t meant. (tree_at trees a, refl, λ grown same tree. meant ∙ ap₂ (link S l u) (sym tree) (sym (same b in_b))))
 
 module _ (old mid rest last new : List ProgramNode) (a b x y z k from full late : ℕ) (in_a : a < length old) (in_b : b < length old) where
-  -- both operands delayed, the first once more, and a node over them
+  -- both operands delayed, the first one again, and a node over them
   pub Gains-until : (l u : ℕ) → l ≤ u → late ≡ from + u → full ≡ from + ((u + 1) - l) → (lateness : ℕ) → (0 < l → lateness ≡ full)
       → Gains old mid x from (IsTreeAt a) → Gains mid rest y from (IsTreeAt b) → Gains rest last z lateness (IsTreeAt x)
       → Gains last new k late (IsComputed last (op.Until from full l x z y) late) → Gains old new k late (IsUntilAt l u a b)

@@ -1,4 +1,4 @@
--- Values that a glance tells.
+-- Values that a glance gives.
 use Rattle.std.proofs.Common.{◌≡◌, ◌≢◌, ℕ, ◌<◌, refl, ap, subst, sym, ◌∙◌, List, length, inl, inr}
 use Rattle.std.specs.Prelude.{Option, Some, None, IfSome}
 use Rattle.std.proofs.lemmas.Bool.{true≢false}
@@ -16,7 +16,7 @@ use Rattle.mtl_monitor.specs.Inner.Standing.{node_at}
 use Rattle.mtl_monitor.specs.Inner.Quiet.{Answers, AreAnswered}
 use Rattle.mtl_monitor.specs.Inner.Reading.{atom_at, IsListed, AreListed, AreReadable, AreRead, IsKnown, AreKnown, AreAllListed, AreToBeRead}
 
--- where nothing is told, nothing is asked of a value
+-- if a glance gives nothing, nothing is asked of a value
 pub IsKnown-nothing : (o : Operator) (v : Verdict) → IsKnown Nothing o v
 IsKnown-nothing (op.Atom a) v = tt
 IsKnown-nothing (op.Not a) v = tt
@@ -26,7 +26,7 @@ IsKnown-nothing (op.Window kind width from a) v = tt
 IsKnown-nothing (op.Since width lower from a b) v = tt
 IsKnown-nothing (op.Until from full lower a behind b) v = tt
 
--- What a row answers to a node's atom is what a glance at the row tells.
+-- What a row answers to a node's atom is what a glance at the row gives.
 known_one : (glance : Glance) (o : Operator) (row : Atom → Verdict) (v : Verdict) → IsTold glance row → Answers o row v → IsKnown glance o v
 known_one glance (op.Atom a) row v told answers = subst (λ (x : Verdict). IfSome (told_by glance a) (λ w. x ≡ w)) answers (told a)
 known_one glance (op.Not a) row v told answers = tt
@@ -43,7 +43,7 @@ AreKnown-answered glance nodes values row told answers k inside = known_one glan
 module _ (glance : Glance) (nodes : List ProgramNode) (atoms : List AtomNode) (before values : List Verdict) (row : Atom → Verdict) (n : ℕ)
     (readable : AreReadable glance nodes n atoms) (told : IsTold glance row) (read : AreRead atoms values row)
     (others : (k : ℕ) → ((j : ℕ) → j < length atoms → (atom_at atoms j).index ≢ k) → value_at values k ≡ value_at before k) where
-  -- An atom of which the glance tells keeps the value that it had, and any other is read.
+  -- An atom that the glance gives keeps the value that it had, and any other is read.
   answered_atom : (a : Atom) (k : ℕ) (answer : Option Verdict) → told_by glance a ≡ answer → (node_at nodes k).operator ≡ op.Atom a
       → IsListed glance atoms (op.Atom a) k → IsKnown glance (op.Atom a) (value_at before k) → row a ≡ value_at values k
   answered_atom a k None is here listed known =

@@ -22,7 +22,8 @@ use Rattle.mtl_monitor.specs.declared.node.ProgramNode.{ProgramNode}
 use Rattle.mtl_monitor.specs.declared.node.Kept.{Kept}
 use Rattle.mtl_monitor.specs.declared.node.Kept.TheVariants as kinds
 use Rattle.mtl_formulas.specs.Traces.{Trace, value_in}
-use Rattle.mtl_monitor.specs.Inner.Countdown.{left_after, left_value, Lasts, held_at}
+use Rattle.mtl_monitor.specs.Inner.Countdown.{Lasts, held_at}
+use Rattle.mtl_monitor.specs.WindowCounts.{left_after, left_value}
 use Rattle.mtl_monitor.specs.Inner.Steps.{value_at, sensed, ring_after, hits_under, hits_after, before_after, given, kept}
 use Rattle.mtl_monitor.specs.Inner.Standing.{tree_at, late_at, Holds, IsWindow, IsSince, IsUntil, Computes, OperandsBelow, Keeps, IsGiven, IsRow, EndsAt}
 use Rattle.mtl_monitor.proofs.Countdown.{Lasts-after, Lasts-value, Lasts-nowhere, Lasts-nowhere_after, counted}

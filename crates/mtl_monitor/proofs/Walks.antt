@@ -1,4 +1,4 @@
--- A walk through the nodes, of which those that are quiet may be left as they are.
+-- A walk through the nodes, which may leave quiet ones as they are.
 use Rattle.std.proofs.Common.{◌≡◌, ◌≢◌, ℕ, zero, suc, ◌+◌, ◌-◌, ◌<◌, ◌≤◌, ◌%◌, refl, subst, sym, ◌∙◌, arith, Bool, true, false, inl, inr, List, length, get_or-set_other, get_or-set_same, below_more}
 use Rattle.std.proofs.lemmas.Bool.Decides.{eqb_tells}
 use Rattle.std.specs.Int.{bit_at}

@@ -51,7 +51,7 @@ pub record Fits (p : Program) (s : TraceState) : Type 0 where
   pub values : length s.values.items ≡ length p.nodes.items
   pub moving : length s.moving.items ≡ length p.nodes.items
 
--- It has the room that the program takes, so it can take over any other state of which the same is true.
+-- It has the room that the program takes, so it can take over any other state that has this room too.
 abbrev pub HasRoom : Program → TraceState → Type 0
 HasRoom p s = HaveShapes p.nodes.items s.states.items
 

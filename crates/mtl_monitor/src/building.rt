@@ -25,7 +25,8 @@ fn find(nodes: &[ProgramNode], node: &ProgramNode) -> Option<usize>
 /// A node, which is put at the end if there is none like it.
 fn put(nodes: &mut Vec<ProgramNode>, operator: Operator, late: u32) -> Result<Operand, Memory>
     ensures late { IfOk result (λ o. o.late ≡ late) }
-    ensures made { IfOk result (λ o. Makes nodes.new.items o (put_of nodes.old.items operator late)) }
+    ensures made { IfOk result
+        (λ o. Makes nodes.new.items o (put_of nodes.old.items operator late)) }
 {
     let node = ProgramNode { operator, late };
     if let Some(index) = find(nodes, &node) {
@@ -127,7 +128,8 @@ fn look_since(
     requires first { a.late ≤ 7200 }
     requires second { b.late ≤ 7200 }
     ensures late { IfOk result (λ o. o.late ≡ max a.late b.late) }
-    ensures made { IfOk result (λ o. Makes nodes.new.items o (since_of nodes.old.items lower upper a b)) }
+    ensures made { IfOk result
+        (λ o. Makes nodes.new.items o (since_of nodes.old.items lower upper a b)) }
 {
     let late = a.late.max(b.late);
     let x = delayed(nodes, a, late - a.late)?;
@@ -139,7 +141,7 @@ fn look_since(
     )
 }
 
-/// How much later U takes its first operand once more: not at all where no position lies before the window.
+/// How much later U takes its first operand again: not at all if no position lies before the window.
 fn behind_window(lower: u32, width: u32) -> u32
     ensures made { result ≡ (if lower == 0 then 0 else width) }
     ensures small { result ≤ width }
@@ -160,7 +162,8 @@ fn look_until(
     requires first { a.late ≤ 7200 }
     requires second { b.late ≤ 7200 }
     ensures late { IfOk result (λ o. o.late ≡ max a.late b.late + upper) }
-    ensures made { IfOk result (λ o. Makes nodes.new.items o (until_of nodes.old.items lower upper a b)) }
+    ensures made { IfOk result
+        (λ o. Makes nodes.new.items o (until_of nodes.old.items lower upper a b)) }
 {
     let late = a.late.max(b.late);
     let width = upper - lower + 1;
@@ -179,7 +182,8 @@ fn look_until(
 pub(crate) fn add(nodes: &mut Vec<ProgramNode>, formula: &Formula) -> Result<Operand, Memory>
     requires { IsValid (tree_of formula.now) }
     ensures late { IfOk result (λ o. o.late ≡ reach_of (tree_of formula.now)) }
-    ensures made { IfOk result (λ o. Makes nodes.new.items o (compiled nodes.old.items (tree_of formula.now))) }
+    ensures made { IfOk result
+        (λ o. Makes nodes.new.items o (compiled nodes.old.items (tree_of formula.now))) }
 {
     match formula.node() {
         Node::Atom(atom) => put(nodes, Operator::Atom(atom), 0),
@@ -215,7 +219,8 @@ fn add_pair(
     b: &Formula,
 ) -> Result<Operand, Memory>
     requires { IsValid (pair kind (tree_of a.now) (tree_of b.now)) }
-    ensures late { IfOk result (λ o. o.late ≡ reach_of (pair kind (tree_of a.now) (tree_of b.now))) }
+    ensures late { IfOk result
+        (λ o. o.late ≡ reach_of (pair kind (tree_of a.now) (tree_of b.now))) }
     ensures made { IfOk result (λ o. Makes nodes.new.items o
         (compiled nodes.old.items (pair kind (tree_of a.now) (tree_of b.now)))) }
 {
@@ -256,7 +261,8 @@ fn add_link(
     b: &Formula,
 ) -> Result<Operand, Memory>
     requires { IsValid (link kind lower upper (tree_of a.now) (tree_of b.now)) }
-    ensures late { IfOk result (λ o. o.late ≡ reach_of (link kind lower upper (tree_of a.now) (tree_of b.now))) }
+    ensures late { IfOk result
+        (λ o. o.late ≡ reach_of (link kind lower upper (tree_of a.now) (tree_of b.now))) }
     ensures made { IfOk result (λ o. Makes nodes.new.items o
         (compiled nodes.old.items (link kind lower upper (tree_of a.now) (tree_of b.now)))) }
 {

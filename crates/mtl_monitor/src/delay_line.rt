@@ -58,7 +58,8 @@ fn push(ring: &mut HeapCircularBuffer<Verdict>, run: &mut Run, value: Verdict) -
     ensures value { result.value ≡ ring_value ring.old value }
     ensures ring { ring.new ≡ ring_after ring.old value }
     ensures run { run.new ≡ run_after run.old ring.old.capacity value }
-    ensures still { result.moved ≡ false → (same_verdict value run.old.value ≡ true) × (run.old.count ≡ ring.old.capacity) }
+    ensures still { result.moved ≡ false
+        → (same_verdict value run.old.value ≡ true) × (run.old.count ≡ ring.old.capacity) }
 {
     let cells = ring.capacity();
     let moved = !(is_same(value, run.value) && run.count == cells);
@@ -81,8 +82,10 @@ fn delay(
 ) -> Passed
     ensures value { result.value ≡ (if nat_lt i from then Open else ring_value ring.old value) }
     ensures ring { ring.new ≡ (if nat_lt i from then ring.old else ring_after ring.old value) }
-    ensures run { run.new ≡ (if nat_lt i from then run.old else run_after run.old ring.old.capacity value) }
-    ensures still { result.moved ≡ false → IsRun ring.old run.old → (ring.new ≡ ring.old) × (run.new ≡ run.old) }
+    ensures run { run.new
+        ≡ (if nat_lt i from then run.old else run_after run.old ring.old.capacity value) }
+    ensures still { result.moved ≡ false → IsRun ring.old run.old
+        → (ring.new ≡ ring.old) × (run.new ≡ run.old) }
 {
     if i >= from {
         push(ring, run, value)
@@ -123,11 +126,12 @@ impl Model for DelayLine {
     ghost use Rattle.std.specs.Prelude.{IfSome};
     ghost use Rattle.mtl_monitor.specs.Inner.Runs.{IsFullOf, IsRun};
 
-    ghost invariant = { λ line. IsRun line.place.value.ring line.place.value.run × IfSome line.only (IsFullOf line.place.value) };
+    ghost invariant = { λ line. IsRun line.place.value.ring line.place.value.run
+        × IfSome line.only (IsFullOf line.place.value) };
 }
 
 impl DelayLine {
-    /// The delay by so many values, of which none was read.
+    /// Returns the delay by this number of values, before the first is read.
     pub(crate) fn new(alloc: Global, cells: usize) -> Result<DelayLine, Memory>
         ensures { IfOk result (λ line. line ≡ undelayed cells) }
     {
@@ -152,7 +156,8 @@ impl DelayLine {
 
     /// Whether both are known to be full of the same value: then they are equal, if they have as many cells.
     fn is_full_alike(&self, other: &DelayLine) -> bool
-        ensures { result ≡ true → self.now.ring.capacity ≡ other.now.ring.capacity → self.now ≡ other.now }
+        ensures { result ≡ true → self.now.ring.capacity ≡ other.now.ring.capacity
+            → self.now ≡ other.now }
     {
         match (self.only, other.only) {
             (Some(value), Some(other)) => is_same(value, other),
@@ -162,7 +167,8 @@ impl DelayLine {
 
     /// Passes a value at row `i`. There is none before row `from`.
     pub(crate) fn pass(&mut self, from: u32, value: Verdict, i: u32) -> Passed
-        ensures value { result.value ≡ (if nat_lt i from then Open else ring_value self.old.ring value) }
+        ensures value { result.value
+            ≡ (if nat_lt i from then Open else ring_value self.old.ring value) }
         ensures after { self.new ≡ delayed_from self.old from value i }
         ensures still { result.moved ≡ false → self.new ≡ self.old }
     {

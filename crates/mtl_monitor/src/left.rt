@@ -1,13 +1,13 @@
 //! Counts of what a window still holds.
 ghost use Rattle.std.specs.Prelude.{◌≡◌};
-ghost use Rattle.mtl_monitor.specs.Inner.Countdown.{same_left, left_after, left_under, left_value};
+ghost use Rattle.mtl_monitor.specs.WindowCounts.{same_left, left_after, left_under, left_value};
 
 use mtl_formulas::Verdict;
 
 /// For how many values more a Yes, and a value that is not No, stay in a window: 0 where it has none. No position is named,
 /// so that equal values soon leave the counts as they are.
 #[derive(Clone, Copy)]
-pub(crate) struct Left {
+pub struct Left {
     pub yes: u32,
     pub some: u32,
 }
@@ -23,7 +23,7 @@ impl Left {
     }
 
     /// Reads one value more into a window of so many.
-    pub(crate) fn read(&mut self, value: Verdict, width: u32)
+    pub fn read(&mut self, value: Verdict, width: u32)
         ensures { self.new ≡ left_after self.old width value }
     {
         match value {
@@ -43,7 +43,7 @@ impl Left {
     }
 
     /// Lets nothing count for more than a value.
-    pub(crate) fn limit(&mut self, value: Verdict)
+    pub fn limit(&mut self, value: Verdict)
         ensures { self.new ≡ left_under self.old value }
     {
         match value {
@@ -57,7 +57,7 @@ impl Left {
     }
 
     /// The greatest value in the window.
-    pub(crate) fn value(self) -> Verdict
+    pub fn value(self) -> Verdict
         ensures { result ≡ left_value self }
     {
         if self.yes > 0 {

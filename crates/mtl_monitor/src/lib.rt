@@ -26,6 +26,7 @@ mod trace_state;
 mod triggers;
 mod verdicts;
 
+pub use left::Left;
 pub use monitor::Monitor;
 pub use program::Program;
 pub use trace_state::TraceState;

@@ -62,14 +62,17 @@ impl Monitor {
     /// The next position that is not answered, with its value over the trace that was fed; none where all are answered. It
     /// takes no memory.
     pub fn finish_next(&mut self) -> Option<(u32, Verdict)>
-        ensures begins { (t : FormulaTree) (rows : Trace) → IsFollowing self.old t rows → IsClosing self.new t rows }
-        ensures closes { (t : FormulaTree) (rows : Trace) → IsClosing self.old t rows → IsClosing self.new t rows }
+        ensures begins { (t : FormulaTree) (rows : Trace) → IsFollowing self.old t rows
+            → IsClosing self.new t rows }
+        ensures closes { (t : FormulaTree) (rows : Trace) → IsClosing self.old t rows
+            → IsClosing self.new t rows }
         ensures first { (t : FormulaTree) (rows : Trace) → IsFollowing self.old t rows →
             IsNext result t rows (answered self.old) }
         ensures answer { (t : FormulaTree) (rows : Trace) → IsClosing self.old t rows →
             IsNext result t rows (answered self.old) }
         ensures of { (t : FormulaTree) → IsMonitorOf self.old t → IsMonitorOf self.new t }
-        ensures count { answered self.old < fed_rows self.old → answered self.new ≡ answered self.old + 1 }
+        ensures count { answered self.old < fed_rows self.old
+            → answered self.new ≡ answered self.old + 1 }
         ensures stays { fed_rows self.old ≤ answered self.old → self.new ≡ self.old }
         ensures fed { fed_rows self.new ≡ fed_rows self.old }
     {
@@ -85,8 +88,10 @@ impl Monitor {
     /// Takes over what another monitor of an equal formula was fed and has answered. It takes no memory.
     pub fn copy_from(&mut self, other: &Monitor)
         requires { AreOfOneFormula self.old other.now }
-        ensures follows { (t : FormulaTree) (rows : Trace) → IsFollowing other.now t rows → IsFollowing self.new t rows }
-        ensures closes { (t : FormulaTree) (rows : Trace) → IsClosing other.now t rows → IsClosing self.new t rows }
+        ensures follows { (t : FormulaTree) (rows : Trace) → IsFollowing other.now t rows
+            → IsFollowing self.new t rows }
+        ensures closes { (t : FormulaTree) (rows : Trace) → IsClosing other.now t rows
+            → IsClosing self.new t rows }
         ensures of { (t : FormulaTree) → IsMonitorOf other.now t → IsMonitorOf self.new t }
         ensures answered { answered self.new ≡ answered other.now }
         ensures fed { fed_rows self.new ≡ fed_rows other.now }

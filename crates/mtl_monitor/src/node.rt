@@ -13,14 +13,14 @@ pub(crate) enum Operator {
     Pair(PairKind, usize, usize),
     /// The operand's value, kept for so many rows. The operand gives values from a row on.
     Late(u32, u32, usize),
-    /// The greatest or least of so many of the operand's last values, which it gives from a row on.
+    /// The greatest or least of a number of the operand's last values, which it gives from a row on.
     Window(SpanKind, u32, u32, usize),
     /// S: whether the second operand held at one of so many of its last values, and the first since then. The second
     /// operand is taken so many rows late, and gives values from a row on.
     Since(u32, u32, u32, usize, usize),
     /// U: whether the second operand holds in a window ahead, and the first until then. The operands give values from a row
     /// on, and the window is full from a second row on. So many positions lie before the window: for these the first operand
-    /// is taken once more, later by the window's width.
+    /// is taken again, later by the window's width.
     Until(u32, u32, u32, usize, usize, usize),
 }
 

@@ -1,7 +1,7 @@
 //! What an operator U keeps.
 ghost use Rattle.std.specs.Prelude.{◌≡◌, IfOk};
 ghost use Rattle.mtl_formulas.specs.VerdictOrder.{turned_round, least};
-ghost use Rattle.mtl_monitor.specs.Inner.Countdown.{left_value};
+ghost use Rattle.mtl_monitor.specs.WindowCounts.{left_value};
 ghost use Rattle.mtl_monitor.specs.Inner.Lookahead.{lookahead_value};
 ghost use Rattle.mtl_monitor.specs.Inner.Steps.{before_after, window_read};
 ghost use Rattle.mtl_monitor.specs.Inner.Starting.{unseen};
@@ -54,7 +54,8 @@ impl Outlook {
 
     /// The operands in the window, which give values from row `from` on.
     pub(crate) fn read(&mut self, from: u32, a: Verdict, b: Verdict, i: u32)
-        ensures { self.new ≡ (record { window = window_read self.old.window from a b i; bars = self.old.bars }) }
+        ensures { self.new
+            ≡ (record { window = window_read self.old.window from a b i; bars = self.old.bars }) }
     {
         let place = &mut *self.place;
         if i >= from {
@@ -64,7 +65,12 @@ impl Outlook {
 
     /// The first operand before the window.
     pub(crate) fn bar(&mut self, lower: u32, from: u32, a: Verdict, i: u32)
-        ensures { self.new ≡ (record { window = self.old.window; bars = before_after self.old.bars lower from a i }) }
+        ensures { self.new
+            ≡ (record {
+              window = self.old.window;
+              bars = before_after self.old.bars lower from a
+                  i;
+            }) }
     {
         let place = &mut *self.place;
         if i >= from {
@@ -74,7 +80,8 @@ impl Outlook {
 
     /// The value of U, once the whole window was read.
     pub(crate) fn value(&self) -> Verdict
-        ensures { result ≡ least (turned_round (left_value self.now.bars)) (lookahead_value self.now.window) }
+        ensures { result ≡ least (turned_round (left_value self.now.bars))
+            (lookahead_value self.now.window) }
     {
         let place = &*self.place;
         lesser(negated(place.bars.value()), place.window.value())

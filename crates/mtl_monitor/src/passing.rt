@@ -1,7 +1,7 @@
 //! One row through the nodes.
 ghost use Rattle.std.specs.Prelude.{◌≡◌, ◌≢◌, ◌<◌, ◌≤◌, ◌+◌, ℕ, List, true, false, nat_lt, if◌then◌else◌, length, min};
 ghost use Rattle.mtl_formulas.specs.declared.verdict.Verdict.TheVariants.{Open};
-ghost use Rattle.mtl_monitor.specs.Inner.Countdown.{left_value};
+ghost use Rattle.mtl_monitor.specs.WindowCounts.{left_value};
 ghost use Rattle.mtl_monitor.specs.Inner.Steps.{value_at, sensed, window_after, hits_under, bars_after, hits_after, given, kept};
 ghost use Rattle.mtl_monitor.specs.Inner.Standing.{AllBelow, OperandsBelow};
 ghost use Rattle.mtl_monitor.specs.Inner.Quiet.{Answers, IsAwake, flag_at, Moves, IsReached, Walked};
@@ -261,8 +261,9 @@ pub(crate) fn pass_all(
     requires states { length states.old ≡ length nodes.now }
     requires values { length values.old ≡ length nodes.now }
     requires moving { length moving.old ≡ length nodes.now }
-    ensures { (before : List Verdict) → Walked nodes.now states.old before values.old moving.old i end marks
-        states.new values.new moving.new result }
+    ensures { (before : List Verdict)
+        → Walked nodes.now states.old before values.old moving.old i end marks states.new values.new
+        moving.new result }
 {
     let mut so_far = marks;
     let mut still = true;

@@ -101,9 +101,10 @@ impl Program {
         }
     }
 
-    /// The atoms to be read at a row, by what a glance told of the row before and tells of this one.
+    /// Returns the atoms to be read at a row, by what a glance gave for the row before and gives for this one.
     pub(crate) fn to_be_read(&self, before: Glance, now: Glance) -> &[AtomNode]
-        ensures { AreToBeRead self.now.nodes.items self.now.atoms.items self.now.asked.items before now result.now }
+        ensures { AreToBeRead self.now.nodes.items self.now.atoms.items self.now.asked.items before
+            now result.now }
     {
         match (before, now) {
             (Glance::Apart, Glance::Apart) => &self.asked,
@@ -115,7 +116,8 @@ impl Program {
     /// How many formulas.
     pub fn formula_count(&self) -> usize
         ensures count { result ≡ count_of self.now }
-        ensures formulas { (formulas : List FormulaTree) → IsProgramOf self.now formulas → result ≡ length formulas }
+        ensures formulas { (formulas : List FormulaTree) → IsProgramOf self.now formulas
+            → result ≡ length formulas }
     {
         self.roots.len()
     }
@@ -123,7 +125,8 @@ impl Program {
     /// How many positions ahead the farthest of the formulas looks, 0 to 7200.
     pub fn reach(&self) -> u32
         ensures small { result ≤ 7200 }
-        ensures formulas { (formulas : List FormulaTree) → IsProgramOf self.now formulas → result ≡ greatest_reach formulas }
+        ensures formulas { (formulas : List FormulaTree) → IsProgramOf self.now formulas
+            → result ≡ greatest_reach formulas }
     {
         self.reach
     }

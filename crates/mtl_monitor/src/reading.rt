@@ -44,7 +44,8 @@ pub(crate) fn list_atoms(
 ) -> Result<(), Memory>
     requires { AllValid nodes.now }
     ensures listed { OnOk result (AreListed glance nodes.now atoms.new.items) }
-    ensures readable { OnOk result (AreReadable glance nodes.now (length nodes.now) atoms.new.items) }
+    ensures readable { OnOk result
+        (AreReadable glance nodes.now (length nodes.now) atoms.new.items) }
 {
     atoms.clear();
     for index in 0..nodes.len() {
@@ -59,7 +60,8 @@ fn read_atom<A: Atoms>(at: AtomNode, values: &mut [Verdict], row: &A, marks: u64
     requires inside { at.index < length values.old }
     requires valid { IsValidAtom at.atom }
     ensures values { values.new ≡ set values.old at.index (A.answer row.now at.atom) }
-    ensures here { IsUnmarked result at.index → A.answer row.now at.atom ≡ value_at values.old at.index }
+    ensures here { IsUnmarked result at.index
+        → A.answer row.now at.atom ≡ value_at values.old at.index }
     ensures others { (k : ℕ) → bit_at result k ≡ 0 → bit_at marks k ≡ 0 }
 {
     let value = row.value(at.atom);
@@ -73,7 +75,8 @@ fn read_atom<A: Atoms>(at: AtomNode, values: &mut [Verdict], row: &A, marks: u64
 /// Reads each atom at a row, and marks the nodes of those that are answered otherwise than at the last one.
 pub(crate) fn read_atoms<A: Atoms>(atoms: &[AtomNode], values: &mut [Verdict], row: &A) -> u64
     requires { ArePlaced atoms.now (length values.old) }
-    ensures { HaveRead atoms.now values.old values.new (A.answer row.now) result (length atoms.now) }
+    ensures { HaveRead atoms.now values.old values.new (A.answer row.now) result
+        (length atoms.now) }
 {
     let mut marks = 0;
     for at in atoms {

@@ -57,7 +57,7 @@ impl TraceState {
     ghost use Rattle.mtl_formulas.specs.declared.verdict.Verdict.{Verdict};
     ghost use Rattle.mtl_monitor.specs.Following.{GivesTheSame, last_value, IsProgramOf, Fits, HasRoom, AreStatesOf, Follows, Closes, IsFed, IsEnded, formula_at, count_of, fed_of, past_of};
 
-    /// The state of a program over a trace of which no row was fed. It takes all its memory here.
+    /// Returns the state of a program over a trace before its first row. It takes all its memory here.
     pub fn new(alloc: Global, program: &Program) -> Result<TraceState, Memory>
         ensures fits { IfOk result (Fits program.now) }
         ensures room { IfOk result (HasRoom program.now) }
@@ -86,9 +86,10 @@ impl TraceState {
         ensures fed { self.new.fed ≡ self.old.fed }
         ensures passed { self.new.passed ≡ self.old.passed }
         ensures glance { self.new.glance ≡ self.old.glance }
-        ensures walked { (before : List Verdict) → Walked program.now.nodes.items self.old.states.items before
-            self.old.values.items self.old.moving.items i end marks
-            self.new.states.items self.new.values.items self.new.moving.items self.new.still }
+        ensures walked { (before : List Verdict)
+            → Walked program.now.nodes.items self.old.states.items before self.old.values.items
+            self.old.moving.items i end marks self.new.states.items self.new.values.items
+            self.new.moving.items self.new.still }
     {
         self.still = pass_all(
             &program.nodes,
@@ -102,7 +103,7 @@ impl TraceState {
         );
     }
 
-    /// Reads a row's atoms but those that a glance tells as at the last row, and marks the nodes of those that are answered otherwise than at the last row.
+    /// Reads a row's atoms except those that a glance gives as at the last row, and marks the nodes of those that are answered otherwise than at the last row.
     fn read<A: Atoms>(&mut self, program: &Program, row: &A) -> u64
         requires { Fits program.now self.old }
         ensures fits { Fits program.now self.new }
@@ -112,10 +113,12 @@ impl TraceState {
         ensures fed { self.new.fed ≡ self.old.fed }
         ensures passed { self.new.passed ≡ self.old.passed }
         ensures told { IsTold self.new.glance (A.answer row.now) }
-        ensures answered { AreAllListed program.now.nodes.items program.now.atoms.items program.now.asked.items →
-            AreKnown self.old.glance program.now.nodes.items self.old.values.items →
-            AreAnswered program.now.nodes.items self.new.values.items (A.answer row.now) }
-        ensures reads { ReadsAtoms program.now.nodes.items self.old.values.items self.new.values.items result }
+        ensures answered { AreAllListed program.now.nodes.items program.now.atoms.items
+            program.now.asked.items
+            → AreKnown self.old.glance program.now.nodes.items self.old.values.items
+            → AreAnswered program.now.nodes.items self.new.values.items (A.answer row.now) }
+        ensures reads { ReadsAtoms program.now.nodes.items self.old.values.items
+            self.new.values.items result }
     {
         let glance = row.glance();
         let atoms = program.to_be_read(self.glance, glance);
@@ -193,10 +196,12 @@ impl TraceState {
         requires inside { formula < count_of program.now }
         ensures within { IfSome result (λ a. a.0 < fed_of self.now) }
         ensures value { IfSome result (λ a. a.1 ≡ last_value program.now self.now formula) }
-        ensures fed { (formulas : List FormulaTree) (rows : Trace) → Follows program.now self.now formulas rows →
-            IsFed result (formula_at formulas formula) rows }
-        ensures ended { (formulas : List FormulaTree) (rows : Trace) → Closes program.now self.now formulas rows →
-            IsEnded result (formula_at formulas formula) rows (past_of self.now) }
+        ensures fed { (formulas : List FormulaTree) (rows : Trace)
+            → Follows program.now self.now formulas rows
+            → IsFed result (formula_at formulas formula) rows }
+        ensures ended { (formulas : List FormulaTree) (rows : Trace)
+            → Closes program.now self.now formulas rows
+            → IsEnded result (formula_at formulas formula) rows (past_of self.now) }
     {
         let root = program.roots[formula];
         if self.passed <= root.late {

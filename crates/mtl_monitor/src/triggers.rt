@@ -9,7 +9,7 @@ use crate::node::{Operator, ProgramNode};
 use crate::starting::pushed;
 use out_of_memory::Memory;
 
-/// The marks of a node's operands, and how late the node is: small and in one list, since all are looked at where a row passes.
+/// The marks of a node's operands, and how late the node is: small and in one list, since all are checked if a row passes.
 #[derive(Clone, Copy)]
 pub(crate) struct Trigger {
     pub operands: u64,

@@ -1,6 +1,6 @@
-//! Want of memory, the one answer that no clause ties to a cause.
+//! Out of memory: the one error that no clause ties to a cause.
 //!
-//! What a call had got before it ran out of memory, and what then stays, has no place here: each call says so itself.
+//! What a call has read or changed by then is out of scope: each call states it.
 #![tactic(auto)]
 
 ghost use Rattle.std.specs.Prelude.{codes, Some};

@@ -12,7 +12,7 @@ taken-more limit bytes piece fault.Failed taken = omega (arith, length-append by
 taken-more limit bytes piece fault.TooLong taken = omega (arith, length-append bytes piece)
 taken-more limit bytes piece fault.Memory taken = omega (arith, length-append bytes piece)
 
--- what the last read took stands behind what was taken before it
+-- what the last read took stands after what was taken before it
 pub stops-after : (limit : ℕ) (a b c : Option (List ℕ)) (bytes : List ℕ) (why : ReadFault) → Consumes a b bytes → StopsAt limit (length bytes) b c why → StopsAt limit 0 a c why
 stops-after limit a b c bytes why before last = record {
   piece = bytes ++ last.piece;

@@ -60,7 +60,7 @@ GivesAll bytes fetched.TooLong = ⊥
 GivesAll bytes fetched.Failed = ⊥
 GivesAll bytes fetched.Memory = Unit {0}
 
--- What is answered where this lies under the name. Nothing there is a failure. What is longer than
+-- What is answered if this lies under the name. Nothing there is a failure. What is longer than
 -- the limit is too long, whether or not there is memory for it.
 abbrev pub Answers : Option (List ℕ) → ℕ → Fetched → Type 0
 Answers None limit answer = answer ≡ fetched.Failed

@@ -8,7 +8,7 @@ use Rattle.outside.specs.declared.shelf.Fetched.{Fetched}
 use Rattle.outside.specs.declared.shelf.Fetched.TheVariants as fetched
 use Rattle.outside.specs.Causes.{one_more}
 
--- names, each with the bytes that lie under it
+-- names, each with its bytes
 abbrev pub Files : Type 0
 Files = List (List ℕ × List ℕ)
 
@@ -16,7 +16,7 @@ Files = List (List ℕ × List ℕ)
 abbrev pub files_of : List (List ℕ × Vec ℕ Global) → Files
 files_of held = map (λ file. (file.0, file.1.items)) held
 
--- what lies under a name, if anything does
+-- the bytes of a name, if it has any
 abbrev pub content_of : List ℕ → Files → Option (List ℕ)
 content_of name [] = None
 content_of name (file ∷ files) = if bytes_eq name file.0 then Some file.1 else content_of name files
@@ -30,8 +30,8 @@ names_differ (file ∷ files) =
 abbrev pub FilesHaveDifferentNames : Files → Type 0
 FilesHaveDifferentNames files = IsTrue (names_differ files)
 
--- A shelf gives no more bytes than the limit. Where it tells its files, it gives the whole content,
--- and answers that it is too long only where it is longer.
+-- A shelf gives no more bytes than the limit. If its files are known, it gives the whole content,
+-- and answers that the content is too long only if it is longer.
 abbrev pub Fetches : Option Files → List ℕ → ℕ → Fetched → Type 0
 Fetches None name limit (fetched.Bytes v) = length v.items ≤ limit
 Fetches None name limit fetched.TooLong = Unit {0}
@@ -44,13 +44,13 @@ Fetches (Some files) name limit fetched.TooLong =
 Fetches (Some files) name limit fetched.Failed = Unit {0}
 Fetches (Some files) name limit fetched.Memory = Unit {0}
 
--- The shelf tells its files, and nothing lies under the name.
+-- The files are known, and none has this name.
 abbrev pub IsMissing : Option Files → List ℕ → Type 0
 IsMissing None name = ⊥
 IsMissing (Some files) name = content_of name files ≡ None
 
--- A fetch fails only where the count of faults rises by one, or where the name is told to be missing
--- and the count stays. It stays at every other answer.
+-- A fetch fails only if the count of faults rises by one, or if the name is known to be missing
+-- and the count stays. The count stays at every other answer.
 abbrev pub FetchCause : Option Files → List ℕ → ℕ → ℕ → Fetched → Type 0
 FetchCause files name before now fetched.Failed =
     (now ≡ one_more before) ⊎ (now ≡ before × IsMissing files name)

@@ -1,5 +1,5 @@
--- What one read takes from a source, and what one write adds to a sink, where they tell their
--- bytes.
+-- What one read takes from a source, and what one write adds to a sink, if their bytes are
+-- known.
 use Rattle.std.specs.Prelude.{ℕ, ◌≡◌, ◌≤◌, ◌<◌, List, length, take}
 use Rattle.std.specs.declared.option.Option.{Option}
 use Rattle.std.specs.Io.KnownBytes.{Appends, Consumes, Keeps, IsAtEnd}
@@ -10,7 +10,7 @@ use Rattle.outside.specs.declared.sink.Put.TheVariants as put
 use Rattle.outside.specs.Causes.{one_more}
 
 -- What callers see of an adapter over a reader or a writer of std: the bytes that the reader has
--- left or that the writer holds, where it tells them, and how often the adapter has failed.
+-- left or that the writer holds, if they are known, and how often the adapter has failed.
 pub record Adapter : Type 0 where
   pub bytes : Option (List ℕ)
   pub faults : ℕ
@@ -22,7 +22,7 @@ Gives old new room (taken.Got n) = (1 ≤ n) × (n ≤ length room) × Consumes 
 Gives old new room taken.End = Keeps old new × IsAtEnd new
 Gives old new room taken.Failed = Keeps old new
 
--- A source's count of faults rises by one where it failed, and nowhere else.
+-- A source's count of faults rises by one exactly if it failed.
 abbrev pub ReadCause : ℕ → ℕ → Taken → Type 0
 ReadCause before now (taken.Got n) = now ≡ before
 ReadCause before now taken.End = now ≡ before
@@ -44,7 +44,7 @@ abbrev pub PassesOn : Option (List ℕ) → Option (List ℕ) → List ℕ → P
 PassesOn old new piece (put.Took n) = Appends old new (take n piece)
 PassesOn old new piece put.Failed = AppendsFront old new piece
 
--- A sink's count of faults rises by one where it failed, and nowhere else.
+-- A sink's count of faults rises by one exactly if it failed.
 abbrev pub WriteCause : ℕ → ℕ → Put → Type 0
 WriteCause before now (put.Took n) = now ≡ before
 WriteCause before now put.Failed = now ≡ one_more before

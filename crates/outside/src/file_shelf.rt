@@ -11,7 +11,7 @@ use std::fs;
 use std::marker::Model;
 use std::rt::Files;
 
-/// The files of the system. It tells nothing of them, and callers see its counts of faults and of fetches.
+/// The files of the system. Contracts do not know them; callers see its counts of faults and fetches.
 #[derive(Drop)]
 pub struct FileShelf<R> {
     rt: R,

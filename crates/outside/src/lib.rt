@@ -1,6 +1,9 @@
 //! What a program is handed from outside: sources and sinks of bytes, and shelves of files. Each
-//! trait says which bytes pass, where they are told, and when a call may fail. The kinds in memory
-//! tell their bytes and can be made to fail; the adapters reach the system and tell nothing of it.
+//! trait states which bytes pass, if they are known, and when a call may fail. The bytes of the
+//! kinds
+//! in memory are known, and these can be made to fail; the adapters reach the system, whose bytes
+//! are
+//! unknown.
 #![tactic(auto)]
 
 mod file_shelf;

@@ -37,7 +37,7 @@ fn copy_within(alloc: Global, bytes: &[u8], limit: u64) -> Fetched
     }
 }
 
-/// Files in memory. A fetch fails only where the name is not held. Callers see the files and how many fetches were made.
+/// Files in memory. A fetch fails only if the name is not held. Callers see the files and how many fetches were made.
 #[derive(Drop)]
 pub struct PlainShelf {
     files: Vec<(Word, Vec<u8>)>,

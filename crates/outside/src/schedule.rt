@@ -30,7 +30,7 @@ impl Schedule {
         Schedule { fails, made: 0 }
     }
 
-    /// Counts one call, and tells whether it is to fail.
+    /// Counts one call, and returns whether it is to fail.
     pub fn is_next_failing(&mut self) -> bool
         ensures listed { result ≡ is_next_listed self.old }
         ensures early { IsTrue result → self.old.made < 2 ^ 32 }

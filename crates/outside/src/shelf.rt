@@ -1,4 +1,4 @@
-//! Where whole contents lie under names.
+//! Whole contents, by name.
 ghost use Rattle.std.specs.Prelude.{◌≡◌, List, ℕ};
 ghost use Rattle.std.specs.declared.option.Option.{Option};
 ghost use Rattle.outside.specs.Causes.{one_more};
@@ -20,9 +20,9 @@ pub enum Fetched {
     Memory,
 }
 
-/// Where whole contents lie under names.
+/// Whole contents, by name.
 pub trait Shelf {
-    /// The names with their contents, where the shelf tells them.
+    /// The names with their contents, if they are known.
     ghost files: { Self → Option (List (List ℕ × List ℕ)) };
 
     /// How often it has failed. The count stands still at the last value of 64 bits.

@@ -15,7 +15,7 @@ use std::marker::Model;
 /// What one write did.
 #[derive(Clone, Copy, Debug, PartialEq, Eq)]
 pub enum Put {
-    /// It took so many bytes, at least one, from the front of the piece.
+    /// It took this many bytes, at least one, from the front of the piece.
     Took(usize),
     /// It failed and took nothing.
     Failed,
@@ -23,7 +23,7 @@ pub enum Put {
 
 /// Where bytes go.
 pub trait Sink {
-    /// The bytes that it holds, where the sink tells them.
+    /// The bytes that it holds, if they are known.
     ghost contents: { Self → Option (List ℕ) };
 
     /// How often it has failed. The count stands still at the last value of 64 bits.
@@ -36,8 +36,8 @@ pub trait Sink {
         ensures cause { WriteCause (faults self.old) (faults self.new) result };
 }
 
-/// Writes all the bytes, in as many pieces as the sink wants, and tells whether it could. At `false`
-/// the sink failed and has gained a proper front of them.
+/// Writes all the bytes, in as many pieces as the sink wants, and returns whether it could. At
+/// `false` the sink has failed and holds a proper prefix of them.
 pub fn put_all<K: Sink>(sink: &mut K, bytes: &[u8]) -> bool
     ensures all { IsTrue result → Appends (K.contents sink.old) (K.contents sink.new) bytes.now }
     ensures part { result ≡ false
@@ -140,9 +140,9 @@ impl Sink for MemorySink {
     }
 }
 
-/// A writer of std, as standard output or standard error, flushed after each write. A writer that
-/// takes nothing, an error and a flush that fails are faults. As a sink it tells nothing of its
-/// bytes, since at a fault a part of the piece may have gone out.
+/// A writer of std, such as standard output or standard error, flushed after each write. A writer
+/// that takes nothing, an error and a flush that fails are faults. As a sink its bytes are unknown,
+/// since at a fault a part of the piece may already be written.
 #[derive(Drop)]
 pub struct StdSink<W: Write> {
     inner: W,

@@ -22,7 +22,7 @@ pub enum Taken {
 
 /// Where bytes come from, in pieces of any length.
 pub trait Source {
-    /// The bytes that are left, where the source tells them.
+    /// The bytes that are left, if they are known.
     ghost left: { Self → Option (List ℕ) };
 
     /// How often it has failed. The count stands still at the last value of 64 bits.
@@ -183,8 +183,8 @@ impl Source for MemorySource {
     }
 }
 
-/// A reader of std, as standard input. It tells what its reader tells: of standard input and of
-/// files, nothing. Each error of the reader is a fault.
+/// A reader of std, such as standard input. Its bytes are known if its reader's are: those of
+/// standard input and of files are not. Each error of the reader is a fault.
 #[derive(Drop)]
 pub struct StdSource<R: Read> {
     inner: R,

@@ -58,7 +58,7 @@ fn zeros(alloc: Global, count: usize) -> Result<Vec<u8>, AllocError>
     vec![in alloc; 0u8; count]
 }
 
-/// Reads once, no more than the room holds, and tells whether there may be more.
+/// Reads once, no more than the room holds, and returns whether there may be more.
 fn read_more<S: Source>(
     source: &mut S,
     room: &mut [u8],
@@ -68,11 +68,14 @@ fn read_more<S: Source>(
     requires some_room { 0 < length room.old }
     requires little_room { length bytes.old.items + length room.old ≤ limit + 1 }
     requires short { length bytes.old.items ≤ limit }
-    ensures more { result ≡ Ok true → Adds (S.left source.old) (S.left source.new) bytes.old.items bytes.new.items }
-    ensures end { result ≡ Ok false → Keeps (S.left source.old) (S.left source.new) × IsAtEnd (S.left source.new) }
+    ensures more { result ≡ Ok true
+        → Adds (S.left source.old) (S.left source.new) bytes.old.items bytes.new.items }
+    ensures end { result ≡ Ok false
+        → Keeps (S.left source.old) (S.left source.new) × IsAtEnd (S.left source.new) }
     ensures same { result ≡ Ok false → bytes.new.items ≡ bytes.old.items }
     ensures short { length bytes.new.items ≤ limit }
-    ensures stops { IfErr result (StopsAt limit (length bytes.old.items) (S.left source.old) (S.left source.new)) }
+    ensures stops { IfErr result
+        (StopsAt limit (length bytes.old.items) (S.left source.old) (S.left source.new)) }
     ensures count { MatchResult result (λ _. S.faults source.new ≡ S.faults source.old)
         (ReadCount (S.faults source.old) (S.faults source.new)) }
 {
@@ -89,7 +92,7 @@ fn read_more<S: Source>(
     }
 }
 
-/// Reads once, up to the byte behind the limit, and tells whether there may be more.
+/// Reads once, up to the byte after the limit, and returns whether there may be more.
 fn read_block<S: Source>(
     source: &mut S,
     block: &mut [u8],
@@ -98,11 +101,14 @@ fn read_block<S: Source>(
 ) -> Result<bool, ReadFault>
     requires some_room { 0 < length block.old }
     requires short { length bytes.old.items ≤ limit }
-    ensures more { result ≡ Ok true → Adds (S.left source.old) (S.left source.new) bytes.old.items bytes.new.items }
-    ensures end { result ≡ Ok false → Keeps (S.left source.old) (S.left source.new) × IsAtEnd (S.left source.new) }
+    ensures more { result ≡ Ok true
+        → Adds (S.left source.old) (S.left source.new) bytes.old.items bytes.new.items }
+    ensures end { result ≡ Ok false
+        → Keeps (S.left source.old) (S.left source.new) × IsAtEnd (S.left source.new) }
     ensures same { result ≡ Ok false → bytes.new.items ≡ bytes.old.items }
     ensures short { length bytes.new.items ≤ limit }
-    ensures stops { IfErr result (StopsAt limit (length bytes.old.items) (S.left source.old) (S.left source.new)) }
+    ensures stops { IfErr result
+        (StopsAt limit (length bytes.old.items) (S.left source.old) (S.left source.new)) }
     ensures count { MatchResult result (λ _. S.faults source.new ≡ S.faults source.old)
         (ReadCount (S.faults source.old) (S.faults source.new)) }
 {
@@ -111,7 +117,7 @@ fn read_block<S: Source>(
     read_more(source, &mut block[..room], bytes, limit)
 }
 
-/// All that the source has left, where that is no longer than the limit. What is longer is read up to the byte behind
+/// All that the source has left, if that is no longer than the limit. What is longer is read up to the byte after
 /// the limit.
 pub fn read_whole<S: Source>(
     alloc: Global,

@@ -121,7 +121,8 @@ fn is_target_tracked(situation: &Situation, target: &Target, now: usize, end: us
     requires now { now ≡ now_of situation.now }
     requires end { end ≡ end_of situation.now }
     requires few { end < 2 ^ 32 }
-    ensures { IsTrue result → IsTracked (end_of situation.now) (target_at situation.now target.now) }
+    ensures { IsTrue result
+        → IsTracked (end_of situation.now) (target_at situation.now target.now) }
 {
     for k in 0..end + 1 {
         if !is_seen_well(&target_known(situation, target, now, k)) {
@@ -165,7 +166,9 @@ fn is_detect(detect: &Detect) -> bool
 fn is_start(situation: &Situation, planned: u32) -> bool
     requires planned { planned ≡ positions_of situation.now.lattice * situation.now.tick }
     requires short { planned ≤ 7200 }
-    ensures near { IsTrue result → IsTickState (7900640400 - positions_of situation.now.lattice * situation.now.tick * 525763) situation.now.start }
+    ensures near { IsTrue result
+        → IsTickState (7900640400
+        - positions_of situation.now.lattice * situation.now.tick * 525763) situation.now.start }
     ensures course { IsTrue result → IsSome situation.now.start.direction }
     ensures speed { IsTrue result → IsSome situation.now.start.speed }
 {

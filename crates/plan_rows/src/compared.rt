@@ -1,5 +1,5 @@
 //! What a test compares, in one place each: a test that calls them is proved in a fraction of the time that the macros take in it. What fails is
-//! told with both values, by the name of its test.
+//! reported with both values, by the name of its test.
 ghost use Rattle.std.specs.Prelude.{IsTrue};
 
 use out_of_memory::Memory;
@@ -18,7 +18,7 @@ pub(crate) fn is_true(rt: &impl Abort, claim: bool)
     assert!(rt; claim);
 }
 
-/// What was found is what was wanted, where memory was left to find it.
+/// What was found is what was wanted, if memory was left to find it.
 pub(crate) fn is_found<T: PartialEq + Debug + Drop>(
     rt: &impl Abort,
     found: Result<T, Memory>,

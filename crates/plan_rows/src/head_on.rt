@@ -6,48 +6,14 @@ use aivdm::SentenceRoom;
 use log_lines::Judge;
 use plan_situations::{Situation, prepare};
 use scenario::read;
+use scenario_rows::SCENARIO;
 use std::alloc::Global;
 use std::test::Fail;
 use tracks::Keeping;
 
-/// Two vessels head on at now, tick 1 of ten seconds each; a tail of 10 ticks; a domain of 300 metres; and two rules of one's own: one that is
-/// named `domain` too, and one that is broken by now, at the step at which the meeting begins. The legs and own ship's courses are left out.
-const SCENARIO: &str = "version = 1
-subjects = []
-[window]
-start = 1700000000
-tick = 10
-ticks = 1
-[reference]
-lat = 0
-lon = 0
-[log]
-gap = 600
-slack = 60
-max_speed = 500
-[detect]
-watch = 5000
-risk = 500
-clear = 1000
-horizon = 600
-doubt = 0
-ahead = 100
-reciprocal = 100
-[act]
-steady_turn = 50
-apparent_turn = 200
-steady_speed = 10
-apparent_speed = 50
-[rules]
-safe = 200
-overtake = 200
-close = 300
-t8 = 60
-ta = 60
-tl = 20
-tw = 100
-te = 600
-[[formula]]
+/// After the scenario of all worked rows: two rules of one's own, one that is named `domain` too, and one that is broken by now, at the
+/// step at which the meeting begins; and own ship with a tail of 10 ticks and a domain of 300 metres, without her legs and courses.
+const OWN_SHIP: &str = "[[formula]]
 name = \"domain\"
 text = \"!close(200)\"
 [[formula]]
@@ -74,11 +40,12 @@ pub const ONE_LEG: &str = "legs = 1
 leg_ticks = 30
 ";
 
-/// The situation at the log's end, with these legs and this list of courses.
+/// The situation at the log's end, tick 1 of ten seconds each, with these legs and this list of courses.
 pub fn situation_with(alloc: Global, legs: &str, courses: &str) -> Result<Option<Situation>, Fail>
     ensures { IfOk result (λ found. IfSome found IsSituation) }
 {
-    let text = [SCENARIO, legs, "courses = ", courses, "\n"].concat(alloc)?;
+    let window = SCENARIO.replace(alloc, "ticks = 40", "ticks = 1")?;
+    let text = [window.as_str(), OWN_SHIP, legs, "courses = ", courses, "\n"].concat(alloc)?;
     let Ok(scenario) = read(alloc, text.as_bytes(), true) else {
         return Ok(None);
     };

@@ -1,4 +1,5 @@
-//! Worked situations, and the pruned search against the flat list. And worked rows of why there is no plan: what is told, and what a check of rows comes to.
+//! Worked situations, and the pruned search against the flat list. And worked rows of why there is no plan: what is reported, and what a check of rows
+//! returns.
 #![tactic(auto)]
 
 #[cfg(test)]

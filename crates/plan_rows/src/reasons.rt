@@ -112,7 +112,7 @@ static HORIZONS: [Row; 6] = [
     (41, ENTRY, BROKEN),
 ];
 
-/// The first plan fails for these reasons, where the target has no direction from a tick on.
+/// The first plan fails for these reasons, if the target has no direction from a tick on.
 fn fails_head_on(
     rt: &impl Abort,
     alloc: Global,
@@ -153,10 +153,10 @@ const TURNED: Option<DomainEntry> = Some(DomainEntry {
 /// and ends 185.2 ahead: she crosses the edge from the sixth vertex to the first at 9818 / 18520 of it. The rule is broken as before.
 static SHAPED: [Row; 2] = [(18, None, BROKEN), (19, TURNED, BROKEN)];
 
-/// Where the target has no direction at tick 18 she enters the circle instead, and is nearest at the end.
+/// If the target has no direction at tick 18 she enters the circle instead, and is nearest at the end.
 static CIRCLED: [Row; 2] = [(18, None, BROKEN), (19, ENTRY, BROKEN)];
 
-/// The same, where domains are a shape.
+/// The same, if domains are a shape.
 fn fails_in_shape(rt: &impl Abort, alloc: Global, lost: u32, rows: &[Row]) -> Result<(), Memory> {
     fails_head_on(rt, alloc, Shape::new(&EVEN), lost, rows)
 }

@@ -64,7 +64,8 @@ static LONG_AHEAD: [(i32, i32); 6] = [
     (300, -150),
 ];
 
-/// A vessel that moves by so much from each tick to the next, at 18 knots as she tells. She has no direction from a tick on, and is not seen at
+/// A vessel that moves by this much from each tick to the next, at 18 knots as she reports. She has no direction from a tick on, and is not
+/// seen at
 /// each tick up to now whose bit is set.
 #[derive(Drop)]
 struct Line {
@@ -103,7 +104,7 @@ impl Line {
     }
 }
 
-/// Both, where memory was left for them.
+/// Both, if memory was left for them.
 fn both<A: Drop, B: Drop>(
     first: Result<A, Memory>,
     second: Result<B, Memory>,
@@ -122,7 +123,7 @@ fn past_on(alloc: Global, line: &Line, now: u32) -> Result<Past, Memory>
     Ok(Past::new(past))
 }
 
-/// How she is predicted from now on, up to so many ticks later.
+/// How she is predicted from now on, up to this many ticks later.
 fn ahead_on(alloc: Global, line: &Line, now: u32, positions: u32) -> Result<Ahead, Memory>
     requires now { now ≤ 20 }
     requires positions { positions ≤ 7200 }
@@ -195,7 +196,7 @@ fn surroundings(
     both(vessels, RuleSet::new(alloc, &NUMBERS, 10))
 }
 
-/// A situation with one target, on a line, where own ship has headed north up to the tick of now.
+/// A situation with one target, on a line, if own ship has headed north up to the tick of now.
 fn towards(
     alloc: Global,
     line: &Line,
@@ -246,7 +247,7 @@ pub(crate) fn keeping_on(alloc: Global) -> Lattice {
     Lattice::new(alloc, &[0], &[0], 1, 30, 10, 1800, 1022)
 }
 
-/// She keeps on, or turns to starboard by 30 or 60 degrees, by so much in a tick.
+/// She keeps on, or turns to starboard by 30 or 60 degrees, by this much in a tick.
 fn turning(alloc: Global, turn_rate: u16) -> Lattice
     requires some { 1 ≤ turn_rate }
     requires few { turn_rate ≤ 1800 }
@@ -325,7 +326,7 @@ fn least_head_on(
     least(rt, alloc, head_on(alloc, lattice, shape, u32::MAX)?)
 }
 
-/// The same, where she may turn to starboard by so much in a tick.
+/// The same, if she may turn to starboard by this much in a tick.
 fn least_turning(
     rt: &impl Abort,
     alloc: Global,
@@ -390,7 +391,7 @@ fn all_plans_of_the_greatest_lattice_fail_in_their_first_leg(
     is_found(&rt, answers, [None, None])
 }
 
-/// One of so many, at most 2^24.
+/// One of this many, at most 2^24.
 fn below(source: &mut Pcg32, many: u32) -> u32
     requires { 0 < many }
     ensures { result < many }
@@ -515,7 +516,7 @@ static EAST: [Change; 1] = [Change {
     speed: 90,
 }];
 
-/// What is predicted of her so many seconds after her report.
+/// What is predicted of her this many seconds after her report.
 fn predicted_after(seconds: u8) -> TickState {
     predicted(&REPORTED, &EAST, 1000, 1000 + u64::from(seconds))
 }

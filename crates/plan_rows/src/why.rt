@@ -1,4 +1,4 @@
-//! What is told of two vessels head on, and what a check tells of rows about them.
+//! What is reported for two vessels head on, and what a check returns for rows about them.
 ghost use Rattle.std.specs.Prelude.{◌<◌, ◌^◌, All, IfOk, IfSome, length};
 ghost use Rattle.plan_situations.specs.Situations.{IsSituation};
 ghost use Rattle.refutations.specs.RightLists.{IsEntry};
@@ -14,13 +14,14 @@ use std::alloc::Global;
 use std::process::Abort;
 use std::test::Fail;
 
-/// The entries that rows tell, four at most. `None` where one of the rows tells no entry.
+/// The entries in rows, four at most. `None` if one of the rows gives no entry.
 fn entries_in(
     alloc: Global,
     situation: &Situation,
     text: &[u8],
 ) -> Result<Option<Vec<WhyEntry>>, Memory>
-    ensures entries { IfOk result (λ found. IfSome found (λ list. All (IsEntry situation.now) list.items)) }
+    ensures entries { IfOk result
+        (λ found. IfSome found (λ list. All (IsEntry situation.now) list.items)) }
     ensures few { IfOk result (λ found. IfSome found (λ list. length list.items < 2 ^ 31)) }
 {
     let mut reader = ReaderBuilder::new()
@@ -41,7 +42,7 @@ fn entries_in(
     Ok(Some(list))
 }
 
-/// What a check tells of rows. `None` where one of them tells no entry.
+/// What a check returns for rows. `None` if one of them gives no entry.
 fn judged(alloc: Global, situation: &Situation, text: &[u8]) -> Result<Option<Checked>, Memory>
     requires { IsSituation situation.now }
 {
@@ -51,7 +52,7 @@ fn judged(alloc: Global, situation: &Situation, text: &[u8]) -> Result<Option<Ch
     }
 }
 
-/// The text of the rows of the canonical list, or nothing where some plan does not fail.
+/// The text of the rows of the canonical list, or nothing if some plan does not fail.
 fn told(alloc: Global, situation: &Situation) -> Result<Vec<u8>, Memory>
     requires { IsSituation situation.now }
 {
@@ -66,7 +67,7 @@ fn told(alloc: Global, situation: &Situation) -> Result<Vec<u8>, Memory>
     Ok(text)
 }
 
-/// Whether these rows are told, and right where there are any.
+/// Whether these rows are reported, and right if there are any.
 fn is_told(rt: &impl Abort, alloc: Global, situation: &Situation, rows: &[u8]) -> Result<(), Memory>
     requires { IsSituation situation.now }
 {
@@ -77,7 +78,7 @@ fn is_told(rt: &impl Abort, alloc: Global, situation: &Situation, rows: &[u8]) -
     Ok(())
 }
 
-/// Whether a check tells these of rows.
+/// Whether a check returns these for rows.
 fn are_judged(
     rt: &impl Abort,
     alloc: Global,
@@ -119,7 +120,7 @@ const RIGHT: Option<Checked> = Some(Checked::Right);
 
 const BAD: Option<Checked> = Some(Checked::Bad(0));
 
-/// Rows, and what a check tells of them.
+/// Rows, and what a check returns for them.
 static ABOUT_ONE_PLAN: [(&[u8], Option<Checked>); 21] = [
     (b"", BAD),
     (b"why,0,477553000,domain,17,1,1", BAD),

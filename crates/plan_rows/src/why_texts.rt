@@ -16,12 +16,12 @@ use refutations::{Checked, entry_bytes, read_entry};
 use std::alloc::Global;
 use std::test::Fail;
 
-/// Plans of two legs. The first leg tells the steps up to 18, both tell all.
+/// Plans of two legs. The first leg determines the steps up to 18, both determine all.
 const TWO_LEGS: &str = "legs = 2
 leg_ticks = 18
 ";
 
-/// What a check of a text that may be checked comes to.
+/// The result of a check of a text that may be checked.
 fn checked(alloc: Global, situation: &Situation, text: &str) -> Result<Option<Checked>, Memory>
     requires { IsSituation situation.now }
 {
@@ -32,7 +32,7 @@ fn checked(alloc: Global, situation: &Situation, text: &str) -> Result<Option<Ch
     Ok(Some(recheck(alloc, situation, bytes)?))
 }
 
-/// The row of the entry that the first row of a text tells. Nothing where it tells none.
+/// The row of the entry that the first row of a text gives. Nothing if it gives none.
 fn told_anew(alloc: Global, situation: &Situation, text: &str) -> Result<Vec<u8>, Memory> {
     let mut reader = ReaderBuilder::new()
         .has_headers(false)
@@ -48,7 +48,7 @@ fn told_anew(alloc: Global, situation: &Situation, text: &str) -> Result<Vec<u8>
     }
 }
 
-/// What a row of the table shows, a text, and what a check of it comes to.
+/// What a row of the table shows, a text, and what a check of it results in.
 static CHECKED: [(&str, &str, Checked); 25] = [
     (
         "a right list",
@@ -92,7 +92,7 @@ static CHECKED: [(&str, &str, Checked); 25] = [
         Checked::Bad(1),
     ),
     (
-        "plans passed over",
+        "skipped plans",
         "why,0,477553000,r14a,0,,\nwhy,1.1,477553000,r14a,0,,\n",
         Checked::Bad(1),
     ),
@@ -187,7 +187,7 @@ fn what_a_check_comes_to(rt: HostRuntime) -> Result<(), Fail> {
     Ok(())
 }
 
-/// What a row of the table shows, a text, and the row of the entry that its first row tells.
+/// What a row of the table shows, a text, and the row of the entry that its first row gives.
 static TOLD: [(&str, &str, &str); 21] = [
     (
         "a domain",

@@ -117,7 +117,7 @@ shared grid X Y legs some same step lt = in_force grid X Y legs same some (few_o
 pub reached_end : (s : Situation) (legs : ℕ) → s.lattice.legs ≤ legs → reached s legs ≡ end_of s
 reached_end s legs le = ap (λ (k : ℕ). now_of s + k) (when_not_less legs s.lattice.legs (legs * s.lattice.leg_ticks) (positions_of s.lattice) le)
 
--- a plan fails where a prefix of it has failed
+-- a plan fails if a prefix of it has failed
 pub prefix_lasts : (s : Situation) (prefix plan : List ℕ) (legs : ℕ) → 1 ≤ s.lattice.legs → ((i : ℕ) → i < legs → slice_index prefix i ≡ slice_index plan i)
     → FailsBy s (reached s legs) prefix → Fails s plan
 prefix_lasts s prefix plan legs some same h =

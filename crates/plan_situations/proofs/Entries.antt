@@ -1,4 +1,4 @@
--- Own ship is inside a domain at the moment that tells of it, or at no instant.
+-- Own ship is inside a domain at the moment that the test finds, or at no instant.
 use Rattle.std.proofs.Common.{◌≡◌, ◌∙◌, ℕ, ◌^◌, ◌<◌, ◌≤◌, List, refl, ap, arith, sym, subst, subst₂, Some, None}
 use Rattle.std.specs.Prelude.{Option, IfSome, IsNone, IsTrue, MatchOption, ◌↔◌, is_some, ℤ, Bool, true, false, pos, neg_ℤ, ◌*ℤ◌, int_le, unsigned_abs, if◌then◌else◌, not}
 use Rattle.fixed_geometry.specs.Plane.{dot_of, norm2_of}
@@ -13,7 +13,7 @@ use Rattle.plan_situations.specs.Domains.{Enters, IsEntry, IsInsideAt, IsInsideB
 use Rattle.plan_situations.specs.declared.situation.Situation.{Situation}
 use Rattle.plan_situations.specs.declared.situation.Target.{Target}
 
--- ---- where a shape and a direction are not both there, the domain is a circle
+-- ---- if a shape and a direction are not both there, the domain is a circle
 
 abbrev pub IsCircle : Option (List (ℤ × ℤ)) → Option ℕ → Type 0
 IsCircle shape direction = (vertices : List (ℤ × ℤ)) (d : ℕ) → shape ≡ Some vertices → direction ≡ Some d → ⊥
@@ -60,7 +60,7 @@ module _ (step : RelativeMove) (d : ℕ) (shape : List (ℤ × ℤ)) where
   inside_where_some None found is instant inside told = absurd (let never : IsTrue false = subst IsTrue is told in cc)
   inside_where_some (Some moment) found is instant inside told = (moment.a, moment.b, instant.0, instant.1, inside)
 
--- ---- what the tests of a shape and of a circle tell
+-- ---- what the tests of a shape and of a circle decide
 
 module _ (s : Situation) (T : Target) (pair : PairStep) where
   module _ (shape : List (ℤ × ℤ)) (d : ℕ) (has : Some shape ≡ s.shape) (heads : Some d ≡ pair.b.direction) where

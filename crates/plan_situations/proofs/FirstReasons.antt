@@ -79,7 +79,7 @@ module _ (s : Situation) (X : List ℕ) (T : Target) (at : ℕ) where
           subst (λ (i : ℕ). IsNewlyBrokenHere (now_of s - i) rows f (step - i)) same (h.breaks rows (subst (λ (i : ℕ). AreTraceRows s X at T i rows) (sym same) are)),
         )
 
-    -- A step that is not before the trace is one of its positions, and the formula is newly broken there exactly where its rows say so.
+    -- A step that is not before the trace is one of its positions, and the formula is newly broken there exactly if its rows say so.
     pub broken_there : (f : FormulaTree) (step : ℕ) → start ≤ step → IsNewlyBrokenHere (now_of s - start) rows f (step - start) ↔ BreaksAt s X at T f step
     broken_there f step le = (
       λ h. (let e : start + (step - start) ≡ step = omega arith in

@@ -38,7 +38,7 @@ some_weaker {X} P Q xs f (k, h) = (k, at (slice_get xs k) h)
 No-decided : (v : Verdict) → v ≡ No → v ≢ Open
 No-decided v e = λ is_open. cc
 
--- Where a value is No, there is a row.
+-- If a value is No, there is a row.
 pub no_within : (rows : Trace) (f : FormulaTree) (i : ℕ) → value_in rows f i ≡ No → i < length rows
 no_within rows f i is_no = elim (cases_lt i (length rows)) [
   | inl lt ↦ lt

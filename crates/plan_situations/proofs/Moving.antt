@@ -125,7 +125,7 @@ reached latest now p near fresh moved =
     let y = within latest.point.y p.y 2222400000 ((now - latest.time) * 525763) near.y here.y in
     record { x = omega arith; y = omega arith }
 
--- ---- without legs, and behind now
+-- ---- without legs, and after now
 
 pub none_seen : (time : ℕ) → state_at time [] ≡ None
 unfolding state_at
@@ -134,7 +134,7 @@ none_seen time = refl
 pub later_tick : (window : Window) (k : ℕ) → window_end window ≤ time_of_tick window (window.ticks + k)
 later_tick window k = let more : (window.ticks + k) * window.tick ≡ window.ticks * window.tick + k * window.tick = add-mul window.ticks k window.tick in omega (arith, more)
 
--- what is known of her behind now is what is predicted
+-- what is known of her after now is what is predicted
 pub known_ahead : (track : KnownTrack) → IsTrack track → (k : ℕ) → known_at track (track.window.ticks + k) ≡ Some (predicted_at track k)
 known_ahead track is k =
     let before = is.fresh.before in

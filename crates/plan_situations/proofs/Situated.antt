@@ -1,4 +1,4 @@
--- What is prepared is a situation in which a plan may be sought.
+-- What is prepared is a situation in which a plan may be searched for.
 use Rattle.std.proofs.Common.{◌≡◌, ◌∙◌, ℕ, suc, ◌+◌, ◌-◌, ◌*◌, ◌^◌, ◌<◌, ◌≤◌, inl, inr, List, [], ◌∷◌, length, map, get_or, refl, ap, subst, subst₂, sym, arith, Some, None}
 use Rattle.std.specs.Prelude.{Option, IfSome, IsSome, nat_lt, if◌then◌else◌}
 use Rattle.std.specs.List.{All, AllPairs}

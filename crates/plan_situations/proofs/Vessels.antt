@@ -1,4 +1,4 @@
--- What is told of a vessel near own ship.
+-- What is known of a vessel near own ship.
 use Rattle.std.proofs.Common.{◌≡◌, ◌∙◌, ℕ, ◌+◌, ◌-◌, ◌*◌, ◌<◌, ◌≤◌, List, [], ◌∷◌, ◌++◌, length, map, take, get_or, refl, ap, sym, arith, Some, None, true, false, Bool}
 use Rattle.std.specs.Prelude.{Option, IfSome, nat_lt, not, ◌==◌, if◌then◌else◌}
 use Rattle.std.specs.List.{All, find, last_or, range_with_len}

@@ -1,5 +1,5 @@
--- When own ship is inside the domain of a target, at an instant and in a step of both. The domain is the situation's shape, as it lies
--- where the target heads at the step's first tick; it is a circle where there is no shape, or the target has no direction there.
+-- When own ship is inside a target's domain, at an instant and in a step of both. The domain is the situation's shape along the
+-- target's direction at the step's first tick; it is a circle if there is no shape, or no such direction.
 use Rattle.std.specs.Prelude.{ℕ, ◌≡◌, ◌<◌, ◌≤◌, ◌^◌, List, ℤ, Option, Some, None}
 use Rattle.closest_approach.specs.Separation.{IsNearer, nearest_of}
 use Rattle.closest_approach.specs.declared.nearest.Moment.{Moment}
@@ -15,7 +15,7 @@ use Rattle.plan_situations.specs.declared.situation.Target.{Target}
 abbrev pub IsDomain : Domain → Type 0
 IsDomain domain = domain.radius < 2 ^ 31
 
--- She is inside, by the shape and the target's direction where there are both, else by the radius.
+-- She is inside, by the shape and the target's direction if there are both, otherwise by the radius.
 abbrev pub IsInsideBy : Option (List (ℤ × ℤ)) → Option ℕ → ℕ → RelativeMove → ℕ → ℕ → Type 0
 IsInsideBy (Some shape) (Some direction) radius step a b = IsInside step direction shape a b
 IsInsideBy (Some shape) None radius step a b = IsNearer step radius a b
@@ -33,7 +33,7 @@ pub record Enters (situation : Situation) (target : Target) (pair : PairStep) : 
   pub some : 0 < b
   pub inside : IsInsideAt situation target pair a b
 
--- the moment that tells of it: for a shape one between the crossings of its edges, for a circle that of least distance
+-- the moment that decides: for a shape one between the crossings of its edges, for a circle that of least distance
 abbrev pub moment_by : Option (List (ℤ × ℤ)) → Option ℕ → RelativeMove → Moment
 moment_by (Some shape) (Some direction) step = entry_moment step direction shape
 moment_by (Some shape) None step = nearest_of step 1
@@ -42,7 +42,7 @@ moment_by None direction step = nearest_of step 1
 abbrev pub moment_of : Situation → Target → PairStep → Moment
 moment_of situation target pair = moment_by situation.shape pair.b.direction pair.step
 
--- It is an instant of the step at which she is inside, told by numbers that can be reckoned with.
+-- It is an instant of the step at which she is inside, with numbers small enough to compute with.
 pub record IsEntry (situation : Situation) (target : Target) (pair : PairStep) (moment : Moment) : Type 0 where
   pub is : moment ≡ moment_of situation target pair
   pub within : moment.a ≤ moment.b

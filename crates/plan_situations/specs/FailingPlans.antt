@@ -1,5 +1,5 @@
 -- When a plan of own ship fails. The planned trace of own ship and a target begins as any trace does, and ends with the last
--- planned tick; what it may not do is told by its values, and by the steps from now on.
+-- planned tick; its values, and the steps from now on, decide what it may not do.
 use Rattle.std.specs.Prelude.{ℕ, ◌≡◌, ◌≢◌, ◌-◌, ◌<◌, ◌≤◌, ◌⊎◌, List, take, slice_get, IsSomeAnd}
 use Rattle.meetings.specs.Atoms.{AreAtomRows}
 use Rattle.meetings.specs.Traces.{BeginsTrace, step_at, steps_from}
@@ -15,8 +15,8 @@ use Rattle.plan_situations.specs.declared.situation.Target.{Target}
 abbrev pub Some_ : {X : Type 0} → (X → Type 0) → List X → Type 0
 Some_ P xs = (k : ℕ) × IsSomeAnd (slice_get xs k) P
 
--- Over a trace a position has the value No, and has it not over the trace cut off behind so many positions, where all that lies
--- beyond is Open.
+-- A position has the value No over a trace, but not over the trace cut off after this many positions, if all that
+-- lies beyond counts as Open.
 pub record IsNewlyBrokenHere (cut : ℕ) (rows : Trace) (formula : FormulaTree) (position : ℕ) : Type 0 where
   pub broken : value_in rows formula position ≡ No
   pub not_before : value_in (take cut rows) formula position ≢ No
@@ -69,7 +69,7 @@ module _ (situation : Situation) (plan : List ℕ) (last : ℕ) (target : Target
   abbrev pub FailsTowards : Type 0
   FailsTowards = EntersDomain ⊎ BreaksARule
 
--- A plan fails by a tick where up to it she fails towards some target.
+-- A plan fails by a tick if up to it she fails towards some target.
 abbrev pub FailsBy : Situation → ℕ → List ℕ → Type 0
 FailsBy situation last plan = Some_ (FailsTowards situation plan last) situation.targets
 

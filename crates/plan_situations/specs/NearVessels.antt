@@ -16,11 +16,11 @@ use Rattle.plan_situations.specs.declared.near.Near.{Near}
 abbrev pub point_now : ℕ → Accepted → Point
 point_now now latest = (predicted_state latest [] now now).point
 
--- At most so many tenths of a millimetre lie between two points.
+-- At most this many tenths of a millimetre lie between two points.
 abbrev pub is_within : ℕ → Point → Point → Bool
 is_within range a b = int_le (norm2_of (displacement a b)) (pos (range * range))
 
--- a vessel with her latest accepted report, where she is near a point
+-- a vessel with her latest accepted report, if she is near a point
 abbrev pub near_by : ℕ → ℕ → ℕ → Point → ℕ → Option Accepted → Option Near
 near_by gap now range point mmsi None = None
 near_by gap now range point mmsi (Some latest) =

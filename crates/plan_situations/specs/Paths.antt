@@ -23,7 +23,7 @@ start_of situation = record {
   speed = unwrap_or situation.start.speed 0;
 }
 
--- She is where so many steps from now lead under a plan.
+-- She is where this many steps from now lead under a plan.
 abbrev pub HasReached : Situation → List ℕ → ℕ → UnderWay → Type 0
 HasReached situation plan steps own = IsReached situation.lattice plan situation.tick (start_of situation) steps own
 
@@ -33,7 +33,7 @@ pub record IsTrack (path : List TickState) : Type 0 where
   pub heads : (j : ℕ) (d : TickState) → j < length path → HasDirection (get_or path j d)
   pub moves : (j : ℕ) (d : TickState) → j + 1 < length path → IsBelow (2 ^ 25) (displacement (get_or path j d).point (get_or path (j + 1) d).point)
 
--- In some of so many steps from a tick on own ship enters the target's domain.
+-- In some of this many steps from a tick on own ship enters the target's domain.
 pub record EntersAlong (situation : Situation) (plan : List ℕ) (target : Target) (from steps : ℕ) : Type 0 where
   pub ahead : ℕ
   pub within : ahead < steps

@@ -1,4 +1,4 @@
--- The situation in which a plan of own ship is sought at now, the last tick: what scenario and messages make of it.
+-- The situation in which own ship's plan is searched for at now, the last tick, by scenario and messages.
 use Rattle.std.specs.Prelude.{ℕ, ◌+◌, ◌*◌, List, [], map, Option, Some, Result}
 use Rattle.std.specs.List.{range_with_len}
 use Rattle.lattice.specs.Grids.{positions_of}
@@ -35,7 +35,7 @@ abbrev pub past_of : JudgingNumbers → List Sent → Window → List Change →
 past_of numbers messages window changes vessel =
     map (λ k. known_state vessel.latest (legs_of numbers messages vessel.mmsi) changes (window_end window) (time_of_tick window k)) (range_with_len 0 (window.ticks + 1))
 
--- how she is predicted at the ticks from now on, so many of them behind now
+-- how she is predicted at the ticks from now on, for this number of ticks after now
 abbrev pub ahead_of : Window → ℕ → List Change → Near → List TickState
 ahead_of window ticks changes vessel =
     map (λ k. predicted_state vessel.latest changes (window_end window) (time_of_tick window (window.ticks + k))) (range_with_len 0 (ticks + 1))

@@ -36,7 +36,7 @@ module _ (last : Accepted) (changes : List Change) (now : ℕ) where
   abbrev pub motion_at : ℕ → Motion
   motion_at time = motion_by last.report (change_at changes now time)
 
-  -- her point so many seconds after the report: its point and the sum of her moves in these seconds
+  -- her point this many seconds after the report: its point and the sum of her moves in these seconds
   unfoldable pub point_after : ℕ → Point
   point_after zero = last.point
   point_after (suc seconds) = record {

@@ -6,15 +6,15 @@ use Rattle.plan_situations.specs.FailingPlans.{Fails, FailsBy}
 use Rattle.plan_situations.specs.Situations.{now_of}
 use Rattle.plan_situations.specs.declared.situation.Situation.{Situation}
 
--- how many steps so many legs tell: the last leg is held for the tail
+-- how many steps this number of legs determines: the last leg is held for the tail
 abbrev pub steps_told : Grid → ℕ → ℕ
 steps_told grid legs = if nat_lt legs grid.legs then legs * grid.leg_ticks else positions_of grid
 
--- the tick up to which they tell the steps
+-- the tick up to which they determine the steps
 abbrev pub reached : Situation → ℕ → ℕ
 reached situation legs = now_of situation + steps_told situation.lattice legs
 
--- A prefix fails: in the steps that it tells a value is No that is not No at now, or a domain is entered.
+-- A prefix fails: in its steps a value is No that is not No at now, or a domain is entered.
 abbrev pub PrefixFails : Situation → List ℕ → Type 0
 PrefixFails situation prefix = FailsBy situation (reached situation (length prefix)) prefix
 

@@ -1,4 +1,4 @@
--- What preparing a plan of own ship comes to.
+-- The result of preparing a plan of own ship.
 use Rattle.std.specs.Prelude.{◌≡◌, ◌≤◌, ◌<◌, List, length, All, true, Ok}
 use Rattle.plan_situations.specs.Situations.{IsSituation}
 use Rattle.scenario_values.specs.declared.own_part.OwnPart.{OwnPart}
@@ -20,7 +20,7 @@ abbrev pub HasManyTargets : JudgingNumbers → List Sent → Scenario → OwnPar
 HasManyTargets numbers messages scenario own = (ready : Ready) × (own_readiness numbers messages scenario own ≡ Ok ready)
     × (greatest_targets < length (targets_near numbers messages scenario own ready))
 
--- Own ship is ready, and has not too many targets: this is the situation in which her plan is sought.
+-- Own ship is ready and does not have too many targets: this is the situation of her plan.
 pub record IsPrepared (numbers : JudgingNumbers) (messages : List Sent) (scenario : Scenario) (own : OwnPart) (prepared : Prepared) : Type 0 where
   pub is_ready : own_readiness numbers messages scenario own ≡ Ok prepared.ready
   pub near : prepared.near.items ≡ vessels_near numbers messages scenario own prepared.ready

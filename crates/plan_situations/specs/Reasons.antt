@@ -20,7 +20,7 @@ module _ (situation : Situation) (plan : List ℕ) (last : ℕ) (target : Target
     pub no_step_before : (step rule : ℕ) → step < broken.step → ¬ RuleBreaksAt step rule
     pub no_rule_before : (rule : ℕ) → rule < broken.rule → ¬ RuleBreaksAt broken.step rule
 
-  -- She enters the domain in this step, as the moment tells, and in none from now to it.
+  -- She enters the domain in this step, at this moment, and in no step from now to it.
   pub record IsFirstEntry (entry : DomainEntry) : Type 0 where
     pub from_now : now_of situation ≤ entry.step
     pub planned : entry.step < last

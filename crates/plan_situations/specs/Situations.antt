@@ -12,7 +12,7 @@ use Rattle.plan_situations.specs.Domains.{IsDomain}
 use Rattle.plan_situations.specs.declared.situation.Situation.{Situation}
 use Rattle.plan_situations.specs.declared.situation.Target.{Target}
 
--- by what the meetings with the targets are told
+-- the numbers that define the meetings with the targets
 abbrev pub terms_of : Situation → Terms
 terms_of situation = record { detect = situation.detect; act = situation.act; tick = situation.tick }
 
@@ -27,7 +27,7 @@ end_of situation = now_of situation + positions_of situation.lattice
 abbrev pub sighting : List (Option TickState) → ℕ → Option TickState
 sighting past k = unwrap_or (slice_get past k) None
 
--- own ship under a plan, so many ticks after now
+-- own ship under a plan, this many ticks after now
 abbrev pub planned_state : Situation → List ℕ → ℕ → TickState
 planned_state situation plan k =
     own_state situation.lattice plan situation.tick situation.start.point (unwrap_or situation.start.direction 0) (unwrap_or situation.start.speed 0) k
@@ -46,7 +46,7 @@ target_at situation target k =
 abbrev pub known_at : Situation → ℕ → Option TickState
 known_at situation k = if nat_lt k (now_of situation) then sighting situation.own_past k else Some situation.start
 
--- From the first tick to a last one, where a vessel is seen, she is at a point and heads as a step may say, and moves so from tick to tick.
+-- From the first tick to a last one, if a vessel is seen, she is at a point and heads as a step may say, and moves so from tick to tick.
 pub record IsTracked (last : ℕ) (state_at : ℕ → Option TickState) : Type 0 where
   pub placed : (k : ℕ) → k ≤ last → IsPlaced (state_at k)
   pub heads : (k : ℕ) → k ≤ last → IfSome (state_at k) HasDirection

@@ -1,4 +1,4 @@
--- How what own ship lacks is told.
+-- How the program states what own ship lacks.
 use Rattle.std.specs.Prelude.{ℕ, List, codes}
 use Rattle.plan_situations.specs.declared.readiness.Unready.{Unready}
 use Rattle.plan_situations.specs.declared.readiness.Unready.TheVariants.{NoPoint, NoCourse, NoSpeed}

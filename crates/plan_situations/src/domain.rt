@@ -14,7 +14,7 @@ use fixed_geometry::norm2;
 use hull_domains::{Shape, enters, keeps_clear};
 use motion::Step;
 
-/// The water round a target that own ship is to stay out of: a circle. It yields to the situation's shape where there is one and the target
+/// The water round a target that own ship is to stay out of: a circle. It yields to the situation's shape if there is one and the target
 /// has a direction.
 #[derive(Clone, Copy, PartialEq, Eq)]
 pub struct Domain {
@@ -31,7 +31,7 @@ fn change2(step: &Step) -> u128
 }
 
 /// The moment of least distance of a step, if the vessels are nearer than the radius at some instant of it. Its numbers are below 2^60, which is
-/// looked at only where there is one.
+/// checked only if there is one.
 fn nearest_within(step: &Step, radius: u64) -> Option<Moment>
     requires { radius < 2 ^ 31 }
     ensures none { IsNone result ↔ IsSeparated step.now radius }
@@ -50,18 +50,20 @@ fn nearest_within(step: &Step, radius: u64) -> Option<Moment>
 fn enters_shape(step: Step, direction: u16, shape: &Shape) -> bool
     requires { direction < 3600 }
     ensures outside { result ≡ false → StaysOutside step direction shape.now }
-    ensures inside { IsTrue result → (a b : ℕ) × (a ≤ b) × (0 < b) × IsInside step direction shape.now a b }
+    ensures inside { IsTrue result
+        → (a b : ℕ) × (a ≤ b) × (0 < b) × IsInside step direction shape.now a b }
 {
     enters(&step, direction, shape).is_some()
 }
 
 impl Situation {
-    /// A moment of a step of both at which own ship is inside the target's domain, told by numbers below 2^60: for a shape one between the
-    /// crossings of its edges, for a circle that of least distance. `None` where she is inside at no instant of the step.
+    /// A moment of a step of both at which own ship is inside the target's domain, given by numbers below 2^60: for a shape one between
+    /// the crossings of its edges, for a circle that of least distance. `None` if she is inside at no instant of the step.
     pub fn entry(&self, target: &Target, pair: &PairStep) -> Option<Moment>
         requires target { IsTarget self.now target.now }
         requires heads { HaveDirections pair.now }
-        ensures { MatchOption result (¬ Enters self.now target.now pair.now) (IsEntry self.now target.now pair.now) }
+        ensures { MatchOption result (¬ Enters self.now target.now pair.now)
+            (IsEntry self.now target.now pair.now) }
     {
         match (&self.shape, pair.b.direction) {
             (Some(shape), Some(direction)) => enters(&pair.step, direction, shape),

@@ -17,7 +17,8 @@ impl Situation {
         requires situation { IsSituation self.now }
         requires plan { IsPlan (choices_of self.now.lattice) self.now.lattice.legs plan.now }
         requires target { IsTarget self.now target.now }
-        ensures { IfOk result (λ fails. IsTrue fails ↔ FailsTowards self.now plan.now (end_of self.now) target.now) }
+        ensures { IfOk result
+            (λ fails. IsTrue fails ↔ FailsTowards self.now plan.now (end_of self.now) target.now) }
     {
         let end = self.end();
         let entry = self.entered(alloc, plan, target, end)?;
@@ -43,11 +44,12 @@ impl Situation {
     }
 }
 
-/// The least numbered plan that does not fail, or `None` where every plan fails: it tries the plans one after the other, each over
+/// The lowest-numbered plan that does not fail, or `None` if every plan fails: it tries the plans one after the other, each over
 /// its whole trace.
 pub fn least_plan(alloc: Global, situation: &Situation) -> Result<Option<Plan>, Memory>
     requires { IsSituation situation.now }
-    ensures { IfOk result (λ answer. MatchOption answer (AllFail situation.now) (IsLeastPlan situation.now)) }
+    ensures { IfOk result
+        (λ answer. MatchOption answer (AllFail situation.now) (IsLeastPlan situation.now)) }
 {
     for number in 0..situation.lattice.plans() {
         let plan = situation.lattice.plan(number);

@@ -3,7 +3,7 @@ use crate::situation::Target;
 use motion::TickState;
 use std::marker::Model;
 
-/// How a vessel was seen at the ticks up to now: `None` where she was not. It is seen as a list.
+/// How a vessel was seen at the ticks up to now: `None` if she was not. It is seen as a list.
 #[derive(Drop)]
 pub struct Past {
     list: Vec<Option<TickState>>,

@@ -56,15 +56,19 @@ pub(crate) struct Circle {
 }
 
 impl Circle {
-    /// The latest accepted report of a vessel, where she is near.
+    /// The latest accepted report of a vessel, if she is near.
     fn near_by(&self, gap: u32, mmsi: u32, latest: Option<&Accepted>) -> Option<Near>
         requires gap { gap ≤ 3600 }
         requires early { self.now.time ≤ 100000000000 }
         requires range { self.now.range ≤ 1000000000 }
         requires point { IsWithin 7900640400 self.now.point }
         requires accepted { IfSome (option_copied latest) IsAccepted }
-        ensures value { result ≡ near_by gap self.now.time self.now.range self.now.point mmsi (option_copied latest.entry) }
-        ensures fresh { IfSome result (λ near. (near.mmsi ≡ mmsi) × (option_copied latest.entry ≡ Some near.latest) × IsAccepted near.latest × IsFresh self.now.time near.latest) }
+        ensures value { result
+            ≡ near_by gap self.now.time self.now.range self.now.point mmsi
+            (option_copied latest.entry) }
+        ensures fresh { IfSome result
+            (λ near. (near.mmsi ≡ mmsi) × (option_copied latest.entry ≡ Some near.latest)
+            × IsAccepted near.latest × IsFresh self.now.time near.latest) }
     {
         let latest = latest?;
         if !is_fresh(gap, self.time, latest) {
@@ -87,7 +91,9 @@ impl Circle {
         requires point { IsWithin 7900640400 self.now.point }
         requires keeping { book.now.keeping ≡ Tracks }
         requires same_gap { book.now.numbers.gap ≡ gap }
-        ensures near { IfOk result (λ near. (numbers : JudgingNumbers) (messages : List Sent) → StandsFor book.now numbers messages
+        ensures near { IfOk result
+            (λ near. (numbers : JudgingNumbers) (messages : List Sent)
+            → StandsFor book.now numbers messages
             → near.items ≡ near_of numbers messages self.now.time self.now.range self.now.point) }
         ensures each { IfOk result (λ near. All (IsNear self.now.time book.now) near.items) }
     {

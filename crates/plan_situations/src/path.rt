@@ -15,7 +15,7 @@ use meetings::{contact, step_between};
 use motion::TickState;
 
 impl Situation {
-    /// Where own ship is, and how she heads and moves, so many steps after now.
+    /// Where own ship is, and how she heads and moves, this many steps after now.
     pub fn own_after(&self, plan: &Plan, steps: u32) -> UnderWay
         requires situation { IsSituation self.now }
         requires plan { IsPlan (choices_of self.now.lattice) self.now.lattice.legs plan.now }
@@ -42,7 +42,7 @@ impl Situation {
             .fill_motion(&self.start, plan, self.tick, first, own, path);
     }
 
-    /// The step of a path that begins at a tick, counted from now, and of a target, so many ticks later.
+    /// The step of a path that begins at a tick, counted from now, and of a target, this many ticks later.
     #[inline(always)]
     pub fn step_on(
         &self,
@@ -57,7 +57,8 @@ impl Situation {
         requires planned { first + length path.now ≤ positions_of self.now.lattice + 1 }
         requires step { j + 1 < length path.now }
         ensures value { (plan : List ℕ) → IsPath self.now plan first path.now
-            → result ≡ step_at (own_at self.now plan) (target_at self.now target.now) (now_of self.now + first + j) }
+            → result ≡ step_at (own_at self.now plan) (target_at self.now target.now)
+            (now_of self.now + first + j) }
         ensures heads { IfSome result HaveDirections }
     {
         let ahead = first + j as u32;
@@ -87,7 +88,8 @@ impl Situation {
         requires planned { length path.now ≤ positions_of self.now.lattice + 1 }
         requires target { IsTarget self.now target.now }
         requires within { k + 1 < now_of self.now + length path.now }
-        ensures value { result ≡ step_at (own_at self.now plan.now) (target_at self.now target.now) k }
+        ensures value { result
+            ≡ step_at (own_at self.now plan.now) (target_at self.now target.now) k }
         ensures heads { IfSome result HaveDirections }
     {
         let now = self.now();
@@ -106,7 +108,8 @@ impl Situation {
         requires planned { first + length path.now ≤ positions_of self.now.lattice + 1 }
         requires tick { j < length path.now }
         ensures { (plan : List ℕ) → IsPath self.now plan first path.now
-            → (IsTrue result ↔ IsContactAt (own_at self.now plan) (target_at self.now target.now) self.now.detect.watch (now_of self.now + first + j)) }
+            → (IsTrue result ↔ IsContactAt (own_at self.now plan)
+            (target_at self.now target.now) self.now.detect.watch (now_of self.now + first + j)) }
     {
         let other = self.target_ahead(target, first + j as u32);
         contact(&path[j], &other, self.detect.watch)
@@ -136,7 +139,8 @@ impl Situation {
         requires planned { first + length path.now ≤ positions_of self.now.lattice + 1 }
         requires some { 1 ≤ length path.now }
         ensures { (plan : List ℕ) → IsPath self.now plan first path.now
-            → (IsTrue result ↔ EntersAlong self.now plan target.now (now_of self.now + first) (length path.now - 1)) }
+            → (IsTrue result ↔ EntersAlong self.now plan target.now (now_of self.now + first)
+            (length path.now - 1)) }
     {
         for j in 0..path.len() - 1 {
             if self.enters_on(path, target, first, j) {

@@ -79,7 +79,7 @@ fn product(seconds: u64, velocity: i64) -> i64
     seconds as i64 * velocity
 }
 
-/// How far a vessel gets in so many seconds, in one component.
+/// How far a vessel gets in this many seconds, in one component.
 fn scale(velocity: i64, seconds: u64) -> i64
     requires velocity { unsigned_abs velocity ≤ 525763 }
     requires seconds { seconds ≤ 10800 }
@@ -98,7 +98,7 @@ fn moved(from: i64, way: i64) -> i64
     from + way
 }
 
-/// Where a vessel is after so many seconds of a velocity.
+/// Where a vessel is after this many seconds of a velocity.
 fn gone_by(point: Point, velocity: Point, seconds: u64) -> Point
     requires near { IsWithin 7900640400 point }
     requires slow { IsWithin 525763 velocity }
@@ -135,7 +135,8 @@ fn past_change(run: Run, change: &Change, now: u64, time: u64) -> Run
     requires course { change.now.course ≤ 3599 }
     requires speed { change.now.speed ≤ 1022 }
     ensures since { result.since ≡ min (now + change.now.after) time }
-    ensures point { result.point ≡ gone_by run.motion.velocity (result.since - run.since) run.point }
+    ensures point { result.point
+        ≡ gone_by run.motion.velocity (result.since - run.since) run.point }
     ensures come { now + change.now.after ≤ time → result.motion ≡ changed_motion change.now }
     ensures to_come { time < now + change.now.after → result.motion ≡ run.motion }
     ensures motion { IsMotion result.motion }
@@ -166,8 +167,9 @@ pub fn predicted(last: &Accepted, changes: &[Change], now: u64, time: u64) -> Ti
     requires early { now ≤ 100000000000 }
     ensures value { result ≡ predicted_state last.now changes.now now time }
     ensures state { IsTickState 7900640400 result }
-    ensures moves { (earlier : ℕ) → last.now.time ≤ earlier → earlier ≤ time →
-        IsWithin ((time - earlier) * 525763) (displacement (predicted_state last.now changes.now now earlier).point result.point) }
+    ensures moves { (earlier : ℕ) → last.now.time ≤ earlier → earlier ≤ time
+        → IsWithin ((time - earlier) * 525763)
+        (displacement (predicted_state last.now changes.now now earlier).point result.point) }
 {
     let mut run = Run {
         point: last.point,

@@ -1,4 +1,4 @@
-//! The situation in which a plan of own ship is sought.
+//! The situation in which a plan of own ship is searched for.
 ghost use Rattle.std.specs.Prelude.{ℕ, ◌≡◌, ◌≤◌, ◌<◌, ◌+◌, ◌*◌, List, [], length, map, All, IfOk, IfSome, IsSome, Err, Ok, Some};
 ghost use Rattle.lattice.specs.Grids.{positions_of};
 ghost use Rattle.motion.specs.TickStates.{IsTickState};
@@ -64,7 +64,7 @@ impl From<Unready> for PrepareFault {
     }
 }
 
-/// Own ship at now, and what a plan of hers is sought in.
+/// Own ship at now, and what a plan of hers is searched for in.
 #[derive(Drop)]
 pub struct Prepared {
     pub ready: Ready,
@@ -82,28 +82,53 @@ struct Surroundings {
     targets: Vec<Target>,
 }
 
-/// What a book tells of own ship and of the vessels near her. It may end early, so it owns nothing of the scenario: all that is owned at
+/// What a book knows of own ship and of the vessels near her. It may end early, so it owns nothing of the scenario: all that is owned at
 /// such an end is dropped there, and the proof has to follow each drop.
 fn surroundings_of(alloc: Global, setting: &Setting, gap: u32) -> Result<Surroundings, PrepareFault>
     requires setting { IsSetting setting.now }
     requires gap { setting.now.book.now.numbers.gap ≡ gap }
     requires short { gap ≤ 3600 }
-    ensures ready { IfOk result (λ found. (numbers : JudgingNumbers) (messages : List Sent) → StandsFor setting.now.book.now numbers messages
-        → readiness_of numbers messages (window_end setting.now.window) setting.now.own.now.mmsi ≡ Ok found.ready) }
-    ensures own { IfOk result (λ found. IsReady found.ready × IsNear (window_end setting.now.window) setting.now.book.now (own_near setting.now.own.now found.ready)) }
-    ensures near { IfOk result (λ found. (numbers : JudgingNumbers) (messages : List Sent) → StandsFor setting.now.book.now numbers messages
-        → found.near.items ≡ near_of numbers messages (window_end setting.now.window) (metre * setting.now.own.now.range) (point_now (window_end setting.now.window) found.ready.latest)) }
-    ensures few { IfOk result (λ found. length (others_of setting.now.own.now.mmsi found.near.items) ≤ greatest_targets) }
-    ensures past { IfOk result (λ found. (numbers : JudgingNumbers) (messages : List Sent) → StandsFor setting.now.book.now numbers messages
-        → found.own_past ≡ past_of numbers messages setting.now.window [] (own_near setting.now.own.now found.ready)) }
-    ensures seen { IfOk result (λ found. IsKnownBelow (setting.now.window.ticks + 1) (sighting found.own_past)) }
-    ensures targets { IfOk result (λ found. (numbers : JudgingNumbers) (messages : List Sent) → StandsFor setting.now.book.now numbers messages
-        → found.targets.items ≡ map (target_of numbers messages setting.now.window setting.now.own.now) (others_of setting.now.own.now.mmsi found.near.items)) }
-    ensures over { IfOk result (λ found. All (IsTargetOver setting.now.window.ticks (positions_of setting.now.own.now.lattice)) found.targets.items) }
-    ensures unready { (why : Unready) → result ≡ Err (PrepareFault.Unready why) → (numbers : JudgingNumbers) (messages : List Sent)
+    ensures ready { IfOk result
+        (λ found. (numbers : JudgingNumbers) (messages : List Sent)
         → StandsFor setting.now.book.now numbers messages
-        → readiness_of numbers messages (window_end setting.now.window) setting.now.own.now.mmsi ≡ Err why }
-    ensures many { result ≡ Err PrepareFault.TooManyTargets → (numbers : JudgingNumbers) (messages : List Sent)
+        → readiness_of numbers messages (window_end setting.now.window) setting.now.own.now.mmsi
+        ≡ Ok found.ready) }
+    ensures own { IfOk result
+        (λ found. IsReady found.ready
+        × IsNear (window_end setting.now.window) setting.now.book.now
+        (own_near setting.now.own.now found.ready)) }
+    ensures near { IfOk result
+        (λ found. (numbers : JudgingNumbers) (messages : List Sent)
+        → StandsFor setting.now.book.now numbers messages
+        → found.near.items
+        ≡ near_of numbers messages (window_end setting.now.window)
+        (metre * setting.now.own.now.range)
+        (point_now (window_end setting.now.window) found.ready.latest)) }
+    ensures few { IfOk result
+        (λ found. length (others_of setting.now.own.now.mmsi found.near.items) ≤ greatest_targets) }
+    ensures past { IfOk result
+        (λ found. (numbers : JudgingNumbers) (messages : List Sent)
+        → StandsFor setting.now.book.now numbers messages
+        → found.own_past ≡ past_of numbers messages setting.now.window []
+        (own_near setting.now.own.now found.ready)) }
+    ensures seen { IfOk result
+        (λ found. IsKnownBelow (setting.now.window.ticks + 1) (sighting found.own_past)) }
+    ensures targets { IfOk result
+        (λ found. (numbers : JudgingNumbers) (messages : List Sent)
+        → StandsFor setting.now.book.now numbers messages
+        → found.targets.items
+        ≡ map (target_of numbers messages setting.now.window setting.now.own.now)
+        (others_of setting.now.own.now.mmsi found.near.items)) }
+    ensures over { IfOk result
+        (λ found. All (IsTargetOver setting.now.window.ticks
+        (positions_of setting.now.own.now.lattice)) found.targets.items) }
+    ensures unready { (why : Unready) → result ≡ Err (PrepareFault.Unready why)
+        → (numbers : JudgingNumbers) (messages : List Sent)
+        → StandsFor setting.now.book.now numbers messages
+        → readiness_of numbers messages (window_end setting.now.window) setting.now.own.now.mmsi
+        ≡ Err why }
+    ensures many { result ≡ Err PrepareFault.TooManyTargets
+        → (numbers : JudgingNumbers) (messages : List Sent)
         → StandsFor setting.now.book.now numbers messages
         → HasMany numbers messages setting.now.window setting.now.own.now }
 {
@@ -146,7 +171,14 @@ fn start_of(window: &Window, ready: &Ready) -> TickState
     requires window { IsWindow window.now }
     requires ready { IsReady ready.now }
     requires fresh { IsFresh (window_end window.now) ready.now.latest }
-    ensures value { result ≡ record { point = point_now (window_end window.now) ready.now.latest; direction = Some ready.now.course; speed = Some ready.now.speed } }
+    ensures value { result
+        ≡ record {
+          point = point_now
+              (window_end window.now) ready.now.latest;
+          direction = Some ready.now.course;
+          speed = Some
+              ready.now.speed;
+        } }
     ensures state { IsTickState (2222400000 + 3600 * 525763) result }
 {
     let now = window.time(window.ticks);
@@ -158,19 +190,23 @@ fn start_of(window: &Window, ready: &Ready) -> TickState
 }
 
 /// Prepares the search for a plan of own ship at now, the last tick of the scenario's window, by the vessels of a book that keeps their
-/// tracks. `Unready` comes where she is not ready, and `TooManyTargets` where she is and more than 64 other vessels are near.
+/// tracks. `Unready` comes if she is not ready, and `TooManyTargets` if she is and more than 64 other vessels are near.
 pub fn prepare(alloc: Global, scenario: Scenario, book: &Book) -> Result<Prepared, PrepareFault>
     requires in_range { IsInRange scenario }
     requires own { IsSome scenario.own }
     requires keeping { book.now.keeping ≡ Tracks }
     requires gap { book.now.numbers.gap ≡ scenario.log.gap }
     requires stands { StandsForSome book.now }
-    ensures prepared { IfOk result (λ prepared. (numbers : JudgingNumbers) (messages : List Sent) → StandsFor book.now numbers messages
+    ensures prepared { IfOk result
+        (λ prepared. (numbers : JudgingNumbers) (messages : List Sent)
+        → StandsFor book.now numbers messages
         → IfSome scenario.own (λ own. IsPrepared numbers messages scenario own prepared)) }
-    ensures unready { (why : Unready) → result ≡ Err (PrepareFault.Unready why) → (numbers : JudgingNumbers) (messages : List Sent)
-        → StandsFor book.now numbers messages → IfSome scenario.own (λ own. own_readiness numbers messages scenario own ≡ Err why) }
-    ensures many { result ≡ Err PrepareFault.TooManyTargets → (numbers : JudgingNumbers) (messages : List Sent)
-        → StandsFor book.now numbers messages → IfSome scenario.own (HasManyTargets numbers messages scenario) }
+    ensures unready { (why : Unready) → result ≡ Err (PrepareFault.Unready why)
+        → (numbers : JudgingNumbers) (messages : List Sent) → StandsFor book.now numbers messages
+        → IfSome scenario.own (λ own. own_readiness numbers messages scenario own ≡ Err why) }
+    ensures many { result ≡ Err PrepareFault.TooManyTargets
+        → (numbers : JudgingNumbers) (messages : List Sent) → StandsFor book.now numbers messages
+        → IfSome scenario.own (HasManyTargets numbers messages scenario) }
     ensures course { IfOk result (λ prepared. prepared.ready.course < 3600) }
     ensures speed { IfOk result (λ prepared. prepared.ready.speed ≤ 1022) }
 {

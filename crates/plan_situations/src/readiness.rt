@@ -15,9 +15,9 @@ use tracks::Accepted;
 pub enum Unready {
     /// She has no accepted report at most the gap old: this is the time of her latest, if she has any.
     NoPoint(Option<u64>),
-    /// Her latest accepted report tells no course.
+    /// Her latest accepted report has no course.
     NoCourse(u64),
-    /// It tells a course, but no speed.
+    /// It has a course, but no speed.
     NoSpeed(u64),
 }
 

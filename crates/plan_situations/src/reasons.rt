@@ -1,5 +1,5 @@
 //! Why a plan fails towards a target. Each reason is asked up to a horizon, any tick from now to the last planned one: the planned trace is cut
-//! there, and a prefix of legs has the one up to which it tells the steps.
+//! there, and the horizon of a prefix of legs is the tick up to which it determines the steps.
 ghost use Rattle.std.specs.Prelude.{ℕ, ◌≡◌, ◌+◌, ◌-◌, ◌≤◌, ◌<◌, ◌↔◌, length, map, IfOk, IfSome, IsSome, IsSomeAnd, IsTrue, MatchOption};
 ghost use Rattle.lattice.specs.Grids.{choices_of, positions_of};
 ghost use Rattle.lattice.specs.PlanNumbers.{IsPlan};
@@ -39,7 +39,7 @@ pub struct BrokenRule {
 pub struct DomainEntry {
     /// The tick at which the step begins.
     pub step: u32,
-    /// An instant of the step at which she is inside, told by numbers below 2^60: for a circle that of least distance.
+    /// An instant of the step at which she is inside, given by numbers below 2^60: for a circle that of least distance.
     pub moment: Moment,
 }
 
@@ -54,16 +54,18 @@ fn value_at(formula: &Formula, rows: &[AtomRow], position: usize) -> Verdict
 /// Whether it is No there.
 fn is_broken(formula: &Formula, rows: &[AtomRow], position: usize) -> bool
     requires { IsValid (tree_of formula.now) }
-    ensures { IsTrue result ↔ (value_in (map answer_of rows.now) (tree_of formula.now) position ≡ No) }
+    ensures { IsTrue result
+        ↔ (value_in (map answer_of rows.now) (tree_of formula.now) position ≡ No) }
 {
     value_at(formula, rows, position) == Verdict::No
 }
 
-/// Whether it is No there, and is not where the trace is cut off behind so many positions.
+/// Whether it is No there, and is not if the trace is cut off after this many positions.
 fn is_newly_broken(formula: &Formula, rows: &[AtomRow], cut: usize, position: usize) -> bool
     requires valid { IsValid (tree_of formula.now) }
     requires cut { cut ≤ length rows.now }
-    ensures { IsTrue result ↔ IsNewlyBrokenHere cut (map answer_of rows.now) (tree_of formula.now) position }
+    ensures { IsTrue result
+        ↔ IsNewlyBrokenHere cut (map answer_of rows.now) (tree_of formula.now) position }
 {
     if !is_broken(formula, rows, position) {
         return false;
@@ -81,7 +83,9 @@ impl Situation {
         requires target { IsTarget self.now target.now }
         requires until { until ≤ end_of self.now }
         ensures { MatchOption result
-            ((k : ℕ) → k < until → ¬ IsContactAt (own_at self.now plan.now) (target_at self.now target.now) self.now.detect.watch k)
+            ((k : ℕ) → k < until
+            → ¬ IsContactAt (own_at self.now plan.now)
+            (target_at self.now target.now) self.now.detect.watch k)
             (BeginsAt self.now plan.now until target.now) }
     {
         for k in 0..until {
@@ -124,7 +128,9 @@ impl Situation {
         requires start { start < until }
         requires from_now { now_of self.now ≤ until }
         requires until { until ≤ end_of self.now }
-        ensures rows { IfOk result (λ rows. AreTraceRows self.now plan.now until target.now start (map answer_of rows.items)) }
+        ensures rows { IfOk result
+            (λ rows. AreTraceRows self.now plan.now until target.now start
+            (map answer_of rows.items)) }
         ensures count { IfOk result (λ rows. length rows.items ≡ until - start) }
     {
         let path = self.path_up_to(alloc, plan, until)?;
@@ -146,7 +152,9 @@ impl Situation {
     ) -> bool
         requires cut { cut ≤ length rows.now }
         requires known { rule < length self.now.rules }
-        ensures { IsTrue result ↔ IsNewlyBrokenHere cut (map answer_of rows.now) (rule_at self.now.rules rule).tree position }
+        ensures { IsTrue result
+            ↔ IsNewlyBrokenHere cut (map answer_of rows.now)
+            (rule_at self.now.rules rule).tree position }
     {
         is_newly_broken(self.rules.formula(rule), rows, cut, position)
     }
@@ -154,7 +162,8 @@ impl Situation {
     /// The first rule that is newly broken at a position of a trace.
     fn first_rule(&self, rows: &[AtomRow], cut: usize, position: usize) -> Option<usize>
         requires { cut ≤ length rows.now }
-        ensures { MatchOption result ((rule : ℕ) → ¬ IsRuleBroken self.now.rules cut (map answer_of rows.now) position rule)
+        ensures { MatchOption result
+            ((rule : ℕ) → ¬ IsRuleBroken self.now.rules cut (map answer_of rows.now) position rule)
             (IsFirstThere self.now.rules cut (map answer_of rows.now) position) }
     {
         for rule in 0..self.rules.len() {
@@ -168,7 +177,9 @@ impl Situation {
     /// The first position of a trace at which a rule is newly broken, and the first such rule.
     fn first_broken(&self, rows: &[AtomRow], cut: usize) -> Option<(usize, usize)>
         requires { cut ≤ length rows.now }
-        ensures first { MatchOption result ((position rule : ℕ) → ¬ IsRuleBroken self.now.rules cut (map answer_of rows.now) position rule)
+        ensures first { MatchOption result
+            ((position rule : ℕ)
+            → ¬ IsRuleBroken self.now.rules cut (map answer_of rows.now) position rule)
             (λ found. IsFirstOfAll self.now.rules cut (map answer_of rows.now) found.0 found.1) }
         ensures within { IfSome result (λ found. found.0 < length rows.now) }
     {
@@ -180,7 +191,7 @@ impl Situation {
         None
     }
 
-    /// The rule that is newly broken first towards a target, by the step and then by the rule's index. `None` exactly where none is.
+    /// The rule that is newly broken first towards a target, by the step and then by the rule's index. `None` exactly if none is.
     pub fn newly_broken(
         &self,
         alloc: Global,
@@ -193,7 +204,9 @@ impl Situation {
         requires target { IsTarget self.now target.now }
         requires from_now { now_of self.now ≤ until }
         requires until { until ≤ end_of self.now }
-        ensures { IfOk result (λ found. MatchOption found (¬ BreaksARule self.now plan.now until target.now) (IsFirstBroken self.now plan.now until target.now)) }
+        ensures { IfOk result
+            (λ found. MatchOption found (¬ BreaksARule self.now plan.now until target.now)
+            (IsFirstBroken self.now plan.now until target.now)) }
     {
         let Some(start) = self.trace_start(plan, target, until) else {
             return Ok(None);
@@ -209,7 +222,7 @@ impl Situation {
         }
     }
 
-    /// The moment that tells of own ship in the target's domain in a step, by her path from now on, if she enters it there.
+    /// The moment at which own ship is in the target's domain in a step, by her path from now on, if she enters it there.
     fn entry_at(
         &self,
         plan: &Plan,
@@ -225,13 +238,15 @@ impl Situation {
         requires target { IsTarget self.now target.now }
         requires within { step + 1 < now_of self.now + length path.now }
         ensures { MatchOption result (¬ EntersAt self.now plan.now target.now step)
-            (λ moment. IsSomeAnd (step_at (own_at self.now plan.now) (target_at self.now target.now) step) (λ pair. IsEntry self.now target.now pair moment)) }
+            (λ moment. IsSomeAnd
+            (step_at (own_at self.now plan.now) (target_at self.now target.now) step)
+            (λ pair. IsEntry self.now target.now pair moment)) }
     {
         let pair = self.step_along(plan, path, target, step)?;
         self.entry(target, &pair)
     }
 
-    /// The first step from now on in which own ship enters a target's domain. `None` exactly where there is none.
+    /// The first step from now on in which own ship enters a target's domain. `None` exactly if there is none.
     pub fn entered(
         &self,
         alloc: Global,
@@ -244,7 +259,9 @@ impl Situation {
         requires target { IsTarget self.now target.now }
         requires from_now { now_of self.now ≤ until }
         requires until { until ≤ end_of self.now }
-        ensures { IfOk result (λ found. MatchOption found (¬ EntersDomain self.now plan.now until target.now) (IsFirstEntry self.now plan.now until target.now)) }
+        ensures { IfOk result
+            (λ found. MatchOption found (¬ EntersDomain self.now plan.now until target.now)
+            (IsFirstEntry self.now plan.now until target.now)) }
     {
         let path = self.path_up_to(alloc, plan, until)?;
         for step in self.now()..until {

@@ -1,4 +1,4 @@
-//! The situation in which a plan is sought.
+//! The situation in which a plan is searched for.
 use crate::domain::Domain;
 use crate::lists::{Ahead, Past, Targets};
 use encounters::{Act, Detect};
@@ -12,15 +12,15 @@ use rule_set::RuleSet;
 pub struct Target {
     /// Her MMSI.
     pub mmsi: u32,
-    /// How she was seen at the ticks up to now, the first of which is tick 0.
+    /// How she was seen at the ticks up to now; the first is tick 0.
     pub past: Past,
     /// How she is predicted at the ticks from now on, up to the last planned one.
     pub ahead: Ahead,
-    /// The water round her that own ship is to stay out of, where the situation's shape does not stand for it.
+    /// The water round her that own ship is to stay out of, if the situation's shape does not stand for it.
     pub domain: Domain,
 }
 
-/// What is known at now, and the plans among which one is sought.
+/// What is known at now, and the plans among which one is searched for.
 #[derive(Drop)]
 pub struct Situation {
     /// How own ship was seen at the ticks up to now, 2 to 20,001 of them. The last one is now, where `start` is her state.
@@ -39,6 +39,6 @@ pub struct Situation {
     pub lattice: Lattice,
     /// The length of a tick, at most 60 s.
     pub tick: u32,
-    /// The domain of each target in a step at whose first tick she has a direction, with which it turns. `None` where domains are circles.
+    /// The domain of each target in a step at whose first tick she has a direction, with which it turns. `None` if domains are circles.
     pub shape: Option<Shape>,
 }

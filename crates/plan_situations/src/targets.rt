@@ -34,7 +34,7 @@ pub(crate) struct Setting<'a> {
 }
 
 impl Setting<'_> {
-    /// The track of a vessel, of whom these changes are predicted.
+    /// The track of a vessel for which these changes are predicted.
     fn track<'b>(&'b self, vessel: &Near, changes: &'b [Change]) -> KnownTrack<'b>
         requires setting { IsSetting self.now }
         requires near { IsNear (window_end self.now.window) self.now.book.now vessel.now }
@@ -43,7 +43,8 @@ impl Setting<'_> {
         ensures window { result.window ≡ self.now.window }
         ensures latest { result.latest ≡ vessel.now.latest }
         ensures changes { result.changes.now ≡ changes.now }
-        ensures legs { (numbers : JudgingNumbers) (messages : List Sent) → StandsFor self.now.book.now numbers messages
+        ensures legs { (numbers : JudgingNumbers) (messages : List Sent)
+            → StandsFor self.now.book.now numbers messages
             → legs_known (option_copied result.legs) ≡ legs_of numbers messages vessel.now.mmsi }
     {
         self.book.comes_to_latest(vessel.mmsi);
@@ -55,13 +56,16 @@ impl Setting<'_> {
         }
     }
 
-    /// How a vessel of whom no changes are predicted is known at the ticks up to now.
+    /// How a vessel without predicted changes is known at the ticks up to now.
     pub(crate) fn past(&self, alloc: Global, vessel: &Near) -> Result<Past, Memory>
         requires setting { IsSetting self.now }
         requires near { IsNear (window_end self.now.window) self.now.book.now vessel.now }
-        ensures value { IfOk result (λ past. (numbers : JudgingNumbers) (messages : List Sent) → StandsFor self.now.book.now numbers messages
+        ensures value { IfOk result
+            (λ past. (numbers : JudgingNumbers) (messages : List Sent)
+            → StandsFor self.now.book.now numbers messages
             → past ≡ past_of numbers messages self.now.window [] vessel.now) }
-        ensures known { IfOk result (λ past. IsKnownBelow (self.now.window.ticks + 1) (sighting past)) }
+        ensures known { IfOk result
+            (λ past. IsKnownBelow (self.now.window.ticks + 1) (sighting past)) }
     {
         self.track(vessel, &[]).past(alloc)
     }
@@ -70,8 +74,11 @@ impl Setting<'_> {
     fn domain(&self, vessel: &Near) -> Domain
         requires setting { IsSetting self.now }
         requires near { IsNear (window_end self.now.window) self.now.book.now vessel.now }
-        ensures value { (numbers : JudgingNumbers) (messages : List Sent) → StandsFor self.now.book.now numbers messages
-            → result.radius ≡ metre * (self.now.own.now.base + self.now.own.now.lengths * length_of (statics_of messages vessel.now.mmsi).ship) }
+        ensures value { (numbers : JudgingNumbers) (messages : List Sent)
+            → StandsFor self.now.book.now numbers messages
+            → result.radius ≡ metre
+            * (self.now.own.now.base
+            + self.now.own.now.lengths * length_of (statics_of messages vessel.now.mmsi).ship) }
         ensures domain { IsDomain result }
     {
         let length = u64::from(self.book.length(vessel.mmsi));
@@ -84,9 +91,12 @@ impl Setting<'_> {
     fn target(&self, alloc: Global, vessel: &Near) -> Result<Target, Memory>
         requires setting { IsSetting self.now }
         requires near { IsNear (window_end self.now.window) self.now.book.now vessel.now }
-        ensures value { IfOk result (λ target. (numbers : JudgingNumbers) (messages : List Sent) → StandsFor self.now.book.now numbers messages
+        ensures value { IfOk result
+            (λ target. (numbers : JudgingNumbers) (messages : List Sent)
+            → StandsFor self.now.book.now numbers messages
             → target ≡ target_of numbers messages self.now.window self.now.own.now vessel.now) }
-        ensures over { IfOk result (IsTargetOver self.now.window.ticks (positions_of self.now.own.now.lattice)) }
+        ensures over { IfOk result
+            (IsTargetOver self.now.window.ticks (positions_of self.now.own.now.lattice)) }
     {
         let changes = changes_for(self.own.predict.as_slice(), vessel.mmsi);
         let track = self.track(vessel, changes);
@@ -102,9 +112,14 @@ impl Setting<'_> {
     pub(crate) fn targets(&self, alloc: Global, near: &[Near]) -> Result<Vec<Target>, Memory>
         requires setting { IsSetting self.now }
         requires near { All (IsNear (window_end self.now.window) self.now.book.now) near.now }
-        ensures value { IfOk result (λ targets. (numbers : JudgingNumbers) (messages : List Sent) → StandsFor self.now.book.now numbers messages
-            → targets.items ≡ map (target_of numbers messages self.now.window self.now.own.now) (others_of self.now.own.now.mmsi near.now)) }
-        ensures over { IfOk result (λ targets. All (IsTargetOver self.now.window.ticks (positions_of self.now.own.now.lattice)) targets.items) }
+        ensures value { IfOk result
+            (λ targets. (numbers : JudgingNumbers) (messages : List Sent)
+            → StandsFor self.now.book.now numbers messages
+            → targets.items ≡ map (target_of numbers messages self.now.window self.now.own.now)
+            (others_of self.now.own.now.mmsi near.now)) }
+        ensures over { IfOk result
+            (λ targets. All (IsTargetOver self.now.window.ticks
+            (positions_of self.now.own.now.lattice)) targets.items) }
     {
         let mut targets = Vec::new(alloc);
         for vessel in near {

@@ -34,7 +34,7 @@ impl Situation {
         self.now() + self.lattice.positions()
     }
 
-    /// Own ship's state under a plan, so many ticks after now.
+    /// Own ship's state under a plan, this many ticks after now.
     pub fn own_ahead(&self, plan: &Plan, k: u32) -> TickState
         requires situation { IsSituation self.now }
         requires plan { IsPlan (choices_of self.now.lattice) self.now.lattice.legs plan.now }
@@ -42,7 +42,9 @@ impl Situation {
         ensures value { result ≡ planned_state self.now plan.now k }
         ensures placed { IsBelow (2 ^ 33) result.point }
         ensures heads { HasDirection result }
-        ensures moves { (before : ℕ) → k ≡ before + 1 → IsBelow (2 ^ 25) (displacement (planned_state self.now plan.now before).point result.point) }
+        ensures moves { (before : ℕ) → k ≡ before + 1
+            → IsBelow (2 ^ 25)
+            (displacement (planned_state self.now plan.now before).point result.point) }
     {
         self.lattice.own_motion(&self.start, plan, self.tick, k)
     }
@@ -55,7 +57,8 @@ impl Situation {
         ensures value { result ≡ own_at self.now plan.now k }
         ensures placed { IsPlaced result }
         ensures heads { IfSome result HasDirection }
-        ensures moves { (before : ℕ) → k ≡ before + 1 → IsShortMove (own_at self.now plan.now before) result }
+        ensures moves { (before : ℕ) → k ≡ before + 1
+            → IsShortMove (own_at self.now plan.now before) result }
     {
         let now = self.now();
         if k < now {
@@ -65,7 +68,7 @@ impl Situation {
         }
     }
 
-    /// A target's state so many ticks after now.
+    /// A target's state this many ticks after now.
     pub(crate) fn target_ahead(&self, target: &Target, k: u32) -> TickState
         requires target { IsTarget self.now target.now }
         requires planned { k ≤ positions_of self.now.lattice }
@@ -95,7 +98,8 @@ impl Situation {
         requires plan { IsPlan (choices_of self.now.lattice) self.now.lattice.legs plan.now }
         requires target { IsTarget self.now target.now }
         requires planned { k < end_of self.now }
-        ensures value { result ≡ step_at (own_at self.now plan.now) (target_at self.now target.now) k }
+        ensures value { result
+            ≡ step_at (own_at self.now plan.now) (target_at self.now target.now) k }
         ensures heads { IfSome result HaveDirections }
     {
         let own = self.own_at(plan, k);
@@ -116,7 +120,9 @@ impl Situation {
         requires plan { IsPlan (choices_of self.now.lattice) self.now.lattice.legs plan.now }
         requires target { IsTarget self.now target.now }
         requires planned { k ≤ end_of self.now }
-        ensures { IsTrue result ↔ IsContactAt (own_at self.now plan.now) (target_at self.now target.now) self.now.detect.watch k }
+        ensures { IsTrue result
+            ↔ IsContactAt (own_at self.now plan.now)
+            (target_at self.now target.now) self.now.detect.watch k }
     {
         match (self.own_at(plan, k), self.target_at(target, k)) {
             (Some(own), Some(other)) => contact(&own, &other, self.detect.watch),

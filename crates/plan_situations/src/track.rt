@@ -22,7 +22,8 @@ use tracks::Accepted;
 
 /// What is predicted of a vessel, if anything is.
 fn predict_for(predictions: &[Predict], mmsi: u32) -> Option<&Predict>
-    ensures { option_copied result ≡ find (λ (predict : PredictValue). predict.mmsi == mmsi) predictions.now }
+    ensures { option_copied result
+        ≡ find (λ (predict : PredictValue). predict.mmsi == mmsi) predictions.now }
 {
     predictions.iter().find(|predict| predict.mmsi == mmsi)
 }
@@ -43,7 +44,7 @@ pub(crate) fn changes_for(predictions: &[Predict], mmsi: u32) -> &[Change]
 pub(crate) struct KnownTrack<'a> {
     pub(crate) window: Window,
     pub(crate) latest: Accepted,
-    /// None where she has none.
+    /// None if she has none.
     pub(crate) legs: Option<&'a Legs>,
     pub(crate) changes: &'a [Change],
 }
@@ -54,21 +55,25 @@ impl KnownTrack<'_> {
         requires track { IsTrack self.now }
         requires from { self.now.latest.time ≤ time_of_tick self.now.window tick }
         requires to { time_of_tick self.now.window tick ≤ window_end self.now.window + 7200 }
-        ensures value { result ≡ predicted_state self.now.latest self.now.changes.now (window_end self.now.window) (time_of_tick self.now.window tick) }
+        ensures value { result
+            ≡ predicted_state self.now.latest self.now.changes.now (window_end self.now.window)
+            (time_of_tick self.now.window tick) }
         ensures state { IsTickState 7900640400 result }
-        ensures moves { (earlier : ℕ) → tick ≡ earlier + 1 → IsShortMove (known_at self.now earlier) (Some result) }
+        ensures moves { (earlier : ℕ) → tick ≡ earlier + 1
+            → IsShortMove (known_at self.now earlier) (Some result) }
     {
         let now = self.window.time(self.window.ticks);
         predicted(&self.latest, self.changes, now, self.window.time(tick))
     }
 
-    /// Her state at a tick, where she is seen then or predicted.
+    /// Her state at a tick, if she is seen then or predicted.
     fn at(&self, tick: u32) -> Option<TickState>
         requires track { IsTrack self.now }
         requires to { time_of_tick self.now.window tick ≤ window_end self.now.window + 7200 }
         ensures value { result ≡ known_at self.now tick }
         ensures state { IfSome result (IsTickState 7900640400) }
-        ensures moves { (earlier : ℕ) → tick ≡ earlier + 1 → IsShortMove (known_at self.now earlier) result }
+        ensures moves { (earlier : ℕ) → tick ≡ earlier + 1
+            → IsShortMove (known_at self.now earlier) result }
     {
         let time = self.window.time(tick);
         if time >= self.latest.time {
@@ -83,8 +88,11 @@ impl KnownTrack<'_> {
     /// Her states at the ticks up to now.
     pub(crate) fn past(&self, alloc: Global) -> Result<Past, Memory>
         requires { IsTrack self.now }
-        ensures value { IfOk result (λ past. past ≡ map (known_at self.now) (range_with_len 0 (self.now.window.ticks + 1))) }
-        ensures known { IfOk result (λ past. IsKnownBelow (self.now.window.ticks + 1) (sighting past)) }
+        ensures value { IfOk result
+            (λ past. past ≡ map (known_at self.now)
+            (range_with_len 0 (self.now.window.ticks + 1))) }
+        ensures known { IfOk result
+            (λ past. IsKnownBelow (self.now.window.ticks + 1) (sighting past)) }
     {
         let mut list = Vec::new(alloc);
         for tick in 0..self.window.ticks + 1 {
@@ -93,12 +101,13 @@ impl KnownTrack<'_> {
         Ok(Past::new(list))
     }
 
-    /// Her states at the ticks from now on, up to so many ticks later.
+    /// Her states at the ticks from now on, up to this many ticks later.
     pub(crate) fn ahead(&self, alloc: Global, ticks: u32) -> Result<Ahead, Memory>
         requires track { IsTrack self.now }
         requires short { ticks * self.now.window.tick ≤ 7200 }
         requires few { ticks ≤ 7200 }
-        ensures value { IfOk result (λ ahead. ahead ≡ map (predicted_at self.now) (range_with_len 0 (ticks + 1))) }
+        ensures value { IfOk result
+            (λ ahead. ahead ≡ map (predicted_at self.now) (range_with_len 0 (ticks + 1))) }
         ensures known { IfOk result (λ ahead. IsKnownBelow (ticks + 1) (slice_get ahead)) }
     {
         let mut list = Vec::new(alloc);

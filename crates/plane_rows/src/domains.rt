@@ -130,8 +130,8 @@ fn instants_inside(vertices: &[(i32, i32); 6], direction: u16, p: (i64, i64), w:
     many
 }
 
-/// Own ship goes 600 m to the north, 160 m to the west of a target at rest: a domain that is long ahead is in her way where it points to
-/// the west, and not where it points to the north.
+/// Own ship goes 600 m to the north, 160 m to the west of a target at rest: a domain that is long ahead is in her way if it points to
+/// the west, and not if it points to the north.
 #[test]
 fn each_direction_turns_a_domain(rt: HostRuntime) -> Result<(), Fail> {
     let shape = Shape::new(&LONG_AHEAD).ok_or("a shape")?;

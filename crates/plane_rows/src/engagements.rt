@@ -3,34 +3,15 @@ ghost use Rattle.std.specs.Prelude.{◌<◌, IfSome};
 ghost use Rattle.encounters.specs.Directions.{HasDirection, HaveDirections};
 
 use crate::compared::{is, is_true};
+use crate::numbers::{ACT, DETECT};
 use encounters::{
-    Act, Changes, Detect, Engagement, EngagementState, PairStep, changes_since, opening,
-    past_clear, risk,
+    Changes, Engagement, EngagementState, PairStep, changes_since, opening, past_clear, risk,
 };
 use fixed_geometry::Point;
 use motion::{Step, TickState};
 use mtl_formulas::Verdict;
-use sectors::{Angles, Class, class_of};
+use sectors::{Class, class_of};
 use std::test::Fail;
-
-const DETECT: Detect = Detect {
-    watch: 50_000_000,
-    risk: 5_000_000,
-    clear: 10_000_000,
-    horizon: 60,
-    angles: Angles {
-        doubt: 0,
-        ahead: 100,
-        reciprocal: 100,
-    },
-};
-
-const ACT: Act = Act {
-    steady_turn: 50,
-    apparent_turn: 200,
-    steady_speed: 10,
-    apparent_speed: 50,
-};
 
 fn state(direction: Option<u16>, speed: Option<u16>) -> TickState
     requires { IfSome direction (λ d. d < 3600) }
@@ -117,7 +98,7 @@ fn steps_that_are_taken_in_place(rt: HostRuntime) -> Result<(), Fail> {
     Ok(())
 }
 
-/// Whether there is risk, whether the two open, and whether A is past and clear, where she is so far north of B.
+/// Whether there is risk, whether the two open, and whether A is past and clear, if she is this far north of B.
 #[test]
 fn risk_until_past_and_clear(rt: HostRuntime) -> Result<(), Fail> {
     for (x, y, risks, opens, clear) in [

@@ -9,7 +9,14 @@ use std::alloc::Global;
 use std::test::Fail;
 
 fn leg(t1: u64, p1: Point, t2: u64, p2: Point, direction: u16) -> Leg
-    ensures { result ≡ record { t1 = t1; p1 = p1; t2 = t2; p2 = p2; direction = Some direction; speed = None } }
+    ensures { result ≡ record {
+      t1 = t1;
+      p1 = p1;
+      t2 = t2;
+      p2 = p2;
+      direction = Some direction;
+      speed = None;
+    } }
 {
     Leg {
         t1,

@@ -16,6 +16,8 @@ mod geometry;
 #[cfg(test)]
 mod legs;
 #[cfg(test)]
+mod numbers;
+#[cfg(test)]
 mod plans;
 #[cfg(test)]
 mod traces;

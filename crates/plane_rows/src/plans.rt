@@ -59,7 +59,7 @@ fn numbers_of_plans(rt: HostRuntime) -> Result<(), Fail> {
     is_plan(&rt, &lattice, 11, &[1, 5])
 }
 
-/// Own ship's state so many ticks of 10 seconds after now, where the lattice has such a plan and so many ticks.
+/// Own ship's state this many ticks of 10 seconds after now, if the lattice has such a plan and this many ticks.
 fn state_after(lattice: &Lattice, number: u32, ticks: u32) -> Option<TickState> {
     let positions = lattice.positions();
     if number >= lattice.plans() || ticks > positions || positions > 100 {

@@ -4,34 +4,16 @@ ghost use Rattle.mtl_formulas.specs.FormulaMeasures.{IsValidAtom};
 ghost use Rattle.encounters.specs.Directions.{HasDirection, HaveDirections};
 
 use crate::compared::{is, is_true};
-use encounters::{Act, Detect, EngagementState, PairStep, past_clear};
+use crate::numbers::{ACT, DETECT};
+use encounters::{EngagementState, PairStep, past_clear};
 use fixed_geometry::Point;
 use meetings::{AtomRow, Follower, Pair, PairTrace, atoms_at, contact, step_between, with_ranks};
 use motion::{Step, TickState};
 use mtl_formulas::{Atom, Atoms, Verdict};
-use sectors::{Angles, Class};
+use sectors::Class;
 use std::alloc::Global;
 use std::process::Abort;
 use std::test::Fail;
-
-const DETECT: Detect = Detect {
-    watch: 50_000_000,
-    risk: 5_000_000,
-    clear: 10_000_000,
-    horizon: 60,
-    angles: Angles {
-        doubt: 0,
-        ahead: 100,
-        reciprocal: 100,
-    },
-};
-
-const ACT: Act = Act {
-    steady_turn: 50,
-    apparent_turn: 200,
-    steady_speed: 10,
-    apparent_speed: 50,
-};
 
 const PAIR: Pair = Pair {
     subject: 369190000,
@@ -84,7 +66,7 @@ fn pair_step(p: (i64, i64), w: (i64, i64), a: Option<u16>, b: Option<u16>) -> Op
     })
 }
 
-/// What a step with these numbers answers where the vessels are apart.
+/// What a step with these numbers answers if the vessels are apart.
 fn answer(
     atom: Atom,
     p: (i64, i64),
@@ -250,7 +232,7 @@ fn alterations_since_the_beginning(rt: HostRuntime) -> Result<(), Fail> {
     Ok(())
 }
 
-/// A sailing vessel and a power-driven one, which gives way to her (Rule 18 (a)), where their engagement begins.
+/// A sailing vessel and a power-driven one, which gives way to her (Rule 18 (a)), when their engagement begins.
 #[test]
 fn ranks_where_an_engagement_begins(rt: HostRuntime) -> Result<(), Fail> {
     let begins = EngagementState::Engaged {

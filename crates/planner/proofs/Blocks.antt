@@ -48,7 +48,7 @@ module _ (s : Situation) (some : 1 ≤ s.lattice.legs) where
   pub more_fail : (a b d : ℕ) → AllFailFrom s a b → AllFailFrom s b d → AllFailFrom s a d
   more_fail a b d g h = record { each = λ m low high. elim (cases_lt m b) [ inl lt ↦ g.each m low lt | inr ge ↦ h.each m ge high ] }
 
-  -- where a prefix has failed, its whole block has
+  -- if a prefix has failed, its whole block has
   pub block_fails : (k left n : ℕ) → 0 < choices_of s.lattice → left + k ≡ s.lattice.legs
       → PrefixFails s (plan_of (choices_of s.lattice) k n) → AllFailFrom s (n * choices_of s.lattice ^ left) ((n + 1) * choices_of s.lattice ^ left)
   block_fails k left n p e fails = record { each = each }

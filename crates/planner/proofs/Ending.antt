@@ -7,7 +7,7 @@ use Rattle.mtl_formulas.specs.Traces.{Trace}
 use Rattle.planner.specs.Inner.Breaking.{IsNewlyBrokenAt}
 use Rattle.rule_program.specs.Lags.{IsNoLast}
 
--- No row beyond the end tells a position as newly broken.
+-- No row beyond the end decides a position as newly broken.
 pub none_beyond : (formulas : List FormulaTree) → All IsNoLast formulas → (cut rows : Trace) (passed : ℕ) → length rows < passed → ¬ IsNewlyBrokenAt formulas cut rows passed
 none_beyond formulas last cut rows passed beyond told =
     let came = last told.rule (leaf Always) told.known rows told.at.position told.at.broken in

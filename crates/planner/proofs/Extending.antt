@@ -238,7 +238,7 @@ module _ (s : Situation) (leg : PlannedLeg) (is : IsPlannedLeg s leg) where
 
 -- ---- ticks
 
--- Where a path has the states of a leg's ticks and one more, it ends with the leg, and within the plan.
+-- If a path has the states of a leg's ticks and one more, it ends with the leg, and within the plan.
 pub ends_there : (s : Situation) (leg : PlannedLeg) → IsPlannedLeg s leg → (count : ℕ) → count ≡ lasts s leg.index + 1
     → (leg.begins + count ≡ steps_told s.lattice (leg.index + 1) + 1) × (leg.begins + count ≤ positions_of s.lattice + 1)
 ends_there s leg is count e =

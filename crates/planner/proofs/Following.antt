@@ -10,7 +10,7 @@ module _ (t : Towards) (W : List ℕ) where
   pub not_yet : (at : ℕ) (w : Watched) → IsFollowed t W at at w w false
   not_yet at w = record { stands = λ e cut is was. was; breaks = λ e cut is was. cc }
 
-  -- one more step, from where nothing was told
+  -- one more step, after steps in which nothing was newly broken
   pub one_more : (from mid at : ℕ) (old w new : Watched) (told : Bool) → at ≡ mid → IsFollowed t W from mid old w false → IsFollowed t W at (at + 1) w new told
       → IsFollowed t W from (mid + 1) old new told
   one_more from mid at old w new told e before step =
@@ -24,7 +24,7 @@ module _ (t : Towards) (W : List ℕ) where
   none_told from mid to old new told f e h =
       subst (λ (n : ℕ). IsFollowed t W from n old new false) e (subst (λ (b : Bool). IsFollowed t W from mid old new b) f h)
 
-  -- What is told before the end breaks a rule by the end.
+  -- What is newly broken before the end breaks a rule by the end.
   pub told_by : (from mid to : ℕ) (old new : Watched) (told : Bool) → told ≡ true → now_of t.situation.now ≤ mid → mid ≤ to → IsFollowed t W from mid old new told
       → IsFollowed t W from to old new true
   told_by from mid to old new told f from_now le h = record {

@@ -16,7 +16,7 @@ use Rattle.plan_situations.specs.declared.situation.Situation.{Situation}
 use Rattle.plan_situations.specs.declared.situation.Target.{Target}
 use Rattle.planner.specs.declared.watched.Watched.{Watched}
 
--- ---- lists of which one element after the other is replaced
+-- ---- lists whose elements are replaced one after the other
 
 pub done_set : {X : Type 0} (P : ℕ → X → Type 0) (xs : List X) (k : ℕ) (y : X) → k < length xs → ((j : ℕ) (w : X) → j < k → P j (get_or xs j w)) → P k y
     → (j : ℕ) (w : X) → j < k + 1 → P j (get_or (set xs k y) j w)
@@ -65,7 +65,7 @@ stands_here s basis plan at watched k T A W is_target is_already is_watched lt s
     (subst (λ (w : Watched). Stands basis.program s plan (get_or s.targets k T) cut at w) (sym is_watched)
     (stands k T A W cut lt (subst (λ (t : Target). IsCutAtNow s t cut) is_target is_cut) (subst (λ (a : Already). Tells (formulas_of s) cut a) is_already tells)))
 
--- Where what is kept of her stands, and no domain was entered, it is told rightly whether the plan fails towards her.
+-- If what is kept of her stands, and no domain was entered, the answer whether the plan fails towards her is right.
 pub rightly_told : (s : Situation) (basis : SearchBasis) → IsBasis s basis → (W : List ℕ) (at end : ℕ) (from : List Watched) (k : ℕ) (T : Target) (A : Already) (w : Watched)
     → T ≡ get_or s.targets k T → A ≡ get_or basis.already.items k A → w ≡ get_or from k w → k < length s.targets → StandsAt s basis W at from → StaysOut s W at → (told : Bool)
     → ((cut : Trace) → IsCutAtNow s T cut → Tells (formulas_of s) cut A → Stands basis.program s W T cut at w → (¬ EntersDomain s W at T) → IsTrue told ↔ FailsTowards s W end T)

@@ -1,4 +1,4 @@
--- What is told of a trace that is cut at now.
+-- What is known of a trace that is cut at now.
 use Rattle.std.proofs.Common.{◌≡◌, ◌∙◌, ℕ, zero, suc, ◌+◌, ◌*◌, ◌<◌, ◌≤◌, inl, inr, List, [], ◌∷◌, ◌++◌, length, length-append, get_or, refl, sym, ap, subst, arith, Some, None, Bool, true, false}
 use Rattle.std.proofs.lemmas.Bool.{cases_lt}
 use Rattle.std.proofs.lemmas.List.{append-nil, get_or_append_left, get_or_push}
@@ -21,7 +21,8 @@ use Rattle.planner.specs.declared.already.Already.{Already}
 use Rattle.planner.proofs.Watching.{within_greatest}
 use Rattle.plan_situations.proofs.Lifting.{no_within}
 
--- So many rows of flags, one of each formula, tell what is broken as so many rows have passed the end.
+-- Row i of the flags, one flag per formula, says what is broken once i + 1 rows have passed the
+-- end.
 pub AreTold : List FormulaTree → Trace → ℕ → ℕ → List Bool → Type 0
 AreTold formulas rows count done flags = (i rule : ℕ) → i < done → rule < count → (IsTrue (get_or flags (i * count + rule) false) ↔ IsBrokenAt rows (formula_at formulas rule) (length rows + i + 1))
 
@@ -79,7 +80,7 @@ all_told formulas rows already done width long reach told = record {
 -- ---- what a state answers
 
 module _ (program : Program) (values : TraceState) (rule : ℕ) (formulas : List FormulaTree) (rows : Trace) (passed : ℕ) (has : HasPassed program values formulas rows passed) where
-  -- An answer is told where it is No.
+  -- An answer counts if it is No.
   pub told_some : (answer : ℕ × Verdict) → ((formulas : List FormulaTree) (rows : Trace) → Follows program values formulas rows → IsFed (Some answer) (formula_at formulas rule) rows)
       → ((formulas : List FormulaTree) (rows : Trace) → Closes program values formulas rows → IsEnded (Some answer) (formula_at formulas rule) rows (past_of values))
       → (answer.1 ≡ No → IsBrokenAt rows (formula_at formulas rule) passed) × (IsBrokenAt rows (formula_at formulas rule) passed → answer.1 ≡ No)

@@ -62,7 +62,7 @@ taken (x ∷ rows) zero k lt = absurd (omega arith)
 taken (x ∷ rows) (suc n) zero lt = refl
 taken (x ∷ rows) (suc n) (suc k) lt = taken rows n k (omega arith)
 
--- The first rows tell a value that looks no further.
+-- The first rows give a value that looks no further.
 pub told_by_front : (rows : Trace) (n : ℕ) (f : FormulaTree) (i : ℕ) → i + reach_of f < n → value_in (take n rows) f i ≡ value_in rows f i
 told_by_front rows n f i lt =
     value_of-same (λ (row : Atom → Verdict). row) (take n rows) (λ (row : Atom → Verdict). row) rows f i
@@ -200,7 +200,7 @@ stands_as program s X T at w next same_begun same_follower same_values h = recor
 -- ---- breaking
 
 module _ (s : Situation) (X : List ℕ) (T : Target) (cut : Trace) (is_cut : IsCutAtNow s T cut) (at : ℕ) (from_now : now_of s ≤ at) where
-  -- What a row tells as newly broken breaks a rule.
+  -- What a row decides as newly broken breaks a rule.
   pub breaks_rule : (start : ℕ) (rows : Trace) (passed : ℕ) → BeginsAt s X at T start → AreTraceRows s X at T start rows → IsNewlyBrokenAt (formulas_of s) cut rows passed → BreaksARule s X at T
   breaks_rule start rows passed begins are h =
       let many : length (formulas_of s) ≡ length s.rules = length-map s.rules (λ (rule : NamedTree). rule.tree) in
@@ -222,7 +222,7 @@ module _ (s : Situation) (X : List ℕ) (T : Target) (cut : Trace) (is_cut : IsC
         }),
       )
 
-  -- A rule that is broken is told by some row, be it one beyond the end.
+  -- If a rule is broken, some row decides it, perhaps one beyond the end.
   pub rule_told : (start : ℕ) (rows : Trace) → BeginsAt s X at T start → AreTraceRows s X at T start rows → IsUnbroken s X T cut at → BreaksARule s X at T
       → (passed : ℕ) × ((length rows < passed) × (passed ≤ length rows + greatest_reach (formulas_of s)) × IsNewlyBrokenAt (formulas_of s) cut rows passed)
   rule_told start rows begins are unbroken (k, h) =
@@ -262,7 +262,7 @@ module _ (s : Situation) (X : List ℕ) (T : Target) (cut : Trace) (is_cut : IsC
         ),
       )
 
--- Where no trace begins, no rule is broken.
+-- If no trace begins, no rule is broken.
 pub none_begun : (program : Program) (s : Situation) (X : List ℕ) (T : Target) (at : ℕ) (w : Watched) → HasNotBegun program s X T at w → ¬ BreaksARule s X at T
 none_begun program s X T at w waits (k, h) =
     let breaks = (rule_known s.rules (NewlyBreaks s X at T) k h).1 in
@@ -272,7 +272,7 @@ none_begun program s X T at w waits (k, h) =
 
 module _ (program : Program) (s : Situation) (X : List ℕ) (T : Target) (cut : Trace) (at : ℕ) (w next : Watched) (was : Stands program s X T cut at w)
     (stands : StandsFor program s X T (at + 1) next) where
-  -- Where no trace has begun, nothing is told.
+  -- If no trace has begun, nothing is newly broken.
   pub still_waits : next.begun ≡ false → monitor.fed_of next.values ≡ monitor.fed_of w.values → next.since_now ≡ w.since_now → Stands program s X T cut (at + 1) next
   still_waits fails_so fed since =
       let waits = stands.waits fails_so in
@@ -283,7 +283,7 @@ module _ (program : Program) (s : Situation) (X : List ℕ) (T : Target) (cut : 
         unbroken = λ start rows begins are. absurd (waits.apart start begins.before_end begins.contact);
       }
 
-  -- With a row that tells nothing
+  -- With a row that decides nothing as newly broken
   pub still_unbroken : next.begun ≡ true → monitor.fed_of next.values ≡ monitor.fed_of w.values + 1 → next.since_now ≡ w.since_now + 1
       → ((rows : Trace) → monitor.Follows program next.values (formulas_of s) rows → ¬ IsNewlyBrokenAt (formulas_of s) cut rows (length rows))
       → Stands program s X T cut (at + 1) next

@@ -21,7 +21,7 @@ HasPlace situation basis leg level = HasPlaces situation basis leg level
 abbrev pub HavePlaces : Situation → SearchBasis → ℕ → List Level → Type 0
 HavePlaces situation basis leg below = ArePlaces situation basis leg below
 
--- What a level keeps stands for the prefix of so many legs of this number, by whose horizon own ship enters no domain.
+-- What a level keeps stands for the prefix of this many legs of this number, by whose horizon own ship enters no domain.
 abbrev pub Keeps : Situation → SearchBasis → ℕ → ℕ → Level → Type 0
 Keeps situation basis legs number level = IsAfter situation basis legs number level
 

@@ -29,7 +29,8 @@ fn is_value_no(value: Verdict) -> bool
 fn is_no(program: &Program, values: &TraceState, rule: usize) -> bool
     requires fits { Fits program.now values.now }
     requires inside { rule < count_of program.now }
-    ensures { (formulas : List FormulaTree) (rows : Trace) (passed : ℕ) → HasPassed program.now values.now formulas rows passed
+    ensures { (formulas : List FormulaTree) (rows : Trace) (passed : ℕ)
+        → HasPassed program.now values.now formulas rows passed
         → (IsTrue result ↔ IsBrokenAt rows (formula_at formulas rule) passed) }
 {
     match values.answer(program, rule) {
@@ -51,7 +52,7 @@ impl Already {
         Ok(())
     }
 
-    /// What is broken where the trace ends with the rows so far. `ending` is another state of the program, whose places serve here.
+    /// What is broken if the trace ends with the rows so far. `ending` is another state of the program, whose places serve here.
     pub(crate) fn of(
         alloc: Global,
         program: &Program,
@@ -67,7 +68,9 @@ impl Already {
         requires rules { count_of program.now ≤ 17 }
         ensures ending_fits { Fits program.now ending.new }
         ensures ending_room { HasRoom program.now ending.new }
-        ensures tells { IfOk result (λ already. (formulas : List FormulaTree) (rows : Trace) → Follows program.now values.now formulas rows → Tells formulas rows already) }
+        ensures tells { IfOk result
+            (λ already. (formulas : List FormulaTree) (rows : Trace)
+            → Follows program.now values.now formulas rows → Tells formulas rows already) }
     {
         ending.copy_from(program, values);
         let mut already = Already {
@@ -107,8 +110,10 @@ impl Already {
         requires rules { self.now.rules ≤ 17 }
         requires few { count_of program.now ≤ 17 }
         requires inside { rule < count_of program.now }
-        ensures { (formulas : List FormulaTree) (rows : Trace) (passed : ℕ) → HasPassed program.now values.now formulas rows passed
-            → (IsTrue result ↔ (IsBrokenAt rows (formula_at formulas rule) passed × (flag_at self.now index rule ≡ false))) }
+        ensures { (formulas : List FormulaTree) (rows : Trace) (passed : ℕ)
+            → HasPassed program.now values.now formulas rows passed
+            → (IsTrue result ↔ (IsBrokenAt rows (formula_at formulas rule) passed
+            × (flag_at self.now index rule ≡ false))) }
     {
         is_no(program, values, rule) && !self.tells(index, rule)
     }
@@ -119,8 +124,10 @@ impl Already {
         requires index { index < 2 ^ 31 }
         requires rules { self.now.rules ≤ 17 }
         requires few { count_of program.now ≤ 17 }
-        ensures { (formulas : List FormulaTree) (cut rows : Trace) (passed : ℕ) → HasPassed program.now values.now formulas rows passed
-            → Tells formulas cut self.now → passed ≡ length cut + index + 1 → (IsTrue result ↔ IsNewlyBrokenAt formulas cut rows passed) }
+        ensures { (formulas : List FormulaTree) (cut rows : Trace) (passed : ℕ)
+            → HasPassed program.now values.now formulas rows passed → Tells formulas cut self.now
+            → passed ≡ length cut + index + 1
+            → (IsTrue result ↔ IsNewlyBrokenAt formulas cut rows passed) }
     {
         for rule in 0..program.formula_count() {
             if self.is_rule_newly_broken(program, values, index, rule) {

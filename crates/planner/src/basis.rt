@@ -34,7 +34,8 @@ pub(crate) fn watched_at_now(
     ensures ready { IfOk result (IsReady program.now) }
     ensures early { IfOk result (IsEarly (now_of situation.now)) }
     ensures since { IfOk result (λ watched. watched.since_now ≡ 0) }
-    ensures stands { IfOk result (StandsFor program.now situation.now [] target.now (now_of situation.now)) }
+    ensures stands { IfOk result
+        (StandsFor program.now situation.now [] target.now (now_of situation.now)) }
 {
     let plan = situation.lattice.plan(0);
     let mut watched = Watched::new(

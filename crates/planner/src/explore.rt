@@ -11,8 +11,8 @@ use crate::legs::{PlannedLeg, own_at_leg};
 use crate::level::{Extended, Level};
 use plan_situations::Situation;
 
-/// The number of the first plan that extends a prefix and does not fail. `number` is that of the prefix, which has so many legs, and
-/// `below` has places for each leg that is left.
+/// The number of the first plan that extends a prefix and does not fail. `number` is that of the prefix, which has this many legs,
+/// and `below` has places for each leg that is left.
 pub(crate) fn explore(
     situation: &Situation,
     basis: &SearchBasis,
@@ -25,10 +25,13 @@ pub(crate) fn explore(
     requires places { ArePlaces situation.now basis.now leg below.old }
     requires number { number < choices_of situation.now.lattice ^ leg }
     requires from { IsAfter situation.now basis.now leg number from.now }
-    requires passes { length below.old ≡ 0 → ¬ PrefixFails situation.now (plan_of (choices_of situation.now.lattice) leg number) }
+    requires passes { length below.old ≡ 0
+        → ¬ PrefixFails situation.now (plan_of (choices_of situation.now.lattice) leg number) }
     ensures places { ArePlaces situation.now basis.now leg below.new }
-    ensures answer { let first = number * choices_of situation.now.lattice ^ length below.old in let end = (number + 1) * choices_of situation.now.lattice ^ length below.old in
-        MatchOption result (AllFailFrom situation.now first end) (IsFirst situation.now first end) }
+    ensures answer { let first = number
+        * choices_of situation.now.lattice ^ length below.old in let end = (number + 1)
+        * choices_of situation.now.lattice ^ length below.old in MatchOption result
+        (AllFailFrom situation.now first end) (IsFirst situation.now first end) }
 {
     let Some((to, rest)) = below.split_first_mut() else {
         return Some(number);

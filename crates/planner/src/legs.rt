@@ -26,7 +26,7 @@ pub(crate) struct PlannedLeg {
     pub(crate) is_last: bool,
 }
 
-/// The first of the plans that begin with the legs of this number: so many legs.
+/// The first of the plans that begin with the legs of this number, which are this many.
 fn first_plan(situation: &Situation, legs: u8, number: u32) -> Plan
     requires legs { legs ≤ situation.now.lattice.legs }
     requires number { number < choices_of situation.now.lattice ^ legs }
@@ -51,7 +51,8 @@ pub(crate) fn own_at_leg(situation: &Situation, leg: u8, number: u32) -> UnderWa
     requires situation { IsSituation situation.now }
     requires leg { leg < situation.now.lattice.legs }
     requires number { number < choices_of situation.now.lattice ^ leg }
-    ensures { HasReached situation.now (plan_of (choices_of situation.now.lattice) leg number) (leg * situation.now.lattice.leg_ticks) result }
+    ensures { HasReached situation.now (plan_of (choices_of situation.now.lattice) leg number)
+        (leg * situation.now.lattice.leg_ticks) result }
 {
     let plan = first_plan(situation, leg, number);
     situation.own_after(&plan, leg_begins(situation, leg))
@@ -86,7 +87,9 @@ impl PlannedLeg {
         requires situation { IsSituation situation.now }
         requires index { index < situation.now.lattice.legs }
         requires number { number < choices_of situation.now.lattice ^ (index + 1) }
-        requires own { HasReached situation.now (plan_of (choices_of situation.now.lattice) index (number / choices_of situation.now.lattice))
+        requires own { HasReached situation.now
+            (plan_of (choices_of situation.now.lattice) index
+            (number / choices_of situation.now.lattice))
             (index * situation.now.lattice.leg_ticks) own }
         ensures leg { IsPlannedLeg situation.now result }
         ensures index { result.index ≡ index }

@@ -29,7 +29,7 @@ use std::alloc::Global;
 pub struct Level {
     pub(crate) path: Vec<TickState>,
     pub(crate) watched: Vec<Watched>,
-    /// Where traces are ended, for a look at what they would come to.
+    /// Where traces are ended, to see what they would result in.
     pub(crate) ending: TraceState,
     /// The index of the target whose domain was entered last.
     entered: usize,
@@ -42,7 +42,7 @@ const NOWHERE: TickState = TickState {
     speed: None,
 };
 
-/// A path of so many ticks, to be filled in.
+/// A path of this many ticks, to be filled in.
 fn path_of(alloc: Global, ticks: usize) -> Result<Vec<TickState>, Memory>
     ensures { IfOk result (λ path. length path.items ≡ ticks) }
 {
@@ -57,7 +57,9 @@ fn path_of(alloc: Global, ticks: usize) -> Result<Vec<TickState>, Memory>
 fn entered(situation: &Situation, leg: &PlannedLeg, path: &[TickState]) -> Option<usize>
     requires situation { IsSituation situation.now }
     requires path { IsPathIn situation.now leg.now path.now }
-    ensures { IsSome result ↔ Some_ (λ (target : Target). EntersAlong situation.now leg.now.plan target (now_of situation.now + leg.now.begins) (length path.now - 1)) situation.now.targets }
+    ensures { IsSome result
+        ↔ Some_ (λ (target : Target). EntersAlong situation.now leg.now.plan target
+        (now_of situation.now + leg.now.begins) (length path.now - 1)) situation.now.targets }
 {
     let targets = situation.targets.as_slice();
     for index in 0..targets.len() {
@@ -72,7 +74,9 @@ fn entered(situation: &Situation, leg: &PlannedLeg, path: &[TickState]) -> Optio
 fn enters_one(situation: &Situation, leg: &PlannedLeg, path: &[TickState], index: usize) -> bool
     requires situation { IsSituation situation.now }
     requires path { IsPathIn situation.now leg.now path.now }
-    ensures { IsTrue result → Some_ (λ (target : Target). EntersAlong situation.now leg.now.plan target (now_of situation.now + leg.now.begins) (length path.now - 1)) situation.now.targets }
+    ensures { IsTrue result
+        → Some_ (λ (target : Target). EntersAlong situation.now leg.now.plan target
+        (now_of situation.now + leg.now.begins) (length path.now - 1)) situation.now.targets }
 {
     let targets = situation.targets.as_slice();
     if index < targets.len() {
@@ -86,7 +90,9 @@ fn enters_one(situation: &Situation, leg: &PlannedLeg, path: &[TickState], index
 fn enters(situation: &Situation, leg: &PlannedLeg, path: &[TickState], latest: &mut usize) -> bool
     requires situation { IsSituation situation.now }
     requires path { IsPathIn situation.now leg.now path.now }
-    ensures { IsTrue result ↔ Some_ (λ (target : Target). EntersAlong situation.now leg.now.plan target (now_of situation.now + leg.now.begins) (length path.now - 1)) situation.now.targets }
+    ensures { IsTrue result
+        ↔ Some_ (λ (target : Target). EntersAlong situation.now leg.now.plan target
+        (now_of situation.now + leg.now.begins) (length path.now - 1)) situation.now.targets }
 {
     if enters_one(situation, leg, path, *latest) {
         return true;
@@ -100,8 +106,9 @@ fn enters(situation: &Situation, leg: &PlannedLeg, path: &[TickState], latest: &
     }
 }
 
-/// Follows own ship's path in a leg towards all targets, from what is kept of them before it. Tells whether some row decides a position
-/// as newly broken: nothing is then kept of the targets behind that one.
+/// Follows own ship's path in a leg towards all targets, from what is kept of them before it. Returns whether some row decides a
+/// position
+/// as newly broken: nothing is then kept of the targets after that one.
 fn follow_all(
     situation: &Situation,
     basis: &SearchBasis,
@@ -117,8 +124,11 @@ fn follow_all(
     requires early { AreEarly (reached situation.now leg.now.index) from.now }
     requires targets { HasTargets situation.now basis.now watched.old }
     ensures targets { HasTargets situation.now basis.now watched.new }
-    ensures early { result ≡ false → AreEarly (reached situation.now (leg.now.index + 1)) watched.new }
-    ensures followed { AreFollowed situation.now basis.now leg.now.plan (reached situation.now leg.now.index) (reached situation.now (leg.now.index + 1)) from.now watched.new result }
+    ensures early { result ≡ false
+        → AreEarly (reached situation.now (leg.now.index + 1)) watched.new }
+    ensures followed { AreFollowed situation.now basis.now leg.now.plan
+        (reached situation.now leg.now.index)
+        (reached situation.now (leg.now.index + 1)) from.now watched.new result }
 {
     for k in 0..watched.len() {
         let towards = Towards {
@@ -149,7 +159,8 @@ fn ends_broken(
     requires room { HasRoom basis.now.program ending.old }
     ensures fits { Fits basis.now.program ending.new }
     ensures room { HasRoom basis.now.program ending.new }
-    ensures breaks { (plan : List ℕ) (at : ℕ) → now_of situation.now ≤ at → StandsAt situation.now basis.now plan at watched.now
+    ensures breaks { (plan : List ℕ) (at : ℕ) → now_of situation.now ≤ at
+        → StandsAt situation.now basis.now plan at watched.now
         → (IsTrue result ↔ Some_ (BreaksARule situation.now plan at) situation.now.targets) }
 {
     for k in 0..watched.len() {
@@ -167,14 +178,14 @@ fn ends_broken(
     false
 }
 
-/// What a beginning of a plan with one more leg comes to.
+/// What a beginning of a plan with one more leg results in.
 #[derive(Clone, Copy, PartialEq, Eq)]
 pub(crate) enum Extended {
-    /// Nothing in the leg makes it fail. Whether it fails where the traces end is seen at the last leg alone.
+    /// Nothing in the leg makes it fail. Whether it fails when the traces end is checked only at the last leg.
     Passes,
     /// It fails.
     Fails,
-    /// The beginning failed before that leg: some position is newly broken where the traces end there.
+    /// The beginning failed before that leg: some position is newly broken if the traces end there.
     FailedBefore,
 }
 
@@ -197,7 +208,7 @@ impl Level {
         })
     }
 
-    /// The places for a leg that lasts so many ticks.
+    /// The places for a leg that lasts this many ticks.
     pub(crate) fn new(
         alloc: Global,
         situation: &Situation,
@@ -206,7 +217,8 @@ impl Level {
     ) -> Result<Level, Memory>
         requires { IsBasis situation.now basis.now }
         ensures path { IfOk result (λ level. length level.path.items ≡ ticks + 1) }
-        ensures targets { IfOk result (λ level. HasTargets situation.now basis.now level.watched.items) }
+        ensures targets { IfOk result
+            (λ level. HasTargets situation.now basis.now level.watched.items) }
         ensures fits { IfOk result (λ level. Fits basis.now.program level.ending) }
         ensures room { IfOk result (λ level. HasRoom basis.now.program level.ending) }
     {
@@ -234,7 +246,8 @@ impl Level {
         ensures watched { self.new.watched ≡ self.old.watched }
         ensures fits { Fits basis.now.program self.new.ending }
         ensures room { HasRoom basis.now.program self.new.ending }
-        ensures breaks { (plan : List ℕ) (at : ℕ) → now_of situation.now ≤ at → StandsAt situation.now basis.now plan at self.old.watched.items
+        ensures breaks { (plan : List ℕ) (at : ℕ) → now_of situation.now ≤ at
+            → StandsAt situation.now basis.now plan at self.old.watched.items
             → (IsTrue result ↔ Some_ (BreaksARule situation.now plan at) situation.now.targets) }
     {
         ends_broken(situation, basis, &self.watched, &mut self.ending)
@@ -245,7 +258,8 @@ impl Level {
         requires situation { IsSituation situation.now }
         requires leg { IsPlannedLeg situation.now leg.now }
         requires places { length self.old.path.items ≡ lasts situation.now leg.now.index + 1 }
-        ensures { (basis : SearchBasis) → HasPlaces situation.now basis leg.now.index self.old → IsOnLeg situation.now basis leg.now self.new }
+        ensures { (basis : SearchBasis) → HasPlaces situation.now basis leg.now.index self.old
+            → IsOnLeg situation.now basis leg.now self.new }
     {
         situation.fill_path(&leg.plan, leg.begins, leg.own, &mut self.path);
     }
@@ -255,15 +269,18 @@ impl Level {
         requires situation { IsSituation situation.now }
         requires leg { IsPlannedLeg situation.now leg.now }
         requires path { IsPathIn situation.now leg.now self.old.path.items }
-        ensures on { (basis : SearchBasis) → IsOnLeg situation.now basis leg.now self.old → IsOnLeg situation.now basis leg.now self.new }
-        ensures fails { result ≡ true → FailsBy situation.now (reached situation.now (leg.now.index + 1)) leg.now.plan }
-        ensures outside { result ≡ false → StaysOut situation.now leg.now.plan (reached situation.now leg.now.index)
+        ensures on { (basis : SearchBasis) → IsOnLeg situation.now basis leg.now self.old
+            → IsOnLeg situation.now basis leg.now self.new }
+        ensures fails { result ≡ true
+            → FailsBy situation.now (reached situation.now (leg.now.index + 1)) leg.now.plan }
+        ensures outside { result ≡ false
+            → StaysOut situation.now leg.now.plan (reached situation.now leg.now.index)
             → StaysOut situation.now leg.now.plan (reached situation.now (leg.now.index + 1)) }
     {
         enters(situation, leg, &self.path, &mut self.entered)
     }
 
-    /// Whether some position is newly broken towards some target if the traces end before the leg. This is looked at once: `ended` says
+    /// Whether some position is newly broken towards some target if the traces end before the leg. This is checked once: `ended` says
     /// whether it was.
     fn ends_broken_before(
         &mut self,
@@ -277,8 +294,10 @@ impl Level {
         requires early { AreEarly (end_of situation.now) from.now.watched.items }
         requires fits { Fits basis.now.program self.old.ending }
         requires room { HasRoom basis.now.program self.old.ending }
-        ensures on { (leg : PlannedLeg) → IsOnLeg situation.now basis.now leg self.old → IsOnLeg situation.now basis.now leg self.new }
-        ensures breaks { result ≡ true → (plan : List ℕ) (at : ℕ) → now_of situation.now ≤ at → StandsAt situation.now basis.now plan at from.now.watched.items
+        ensures on { (leg : PlannedLeg) → IsOnLeg situation.now basis.now leg self.old
+            → IsOnLeg situation.now basis.now leg self.new }
+        ensures breaks { result ≡ true → (plan : List ℕ) (at : ℕ) → now_of situation.now ≤ at
+            → StandsAt situation.now basis.now plan at from.now.watched.items
             → Some_ (BreaksARule situation.now plan at) situation.now.targets }
     {
         if *ended {
@@ -302,9 +321,12 @@ impl Level {
         requires from { HasTargets situation.now basis.now from.now.watched.items }
         requires early { AreEarly (reached situation.now leg.now.index) from.now.watched.items }
         ensures on { IsOnLeg situation.now basis.now leg.now self.new }
-        ensures early { result ≡ false → AreEarly (reached situation.now (leg.now.index + 1)) self.new.watched.items }
-        ensures followed { AreFollowed situation.now basis.now leg.now.plan (reached situation.now leg.now.index) (reached situation.now (leg.now.index + 1))
-            from.now.watched.items self.new.watched.items result }
+        ensures early { result ≡ false
+            → AreEarly (reached situation.now (leg.now.index + 1)) self.new.watched.items }
+        ensures followed { AreFollowed situation.now basis.now leg.now.plan
+            (reached situation.now leg.now.index)
+            (reached situation.now (leg.now.index + 1)) from.now.watched.items
+            self.new.watched.items result }
     {
         follow_all(
             situation,
@@ -316,7 +338,7 @@ impl Level {
         )
     }
 
-    /// Whether no leg follows, and some position is newly broken towards some target where the traces end.
+    /// Whether no leg follows, and some position is newly broken towards some target if the traces end.
     fn ends_broken_at_last(
         &mut self,
         situation: &Situation,
@@ -328,10 +350,13 @@ impl Level {
         requires early { AreEarly (end_of situation.now) self.old.watched.items }
         ensures on { IsOnLeg situation.now basis.now leg.now self.new }
         ensures watched { self.new.watched ≡ self.old.watched }
-        ensures breaks { result ≡ true → (plan : List ℕ) (at : ℕ) → now_of situation.now ≤ at → StandsAt situation.now basis.now plan at self.old.watched.items
+        ensures breaks { result ≡ true → (plan : List ℕ) (at : ℕ) → now_of situation.now ≤ at
+            → StandsAt situation.now basis.now plan at self.old.watched.items
             → Some_ (BreaksARule situation.now plan at) situation.now.targets }
-        ensures passes { result ≡ false → leg.now.is_last ≡ true → (plan : List ℕ) (at : ℕ) → now_of situation.now ≤ at
-            → StandsAt situation.now basis.now plan at self.old.watched.items → ¬ Some_ (BreaksARule situation.now plan at) situation.now.targets }
+        ensures passes { result ≡ false → leg.now.is_last ≡ true → (plan : List ℕ) (at : ℕ)
+            → now_of situation.now ≤ at
+            → StandsAt situation.now basis.now plan at self.old.watched.items
+            → ¬ Some_ (BreaksARule situation.now plan at) situation.now.targets }
     {
         if leg.is_last {
             return self.ends_broken(situation, basis);
@@ -339,8 +364,9 @@ impl Level {
         false
     }
 
-    /// Becomes the state after one more leg. Own ship's path and the domains are tested before the rules. Where the traces end before the leg is
-    /// looked at once, for the first leg there that enters no domain: `ended` says whether it was.
+    /// Becomes the state after one more leg. Own ship's path and the domains are tested before the rules. The case that the traces end before
+    /// the
+    /// leg is checked once, for the first leg there that enters no domain: `ended` says whether it was.
     pub(crate) fn extend(
         &mut self,
         situation: &Situation,
@@ -352,12 +378,17 @@ impl Level {
         requires basis { IsBasis situation.now basis.now }
         requires leg { IsPlannedLeg situation.now leg.now }
         requires places { HasPlaces situation.now basis.now leg.now.index self.old }
-        requires from { IsAfter situation.now basis.now leg.now.index (leg.now.number / choices_of situation.now.lattice) from.now }
+        requires from { IsAfter situation.now basis.now leg.now.index
+            (leg.now.number / choices_of situation.now.lattice) from.now }
         ensures places { HasPlaces situation.now basis.now leg.now.index self.new }
-        ensures after { result ≡ Extended.Passes → IsAfter situation.now basis.now (leg.now.index + 1) leg.now.number self.new }
-        ensures passes { result ≡ Extended.Passes → leg.now.index + 1 ≡ situation.now.lattice.legs → ¬ PrefixFails situation.now (legs_through situation.now leg.now) }
-        ensures fails { result ≡ Extended.Fails → PrefixFails situation.now (legs_through situation.now leg.now) }
-        ensures failed_before { result ≡ Extended.FailedBefore → PrefixFails situation.now (legs_before situation.now leg.now) }
+        ensures after { result ≡ Extended.Passes
+            → IsAfter situation.now basis.now (leg.now.index + 1) leg.now.number self.new }
+        ensures passes { result ≡ Extended.Passes → leg.now.index + 1 ≡ situation.now.lattice.legs
+            → ¬ PrefixFails situation.now (legs_through situation.now leg.now) }
+        ensures fails { result ≡ Extended.Fails
+            → PrefixFails situation.now (legs_through situation.now leg.now) }
+        ensures failed_before { result ≡ Extended.FailedBefore
+            → PrefixFails situation.now (legs_before situation.now leg.now) }
     {
         self.fill_path(situation, leg);
         if self.enters(situation, leg) {

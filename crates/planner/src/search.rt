@@ -10,7 +10,7 @@ use out_of_memory::Memory;
 use plan_situations::Situation;
 use std::alloc::Global;
 
-/// The search for the least numbered plan that does not fail: a walk that stops at the first one. It holds all places that it needs.
+/// The search for the lowest-numbered plan that does not fail: a walk that stops at the first one. It holds all places that it needs.
 #[derive(Drop)]
 pub struct Search {
     situation: Situation,
@@ -30,13 +30,14 @@ impl Search {
         Ok(Search { situation, walk })
     }
 
-    /// The least numbered plan that does not fail, or `None` where every plan fails. It takes no memory, and a second call
+    /// The lowest-numbered plan that does not fail, or `None` if every plan fails. It takes no memory, and a second call
     /// gives the same answer.
     pub fn run(&mut self) -> Option<Plan>
         requires { IsSound self.old }
         ensures sound { IsSound self.new }
         ensures situation { searched_situation self.new ≡ searched_situation self.old }
-        ensures answer { MatchOption result (AllFail (searched_situation self.old)) (IsLeastPlan (searched_situation self.old)) }
+        ensures answer { MatchOption result (AllFail (searched_situation self.old))
+            (IsLeastPlan (searched_situation self.old)) }
     {
         let number = explore(
             &self.situation,

@@ -26,7 +26,8 @@ pub(crate) struct Towards<'a> {
 }
 
 impl Towards<'_> {
-    /// Follows own ship's path in a leg. Tells whether some row decides a position as newly broken.
+    /// Follows own ship's path in a leg. Returns whether some row decides a position as newly
+    /// broken.
     fn follow(&self, leg: &PlannedLeg, path: &[TickState], watched: &mut Watched) -> bool
         requires towards { IsTowards self.now }
         requires leg { IsPlannedLeg self.now.situation.now leg.now }
@@ -34,8 +35,10 @@ impl Towards<'_> {
         requires ready { IsReady self.now.program.now watched.old }
         requires early { IsEarly (reached self.now.situation.now leg.now.index) watched.old }
         ensures ready { IsReady self.now.program.now watched.new }
-        ensures early { result ≡ false → IsEarly (reached self.now.situation.now (leg.now.index + 1)) watched.new }
-        ensures followed { IsFollowed self.now leg.now.plan (reached self.now.situation.now leg.now.index)
+        ensures early { result ≡ false
+            → IsEarly (reached self.now.situation.now (leg.now.index + 1)) watched.new }
+        ensures followed { IsFollowed self.now leg.now.plan
+            (reached self.now.situation.now leg.now.index)
             (reached self.now.situation.now (leg.now.index + 1)) watched.old watched.new result }
     {
         for j in 0..path.len() - 1 {
@@ -65,15 +68,17 @@ impl Towards<'_> {
         requires early { IsEarly (reached self.now.situation.now leg.now.index) from.now }
         requires ready { IsReady self.now.program.now watched.old }
         ensures ready { IsReady self.now.program.now watched.new }
-        ensures early { result ≡ false → IsEarly (reached self.now.situation.now (leg.now.index + 1)) watched.new }
-        ensures followed { IsFollowed self.now leg.now.plan (reached self.now.situation.now leg.now.index)
+        ensures early { result ≡ false
+            → IsEarly (reached self.now.situation.now (leg.now.index + 1)) watched.new }
+        ensures followed { IsFollowed self.now leg.now.plan
+            (reached self.now.situation.now leg.now.index)
             (reached self.now.situation.now (leg.now.index + 1)) from.now watched.new result }
     {
         watched.copy_from(self.program, from);
         self.follow(leg, path, watched)
     }
 
-    /// Whether a plan fails towards the target by the end of a leg of its, where own ship did not enter the domain before. What is kept of the
+    /// Whether a plan fails towards the target by the end of one of its legs, if own ship did not enter the domain before. What is kept of the
     /// target after other legs is taken over first. `ending` is another state of the program, whose places serve for a look at the trace's end.
     pub(crate) fn fails_by(
         &self,
@@ -94,14 +99,20 @@ impl Towards<'_> {
         ensures ready { IsReady self.now.program.now watched.new }
         ensures fits { Fits self.now.program.now ending.new }
         ensures room { HasRoom self.now.program.now ending.new }
-        ensures early { result ≡ false → IsEarly (reached self.now.situation.now (leg.now.index + 1)) watched.new }
+        ensures early { result ≡ false
+            → IsEarly (reached self.now.situation.now (leg.now.index + 1)) watched.new }
         ensures stands { result ≡ false → (cut : Trace) → IsCut self.now cut
-            → Stands self.now.program.now self.now.situation.now leg.now.plan self.now.target.now cut (reached self.now.situation.now leg.now.index) from.now
-            → Stands self.now.program.now self.now.situation.now leg.now.plan self.now.target.now cut (reached self.now.situation.now (leg.now.index + 1)) watched.new }
+            → Stands self.now.program.now self.now.situation.now leg.now.plan self.now.target.now
+            cut (reached self.now.situation.now leg.now.index) from.now
+            → Stands self.now.program.now self.now.situation.now leg.now.plan self.now.target.now
+            cut (reached self.now.situation.now (leg.now.index + 1)) watched.new }
         ensures fails { (cut : Trace) → IsCut self.now cut
-            → Stands self.now.program.now self.now.situation.now leg.now.plan self.now.target.now cut (reached self.now.situation.now leg.now.index) from.now
-            → (¬ EntersDomain self.now.situation.now leg.now.plan (reached self.now.situation.now leg.now.index) self.now.target.now)
-            → IsTrue result ↔ FailsTowards self.now.situation.now leg.now.plan (reached self.now.situation.now (leg.now.index + 1)) self.now.target.now }
+            → Stands self.now.program.now self.now.situation.now leg.now.plan self.now.target.now
+            cut (reached self.now.situation.now leg.now.index) from.now
+            → (¬ EntersDomain self.now.situation.now leg.now.plan
+            (reached self.now.situation.now leg.now.index) self.now.target.now)
+            → IsTrue result ↔ FailsTowards self.now.situation.now leg.now.plan
+            (reached self.now.situation.now (leg.now.index + 1)) self.now.target.now }
     {
         if self.situation.enters_along(path, self.target, leg.begins) {
             return true;

@@ -1,4 +1,4 @@
-//! A walk over the prefixes of plans, which tells towards which target each one fails first.
+//! A walk over the prefixes of plans, which finds the target towards which each one fails first.
 ghost use Rattle.std.specs.Prelude.{ℕ, ◌≡◌, ◌+◌, ◌/◌, ◌^◌, ◌<◌, ◌≤◌, All, IfOk, IsNone, List, [], MatchOption, take, true};
 ghost use Rattle.lattice.specs.Grids.{choices_of};
 ghost use Rattle.lattice.specs.PlanNumbers.{plan_of};
@@ -121,7 +121,7 @@ impl Walk {
     }
 }
 
-/// The first target towards which a plan fails by the end of a leg of its, by its index. All targets before it are followed, from what is kept of them
+/// The first target towards which a plan fails by the end of one of its legs, by its index. All targets before it are followed, from what is kept of them
 /// before the leg.
 fn first_failing(
     situation: &Situation,
@@ -137,7 +137,8 @@ fn first_failing(
     requires path { IsPathIn situation.now leg.now path.now }
     requires from { HasTargets situation.now basis.now from.now }
     requires early { AreEarly (reached situation.now leg.now.index) from.now }
-    requires stands { StandsAt situation.now basis.now leg.now.plan (reached situation.now leg.now.index) from.now }
+    requires stands { StandsAt situation.now basis.now leg.now.plan
+        (reached situation.now leg.now.index) from.now }
     requires outside { StaysOut situation.now leg.now.plan (reached situation.now leg.now.index) }
     requires targets { HasTargets situation.now basis.now watched.old }
     requires fits { Fits basis.now.program ending.old }
@@ -145,9 +146,13 @@ fn first_failing(
     ensures targets { HasTargets situation.now basis.now watched.new }
     ensures fits { Fits basis.now.program ending.new }
     ensures room { HasRoom basis.now.program ending.new }
-    ensures early { IsNone result → AreEarly (reached situation.now (leg.now.index + 1)) watched.new }
-    ensures stands { IsNone result → StandsAt situation.now basis.now leg.now.plan (reached situation.now (leg.now.index + 1)) watched.new }
-    ensures first { MatchOption result (¬ FailsBy situation.now (reached situation.now (leg.now.index + 1)) leg.now.plan)
+    ensures early { IsNone result
+        → AreEarly (reached situation.now (leg.now.index + 1)) watched.new }
+    ensures stands { IsNone result
+        → StandsAt situation.now basis.now leg.now.plan
+        (reached situation.now (leg.now.index + 1)) watched.new }
+    ensures first { MatchOption result
+        (¬ FailsBy situation.now (reached situation.now (leg.now.index + 1)) leg.now.plan)
         (IsFirstFailing situation.now leg.now.plan (reached situation.now (leg.now.index + 1))) }
 {
     for k in 0..watched.len() {
@@ -167,7 +172,7 @@ fn first_failing(
 
 impl Level {
     /// The first target towards which a prefix of one leg more fails, by its index. The prefix has this number, and `from` is kept after the legs
-    /// before. Where it fails towards none, this is kept after it.
+    /// before. If it fails towards none, this is kept after it.
     pub fn first_failing(
         &mut self,
         situation: &Situation,
@@ -180,11 +185,14 @@ impl Level {
         requires legs { legs < situation.now.lattice.legs }
         requires number { number < choices_of situation.now.lattice ^ (legs + 1) }
         requires place { HasPlace situation.now basis.now legs self.old }
-        requires from { Keeps situation.now basis.now legs (number / choices_of situation.now.lattice) from.now }
+        requires from { Keeps situation.now basis.now legs
+            (number / choices_of situation.now.lattice) from.now }
         ensures place { HasPlace situation.now basis.now legs self.new }
         ensures keeps { IsNone result → Keeps situation.now basis.now (legs + 1) number self.new }
-        ensures first { (plan : List ℕ) → take (legs + 1) plan ≡ plan_of (choices_of situation.now.lattice) (legs + 1) number
-            → MatchOption result (¬ FailsBy situation.now (reached situation.now (legs + 1)) plan) (IsFirstFailing situation.now plan (reached situation.now (legs + 1))) }
+        ensures first { (plan : List ℕ)
+            → take (legs + 1) plan ≡ plan_of (choices_of situation.now.lattice) (legs + 1) number
+            → MatchOption result (¬ FailsBy situation.now (reached situation.now (legs + 1)) plan)
+            (IsFirstFailing situation.now plan (reached situation.now (legs + 1))) }
     {
         let before = number / situation.lattice.choices();
         let own = own_at_leg(situation, legs, before);

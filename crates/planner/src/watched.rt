@@ -51,8 +51,11 @@ impl Watched {
         ensures ready { IfOk result (IsReady program.now) }
         ensures fed { IfOk result (λ watched. fed_of watched.values ≡ 0) }
         ensures since { IfOk result (λ watched. watched.since_now ≡ 0) }
-        ensures stands { IfOk result (λ watched. (situation : Situation) (plan : List ℕ) (target : Target) → IsProgramOf program.now (formulas_of situation)
-            → situation.detect ≡ detect → situation.act ≡ act → situation.tick ≡ tick → StandsFor program.now situation plan target 0 watched) }
+        ensures stands { IfOk result
+            (λ watched. (situation : Situation) (plan : List ℕ) (target : Target)
+            → IsProgramOf program.now (formulas_of situation) → situation.detect ≡ detect
+            → situation.act ≡ act → situation.tick ≡ tick
+            → StandsFor program.now situation plan target 0 watched) }
     {
         Ok(Watched {
             begun: false,
@@ -82,8 +85,10 @@ impl Watched {
         ensures since { self.new.since_now ≡ self.old.since_now }
         ensures fed { self.new.begun ≡ true → fed_of self.new.values ≡ fed_of self.old.values + 1 }
         ensures unfed { self.new.begun ≡ false → fed_of self.new.values ≡ fed_of self.old.values }
-        ensures stands { (situation : Situation) (plan : List ℕ) (target : Target) (at : ℕ) → StandsFor program.now situation plan target at self.old
-            → IsStepAt situation plan target at in_contact (option_copied seen.entry) → StandsFor program.now situation plan target (at + 1) self.new }
+        ensures stands { (situation : Situation) (plan : List ℕ) (target : Target) (at : ℕ)
+            → StandsFor program.now situation plan target at self.old
+            → IsStepAt situation plan target at in_contact (option_copied seen.entry)
+            → StandsFor program.now situation plan target (at + 1) self.new }
     {
         self.begun = has_begun(self.begun, in_contact);
         if self.begun {
@@ -92,7 +97,7 @@ impl Watched {
         }
     }
 
-    /// Takes a step from now on, and tells whether it decides some position as newly broken.
+    /// Takes a step from now on, and returns whether it decides some position as newly broken.
     pub(crate) fn take_planned(
         &mut self,
         towards: &Towards<'_>,
@@ -108,7 +113,8 @@ impl Watched {
         ensures since { self.new.since_now ≤ self.old.since_now + 1 }
         ensures fed { fed_of self.new.values ≤ fed_of self.old.values + 1 }
         ensures followed { (plan : List ℕ) (at : ℕ) → now_of towards.now.situation.now ≤ at
-            → IsStepAt towards.now.situation.now plan towards.now.target.now at in_contact (option_copied seen.entry)
+            → IsStepAt towards.now.situation.now plan towards.now.target.now at in_contact
+            (option_copied seen.entry)
             → IsFollowed towards.now plan at (at + 1) self.old self.new result }
     {
         self.take(towards.program, in_contact, seen);
@@ -133,9 +139,11 @@ impl Watched {
         requires room { HasRoom towards.now.program.now ending.old }
         ensures fits { Fits towards.now.program.now ending.new }
         ensures room { HasRoom towards.now.program.now ending.new }
-        ensures breaks { (plan : List ℕ) (cut : Trace) (at : ℕ) → now_of towards.now.situation.now ≤ at → IsCut towards.now cut
-            → Stands towards.now.program.now towards.now.situation.now plan towards.now.target.now cut at self.now
-            → (IsTrue result ↔ BreaksARule towards.now.situation.now plan at towards.now.target.now) }
+        ensures breaks { (plan : List ℕ) (cut : Trace) (at : ℕ)
+            → now_of towards.now.situation.now ≤ at → IsCut towards.now cut
+            → Stands towards.now.program.now towards.now.situation.now plan towards.now.target.now
+            cut at self.now → (IsTrue result
+            ↔ BreaksARule towards.now.situation.now plan at towards.now.target.now) }
     {
         if !self.begun {
             return false;
@@ -171,7 +179,9 @@ impl Watched {
         requires room { HasRoom program.now ending.old }
         ensures fits { Fits program.now ending.new }
         ensures room { HasRoom program.now ending.new }
-        ensures tells { IfOk result (λ already. (formulas : List FormulaTree) (rows : Trace) → Follows program.now self.now.values formulas rows → Tells formulas rows already) }
+        ensures tells { IfOk result
+            (λ already. (formulas : List FormulaTree) (rows : Trace)
+            → Follows program.now self.now.values formulas rows → Tells formulas rows already) }
     {
         Already::of(alloc, program, &self.values, ending)
     }

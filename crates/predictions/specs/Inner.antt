@@ -9,7 +9,7 @@ abbrev pub exceeds : Option ℤ → ℤ → Bool
 exceeds None number = true
 exceeds (Some before) number = int_lt before number
 
--- what is left of a list ascends, behind its latest element
+-- what is left of a list ascends, after its latest element
 abbrev pub ascend_behind : Option ℤ → List ℤ → Bool
 ascend_behind None rest = ascend rest
 ascend_behind (Some before) rest = ascend_from before rest

@@ -14,7 +14,7 @@ use Rattle.scenario_keys.specs.declared.cause.Cause.{Cause}
 use Rattle.scenario_keys.specs.declared.cause.Cause.TheVariants as cause
 use Rattle.predictions.specs.declared.changes.ChangeNumbers.{ChangeNumbers}
 
--- the MMSI of a table, 0 where it has none
+-- the MMSI of a table, 0 if it has none
 abbrev pub predicted_mmsi : Data → ℕ
 predicted_mmsi found = natural_of (integer_found (member_at (codes "mmsi") found))
 
@@ -90,7 +90,7 @@ abbrev pub changes_cause : ℕ → Option Data → Option Cause
 changes_cause tick None = Some cause.Missing
 changes_cause tick (Some found) = array_cause tick (as_array found)
 
--- the fault of a table by those before it: that of its ship, or else that of its changes
+-- the fault of a table by those before it: that of its ship, otherwise that of its changes
 unfoldable pub table_fault : ℕ → ℕ → List Data × Data → Option (Key × Cause)
 table_fault tick own (before, here) =
     first_of (
@@ -101,6 +101,6 @@ table_fault tick own (before, here) =
 unfoldable pub predict_fault : ℕ → ℕ → List Data → Option (Key × Cause)
 predict_fault tick own tables = first_of (map (table_fault tick own) (with_before [] tables))
 
--- At some tick, where own ship has some MMSI, no table has a fault.
+-- At some tick, if own ship has some MMSI, no table has a fault.
 abbrev pub HaveNoFault : List Data → Type 0
 HaveNoFault tables = (tick : ℕ) × (own : ℕ) × (predict_fault tick own tables ≡ None)

@@ -164,7 +164,8 @@ fn is_on_tick(tick: u32, found: &Value) -> bool
 
 fn are_on_ticks(tick: u32, list: &Array) -> bool
     requires { 1 ≤ tick }
-    ensures { result ≡ list_all (λ v. unsigned_abs (after_of (change_numbers_at (view v))) % tick == 0) list.now.items }
+    ensures { result ≡ list_all
+        (λ v. unsigned_abs (after_of (change_numbers_at (view v))) % tick == 0) list.now.items }
 {
     list.iter().all(|found| is_on_tick(tick, found))
 }

@@ -18,7 +18,7 @@ const SHIPS: Bounds = Bounds {
     otherwise: None,
 };
 
-/// The integer that stands there, 0 where none does or it is below 0.
+/// The integer that stands there, 0 if none does or it is below 0.
 fn natural_in(found: Option<&Value>) -> u64
     ensures { result ≡ natural_of (integer_found (option_map (λ v. view v.now) found.entry)) }
 {
@@ -31,7 +31,7 @@ fn natural_in(found: Option<&Value>) -> u64
     }
 }
 
-/// The MMSI of a table, 0 where it has none.
+/// The MMSI of a table, 0 if it has none.
 pub(crate) fn mmsi_of(table: &Value) -> u64
     ensures { result ≡ predicted_mmsi (view table.now) }
 {
@@ -53,7 +53,8 @@ fn is_taken(own: u64, before: &[Value], mmsi: u64) -> bool
 }
 
 fn ship_cause(own: u64, before: &[Value], found: Option<&Value>) -> Option<Cause>
-    ensures { result ≡ ship_cause own (map view before.now) (option_map (λ v. view v.now) found.entry) }
+    ensures { result ≡ ship_cause own (map view before.now)
+        (option_map (λ v. view v.now) found.entry) }
 {
     if let Some(cause) = number_cause(SHIPS, found) {
         return Some(cause);
@@ -64,7 +65,7 @@ fn ship_cause(own: u64, before: &[Value], found: Option<&Value>) -> Option<Cause
     None
 }
 
-/// The fault of a table behind others: that of its ship, or else that of its changes.
+/// The fault of a table after others: that of its ship, otherwise that of its changes.
 #[tactic(auto, unfolding(crate::specs::PredictFaults::table_fault), using(crate::proofs::Lists::many_seen))]
 fn table_fault(tick: u32, own: u64, before: &[Value], table: &Value) -> Option<(Key, Cause)>
     requires { 1 ≤ tick }

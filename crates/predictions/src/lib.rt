@@ -1,9 +1,9 @@
-//! What a scenario predicts of other vessels: at what times they take which course and speed. The first fault of its tables, and
-//! their values.
+//! What a scenario predicts of other vessels: at what times they take which course and speed. Reads the values of its tables, or their
+//! first fault.
 //!
-//! A table with `mmsi = 200000033` and `changes = [[180, 700, 50]]` says of that vessel that 180 seconds after now she takes the course of 70.0
-//! degrees and a speed of 5.0 knots. At a tick of 7 seconds it is told as `predict.changes: multiple`.
-//! Where she then is has no place here: `plan_situations` reckons that.
+//! A table with `mmsi = 200000033` and `changes = [[180, 700, 50]]` states that 180 seconds after now this vessel takes the course of 70.0
+//! degrees and a speed of 5.0 knots. At a tick of 7 seconds this is the fault `predict.changes: multiple`.
+//! Where she then is, is out of scope: `plan_situations` computes that.
 #![tactic(auto)]
 
 mod changes;

@@ -35,7 +35,9 @@ fn change_in(found: &Value) -> Change
 
 fn changes_in(alloc: Global, list: &Array) -> Result<Vec<Change>, AllocError>
     requires { list_all (λ v. is_change_of (change_numbers_at (view v))) list.now.items ≡ true }
-    ensures { IfOk result (λ changes. changes.items ≡ map (λ v. change_of (change_numbers_at (view v))) list.now.items) }
+    ensures { IfOk result
+        (λ changes. changes.items
+        ≡ map (λ v. change_of (change_numbers_at (view v))) list.now.items) }
 {
     let mut changes = Vec::new(alloc);
     for found in list.iter() {
@@ -45,7 +47,8 @@ fn changes_in(alloc: Global, list: &Array) -> Result<Vec<Change>, AllocError>
 }
 
 fn array_in(found: Option<&Value>) -> Option<&Array>
-    ensures { option_map (λ a. array_view a.now) result ≡ array_in (option_map (λ v. view v.now) found.entry) }
+    ensures { option_map (λ a. array_view a.now) result
+        ≡ array_in (option_map (λ v. view v.now) found.entry) }
 {
     match found {
         Some(found) => found.as_array(),
@@ -56,7 +59,8 @@ fn array_in(found: Option<&Value>) -> Option<&Array>
 /// The changes of a table.
 fn changes_of(alloc: Global, found: Option<&Value>) -> Result<Changes, AllocError>
     requires { AreReadable (option_map (λ v. view v.now) found) }
-    ensures { IfOk result (λ changes. changes ≡ predicted_changes (option_map (λ v. view v.now) found.entry)) }
+    ensures { IfOk result
+        (λ changes. changes ≡ predicted_changes (option_map (λ v. view v.now) found.entry)) }
 {
     match array_in(found) {
         Some(list) => Ok(Changes::new(changes_in(alloc, list)?)),
@@ -86,13 +90,14 @@ fn predicts_in(alloc: Global, tables: &[Value]) -> Result<Vec<Predict>, AllocErr
     Ok(list)
 }
 
-/// What at most 64 tables predict that have no fault at some tick, where own ship has some MMSI. For this tick and MMSI the
+/// What at most 64 tables predict that have no fault at some tick, if own ship has some MMSI. For this tick and MMSI the
 /// values are in their ranges.
 pub fn predictions_of(alloc: Global, tables: &[Value]) -> Result<Predictions, AllocError>
     requires few { length tables.now ≤ 64 }
     requires faultless { HaveNoFault (map view tables.now) }
     ensures values { IfOk result (λ p. p ≡ predictions_of (map view tables.now)) }
-    ensures in_range { (tick own : ℕ) → predict_fault tick own (map view tables.now) ≡ None → IfOk result (ArePredictions tick own) }
+    ensures in_range { (tick own : ℕ) → predict_fault tick own (map view tables.now) ≡ None
+        → IfOk result (ArePredictions tick own) }
 {
     let list = predicts_in(alloc, tables)?;
     Ok(Predictions::new(list))

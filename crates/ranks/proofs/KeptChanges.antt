@@ -1,4 +1,4 @@
--- What is kept of one vessel: its order, what a note makes of it, and what it tells.
+-- What is kept of one vessel: its order, what a note makes of it, and the rank that it gives.
 use Rattle.std.proofs.Common.{◌≡◌, ◌≢◌, ◌∙◌, ℕ, zero, suc, ◌+◌, ◌<◌, ◌≤◌, inl, inr, Bool, true, List, [], ◌∷◌, ◌++◌, length, take, get_or, Some, None, refl, ap, subst, sym, arith}
 use Rattle.std.specs.Prelude.{Contains, Option, nat_le, nat_lt, if◌then◌else◌}
 use Rattle.std.specs.List.{All, AllPairs, filter, last_or}
@@ -69,7 +69,7 @@ more_changes changes time i rank h parts le ne =
     earlier : (k : ℕ) (d : Change) → k < length (take i changes) → (get_or (take i changes) k d).time < time
     earlier k d lt = let at = within_front changes i k d lt in rw at.0 (parts.0 k d (omega arith) at.2)
 
--- Up to a time the front tells all, and from it on its last change counts.
+-- Up to a time the front decides, and from that time on its last change counts.
 front_up_to : (changes : List Change) (time i t : ℕ) → IsBefore changes time i → t < time → filter (by t) (take i changes) ≡ filter (by t) changes
 front_up_to changes time i t parts lt = filter_take (by t) changes i (λ k d le within. let after = parts.1 k d le within in grind (arith, nat_tests))
 
@@ -102,13 +102,13 @@ more_tells changes time i rank parts le t =
           ∙ append-nil (filter (by t) (take i changes)) ∙ front_up_to changes time i t parts at)))
     ]
 
--- ---- what they tell
+-- ---- the ranks that they give
 
 pub rank_by_front : (changes : List Change) (time i : ℕ) → IsBy (λ change. change.time) changes time i → i ≤ length changes
     → rank_since (last_or None (take i changes)) ≡ rank_after changes time
 rank_by_front changes time i parts le = ap (λ cs. rank_since (last_or None cs)) (front_by (λ change. change.time) changes time i parts le)
 
--- The front before a time tells the rank up to it.
+-- The front before a time gives the rank up to it.
 pub rank_before : (changes : List Change) (time i : ℕ) → IsBefore changes time i → i ≤ length changes → rank_since (last_or None (take i changes)) ≡ rank_until changes time
 rank_before changes time i parts le =
     let earlier : Change → Bool = λ change. nat_lt change.time time in

@@ -87,7 +87,7 @@ stands_more old new note changes becomes told noted stands mmsi time =
           ∙ ap (λ (b : Bool). if b && nat_le note.time time then rank_in ranks_by_kind note.kind else rank_by_type noted mmsi time) other))
     ]
 
--- A vessel of which nothing is kept stays `Power`.
+-- A vessel without kept changes stays `Power`.
 pub stands_same : (vessels : List (ℕ × List Change)) (note : Note) → found vessels note.mmsi ≡ None → rank_in ranks_by_kind note.kind ≡ Power
     → (noted : List Note) → StandsFor vessels noted → StandsFor vessels (noted ++ note ∷ [])
 stands_same vessels note none power noted stands mmsi time =
@@ -100,7 +100,7 @@ stands_same vessels note none power noted stands mmsi time =
           ∙ sym (rank_by_type-push noted note mmsi time ∙ ap (λ (b : Bool). if b then rank_in ranks_by_kind note.kind else rank_by_type noted mmsi time) not)
     ]
 
--- The type of such a vessel tells the rank that she had only where it makes her `Power`.
+-- The type of such a vessel gives the rank that she had only if it makes her `Power`.
 pub power_as_before : (vessels now : List (ℕ × List Change)) (mmsi time kind : ℕ) → vessels ≡ now → found vessels mmsi ≡ None
     → rank_until (changes_of now mmsi) time ≡ rank_in ranks_by_kind kind → rank_in ranks_by_kind kind ≡ Power
 power_as_before vessels now mmsi time kind view none same =

@@ -7,7 +7,7 @@ use Rattle.ranks.specs.declared.change.Change.{Change}
 use Rattle.ranks.specs.declared.rank.Rank.{Rank}
 use Rattle.ranks.specs.declared.rank.Rank.TheVariants.{Power}
 
--- A vessel of which no change is known is `Power`.
+-- A vessel without a known change is `Power`.
 abbrev pub rank_since : Option Change → Rank
 rank_since None = Power
 rank_since (Some change) = change.rank
@@ -20,7 +20,7 @@ rank_after changes time = rank_since (last_or None (filter (λ change. nat_le ch
 abbrev pub rank_until : List Change → ℕ → Rank
 rank_until changes time = rank_since (last_or None (filter (λ change. nat_lt change.time time) changes))
 
--- what is kept of a vessel among vessels by their identities, nothing where she is not among them
+-- what is kept of a vessel among vessels by their identities, nothing if she is not among them
 abbrev pub changes_of : List (ℕ × List Change) → ℕ → List Change
 changes_of vessels mmsi = unwrap_or (lookup (λ held. held == mmsi) vessels) []
 
@@ -28,7 +28,7 @@ changes_of vessels mmsi = unwrap_or (lookup (λ held. held == mmsi) vessels) []
 abbrev pub StandsFor : List (ℕ × List Change) → List Note → Type 0
 StandsFor vessels noted = (mmsi time : ℕ) → rank_after (changes_of vessels mmsi) time ≡ rank_by_type noted mmsi time
 
--- Each of these changes a rank that is told for each time: at its time the rank is its own, and a second before it was another.
+-- Each of these changes a rank that is a function of time: at its time the rank is its own, and a second before it was another.
 abbrev pub AreChangesOf : (ℕ → Rank) → List Change → Type 0
 AreChangesOf rank changes = (change : Change) → Contains changes change
     → (rank change.time ≡ change.rank) × ((before : ℕ) → before + 1 ≡ change.time → rank before ≢ change.rank)

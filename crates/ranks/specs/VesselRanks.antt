@@ -6,13 +6,13 @@ use Rattle.tracks.specs.declared.accepted.Accepted.{Accepted}
 use Rattle.ranks.specs.declared.rank.Rank.{Rank}
 use Rattle.ranks.specs.declared.rank.Rank.TheVariants.{Power, Sailing, Fishing, Restricted, NotUnderCommand}
 
--- the ship type that a line tells of a vessel, and the line's time, in seconds since 1970
+-- the ship type that a line reports for a vessel, and the line's time, in seconds since 1970
 pub record Note : Type 0 where
   pub mmsi : ℕ
   pub time : ℕ
   pub kind : ℕ
 
--- ---- what a status and a ship type tell (ITU-R M.1371-5, annex 8, message 1 and table 53)
+-- ---- what a status and a ship type mean (ITU-R M.1371-5, annex 8, message 1 and table 53)
 
 abbrev pub ranks_by_status : List (ℕ × Rank)
 ranks_by_status = (2, NotUnderCommand) ∷ (3, Restricted) ∷ (7, Fishing) ∷ (8, Sailing) ∷ []
@@ -24,7 +24,7 @@ ranks_by_kind = (30, Fishing) ∷ (36, Sailing) ∷ []
 abbrev pub rank_in : List (ℕ × Rank) → ℕ → Rank
 rank_in table value = unwrap_or (lookup (λ v. v == value) table) Power
 
--- Status 15 tells none: it leaves the rank to the ship type.
+-- Status 15 gives none: it leaves the rank to the ship type.
 abbrev pub rank_by_status : ℕ → Option Rank
 rank_by_status status = if status == 15 then None else Some (rank_in ranks_by_status status)
 

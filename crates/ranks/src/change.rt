@@ -6,6 +6,6 @@ use crate::rank::Rank;
 pub struct Change {
     /// In seconds since the Unix epoch.
     pub time: u64,
-    /// Her rank where her status leaves it to the type.
+    /// Her rank if her status leaves it to the type.
     pub rank: Rank,
 }

@@ -16,7 +16,8 @@ use std::marker::Model;
 fn changes_by(changes: &[Change], time: u64) -> usize
     requires { AreChanges changes.now }
     ensures bound { result ≤ length changes.now }
-    ensures parts { IsPartitionPoint (λ (change : Change). change.time ≤ time) (λ (change : Change). time < change.time) changes.now result }
+    ensures parts { IsPartitionPoint (λ (change : Change). change.time ≤ time)
+        (λ (change : Change). time < change.time) changes.now result }
 {
     changes.partition_point(|change| change.time <= time)
 }
@@ -25,7 +26,8 @@ fn changes_by(changes: &[Change], time: u64) -> usize
 fn changes_before(changes: &[Change], time: u64) -> usize
     requires { AreChanges changes.now }
     ensures bound { result ≤ length changes.now }
-    ensures parts { IsPartitionPoint (λ (change : Change). change.time < time) (λ (change : Change). time ≤ change.time) changes.now result }
+    ensures parts { IsPartitionPoint (λ (change : Change). change.time < time)
+        (λ (change : Change). time ≤ change.time) changes.now result }
 {
     changes.partition_point(|change| change.time < time)
 }
@@ -84,10 +86,12 @@ impl Changes {
         last_rank(&self.changes[..come])
     }
 
-    /// Takes that from the time on the rank is this one, whatever was told before of this time and later ones. Where it was this one
-    /// before, this takes no memory. Where there is no memory, all is as before.
+    /// Records that from this time on the rank is this one, whatever was noted for this time and later ones. If it was this one
+    /// before, this takes no memory. If memory runs out, nothing changes.
     pub(crate) fn note(&mut self, time: u64, rank: Rank) -> Result<(), Memory>
-        ensures ok { OnOk result ((t : ℕ) → rank_after self.new t ≡ (if nat_le time t then rank else rank_after self.old t)) }
+        ensures ok { OnOk result
+            ((t : ℕ) → rank_after self.new t
+            ≡ (if nat_le time t then rank else rank_after self.old t)) }
         ensures err { OnErr result (self.new ≡ self.old) }
         ensures known { rank_until self.old time ≡ rank → IsOk result }
     {

@@ -1,4 +1,4 @@
-//! A law of ranks, which stands over the definitions alone.
+//! A law of ranks, which follows from the definitions alone.
 ghost use Rattle.std.specs.Prelude.{ℕ, ◌≡◌, ◌<◌, ◌++◌, ◌∷◌, [], List};
 ghost use Rattle.ranks.specs.VesselRanks.{Note, rank_by_type};
 

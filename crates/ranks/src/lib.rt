@@ -1,11 +1,12 @@
 //! Ranks: what a vessel is by Rule 18 of the COLREGs, and who gives way by it.
 //!
-//! A vessel's rank at a time is told by the navigational status of her last accepted report at or before it: 2 is
-//! `NotUnderCommand`, 3 `Restricted`, 7 `Fishing` and 8 `Sailing`. At status 15, which tells nothing, her ship type counts: 30 is
-//! `Fishing`, 36 `Sailing`. All else is `Power`. `Ranks` takes the ship types in the order of the lines that tell them. Of these the one
-//! on the last line counts whose time is at most the time asked for, also where an earlier line has a later time.
+//! The navigational status of a vessel's last accepted report at or before a time gives her rank at that time: 2 is
+//! `NotUnderCommand`, 3 `Restricted`, 7 `Fishing` and 8 `Sailing`. At status 15, which means not defined, her ship type counts: 30 is
+//! `Fishing`, 36 `Sailing`. Everything else is `Power`. `Ranks` takes the ship types in the order of their lines. The last of these
+//! lines whose
+//! time is at most the time asked for counts, even if an earlier line has a later time.
 //!
-//! Of each vessel only the changes of her rank by ship type are kept. A vessel whose type never made her a fishing or a sailing
+//! Only the changes of a vessel's rank by ship type are kept. A vessel whose type never made her a fishing or a sailing
 //! vessel takes no memory.
 #![tactic(auto)]
 

@@ -5,7 +5,7 @@ ghost use Rattle.ranks.specs.GivingWay.{GivesWay};
 /// What a vessel is by Rule 18.
 #[derive(Clone, Copy, Debug, PartialEq, Eq)]
 pub enum Rank {
-    /// Power-driven, and any vessel that tells of herself none of the others.
+    /// Power-driven, and any vessel that reports none of the others.
     Power,
     Sailing,
     /// Engaged in fishing.

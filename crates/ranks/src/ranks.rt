@@ -15,7 +15,7 @@ use std::collections::BTreeMap;
 use std::marker::Model;
 use tracks::Accepted;
 
-/// The ship types that vessels told of themselves, as far as they count for ranks. It is seen as the changes of each vessel's rank
+/// The ship types that vessels reported, as far as they count for ranks. It is seen as the changes of each vessel's rank
 /// by ship type, which stand for the list of what was noted so far.
 #[derive(Drop)]
 pub struct Ranks {
@@ -44,13 +44,14 @@ impl Ranks {
         }
     }
 
-    /// Takes the ship type that the next line with ship data tells of a vessel, and the line's time. Where the type gives her the rank that
-    /// she had by type before that time, this takes no memory. Where there is no memory, all is as before.
+    /// Takes the ship type that the next line with ship data reports for a vessel, and the line's time. If the type gives her the rank that
+    /// she had by type before that time, this takes no memory. If memory runs out, nothing changes.
     pub fn note(&mut self, mmsi: u32, time: u64, kind: u8) -> Result<(), Memory>
         ensures stands { OnOk result ((noted : List Note) → StandsFor self.old noted
             → StandsFor self.new (noted ++ record { mmsi = mmsi; time = time; kind = kind } ∷ [])) }
         ensures same { OnErr result (self.new ≡ self.old) }
-        ensures known { rank_until (changes_of self.old mmsi) time ≡ rank_in ranks_by_kind kind → IsOk result }
+        ensures known { rank_until (changes_of self.old mmsi) time ≡ rank_in ranks_by_kind kind
+            → IsOk result }
     {
         let rank = rank_of_kind(kind);
         if let Some(changes) = self.vessels.get_mut(&mmsi) {
@@ -69,7 +70,8 @@ impl Ranks {
     pub fn changes(&self, mmsi: u32) -> &[Change]
         ensures kept { result.now ≡ changes_of self.now mmsi }
         ensures order { AllPairs (λ earlier later. earlier.time < later.time) result.now }
-        ensures alone { (noted : List Note) → StandsFor self.now noted → AreChangesOf (rank_by_type noted mmsi) result.now }
+        ensures alone { (noted : List Note) → StandsFor self.now noted
+            → AreChangesOf (rank_by_type noted mmsi) result.now }
     {
         match self.vessels.get(&mmsi) {
             None => &[],
@@ -79,7 +81,8 @@ impl Ranks {
 
     /// The rank that her ship type gives a vessel at a time.
     fn by_type(&self, mmsi: u32, time: u64) -> Rank
-        ensures { (noted : List Note) → StandsFor self.now noted → result ≡ rank_by_type noted mmsi time }
+        ensures { (noted : List Note) → StandsFor self.now noted
+            → result ≡ rank_by_type noted mmsi time }
     {
         match self.vessels.get(&mmsi) {
             None => Rank::Power,
@@ -87,12 +90,14 @@ impl Ranks {
         }
     }
 
-    /// The rank of a vessel at a time, by her accepted reports, of which one must have come by then, in the order of their times. This
+    /// Returns the rank of a vessel at a time, by her accepted reports in the order of their times; at least one must have come by
+    /// then. This
     /// takes no memory.
     pub fn rank(&self, mmsi: u32, points: &[Accepted], time: u64) -> Rank
         requires order { IsNonDecreasingBy (λ point. point.time) points.now }
         requires begun { IsSome (report_at points.now time) }
-        ensures { (noted : List Note) → StandsFor self.now noted → result ≡ rank_at noted mmsi points.now time }
+        ensures { (noted : List Note) → StandsFor self.now noted
+            → result ≡ rank_at noted mmsi points.now time }
     {
         match rank_of_status(last_report(points, time).report.status) {
             Some(rank) => rank,

@@ -1,4 +1,4 @@
-//! What a report and a ship type tell of a vessel's rank.
+//! What a report and a ship type say about a vessel's rank.
 ghost use Rattle.std.specs.Prelude.{◌≡◌, ◌≤◌, ◌<◌, length, IsSome, Some};
 ghost use Rattle.std.specs.List.Sorted.{IsNonDecreasingBy, IsPartitionPoint};
 ghost use Rattle.ranks.specs.VesselRanks.{rank_by_status, rank_in, ranks_by_kind, report_at};
@@ -18,7 +18,7 @@ pub(crate) fn rank_of_kind(kind: u8) -> Rank
     }
 }
 
-/// The rank that a status gives, or `None` where it leaves this to the ship type.
+/// The rank that a status gives, or `None` if it leaves this to the ship type.
 pub(crate) fn rank_of_status(status: u8) -> Option<Rank>
     ensures { result ≡ rank_by_status status }
 {
@@ -36,7 +36,8 @@ pub(crate) fn rank_of_status(status: u8) -> Option<Rank>
 fn points_by(points: &[Accepted], time: u64) -> usize
     requires { IsNonDecreasingBy (λ point. point.time) points.now }
     ensures bound { result ≤ length points.now }
-    ensures parts { IsPartitionPoint (λ (point : Accepted). point.time ≤ time) (λ (point : Accepted). time < point.time) points.now result }
+    ensures parts { IsPartitionPoint (λ (point : Accepted). point.time ≤ time)
+        (λ (point : Accepted). time < point.time) points.now result }
 {
     points.partition_point(|point| point.time <= time)
 }

@@ -1,3 +1,3 @@
--- Lemmas for the crates above: that the first row that is bad has one index, and that rows that are right have none.
+-- Lemmas for the crates above: that the first bad row has one index, that right rows have none, and the entries of rows.
 pub use Rattle.refutation_check.proofs.OneIndex.{one_index}
-pub use Rattle.refutation_check.proofs.SoundRows.{not_both}
+pub use Rattle.refutation_check.proofs.SoundRows.{are_entries, not_both, sound_front, tell_as_many, tell_front}

@@ -1,4 +1,4 @@
--- What a reader gives of a text, and what its rows tell.
+-- What a reader gives for a text, and the entries of its rows.
 use Rattle.std.proofs.Common.{ℕ, suc, add-one, ◌≡◌, ◌∙◌, ◌+◌, ◌≤◌, ◌<◌, ◌++◌, false, true, List, [], ◌∷◌, length, length-append, append-nil, append_assoc, Some, None, refl, arith, ap, sym}
 use Rattle.std.specs.Prelude.{bytes_eq, codes, filter, if◌then◌else◌, Bool, Option}
 use Rattle.std.specs.Borrow.{Bor}
@@ -56,7 +56,7 @@ turned old new found fields turns rows plain read gives = by (pending_of (Some n
         next_turned (next_record default_config old.state [] [] gives.rest) found fields new behind turns rows h (rw read.1 e)
         (λ none. sym (rw none at told)) (λ next some. sym (rw some at told))
 
--- nothing is left where there are no more turns
+-- nothing is left if there are no more turns
 pub no_turns : (reader : TextReader) (rows : List Fields) (turns : ℕ) → turns ≡ 0 → Gives reader turns rows → rows ≡ []
 unfolding records_from
 no_turns reader rows turns none gives = let told = rw none at gives.gives in sym told
@@ -113,7 +113,7 @@ module _ (s : Situation) where
     left = refl;
   }
 
-  -- they are read up to a row that tells no entry
+  -- they are read up to a row without an entry
   pub read_to : (text : List ℕ) (old reader : TextReader) (more turns : ℕ) (entries : List WhyEntry) (fields : Fields) (so_far : IsReadSoFar s text old more entries)
       → is_why fields ≡ true → TellsNone s fields → Turned true reader turns so_far.behind fields → AreRead s (why_rows text) entries false
   read_to text old reader more turns entries fields h why none turned = record {
@@ -139,7 +139,7 @@ module _ (s : Situation) where
     };
   }
 
--- behind a byte order mark there is not more
+-- after a byte order mark there is not more
 pub not_longer : (text : List ℕ) → length (strip_bom text) ≤ length text
 unfolding strip_bom
 not_longer [] = omega arith

@@ -1,4 +1,4 @@
--- What a check of the entries tells of the rows.
+-- What a check of the entries says about the rows.
 use Rattle.std.proofs.Common.{ℕ, zero, suc, add-one, ◌≡◌, ◌≢◌, ◌∙◌, ◌+◌, ◌≤◌, ◌<◌, ◌++◌, false, true, inl, inr, List, [], ◌∷◌, length, take, append-nil, length-append, refl, rules, arith, ap, ap₂, sym, subst}
 use Rattle.std.specs.Prelude.{slice_get, ◌↔◌, All, Bool, IsSomeAnd}
 use Rattle.std.specs.List.{AllZip}
@@ -37,16 +37,16 @@ front_of_front [] behind (suc n) few = absurd (omega arith)
 front_of_front (x ∷ front) behind (suc n) few = ap (λ rest. x ∷ rest) (front_of_front front behind n (omega arith))
 
 module _ (s : Situation) where
-  -- ---- rows and the entries that they tell
+  -- ---- rows and their entries
 
-  tell_front : (rows : List Fields) (entries : List WhyEntry) (n : ℕ) → Tell s rows entries → Tell s (take n rows) (take n entries)
+  pub tell_front : (rows : List Fields) (entries : List WhyEntry) (n : ℕ) → Tell s rows entries → Tell s (take n rows) (take n entries)
   tell_front rows entries zero h = tt
   tell_front [] [] (suc n) h = tt
   tell_front [] (entry ∷ entries) (suc n) h = absurd h
   tell_front (row ∷ rows) [] (suc n) h = absurd h
   tell_front (row ∷ rows) (entry ∷ entries) (suc n) h = (h.0, tell_front rows entries n h.1)
 
-  tell_as_many : (rows : List Fields) (entries : List WhyEntry) → Tell s rows entries → length rows ≡ length entries
+  pub tell_as_many : (rows : List Fields) (entries : List WhyEntry) → Tell s rows entries → length rows ≡ length entries
   tell_as_many [] [] h = refl
   tell_as_many [] (entry ∷ entries) h = absurd h
   tell_as_many (row ∷ rows) [] h = absurd h
@@ -58,7 +58,7 @@ module _ (s : Situation) where
   told_by (row ∷ rows) [] h = absurd h
   told_by (row ∷ rows) (entry ∷ entries) h = (h.0.0, told_by rows entries h.1)
 
-  -- what rows tell is one list, also where only those of a front are told
+  -- the entries of rows are one list, also if only those of a front are known
   one_front : (rows behind : List Fields) (entries others : List WhyEntry) (n : ℕ) → AllZip (IsTheEntryOf s) rows entries → n ≤ length entries
       → Tell s (take n (rows ++ behind)) others → others ≡ take n entries
   one_front rows behind entries [] zero h few tell = refl
@@ -79,15 +79,15 @@ module _ (s : Situation) where
   one_list (row ∷ rows) (entry ∷ entries) (other ∷ others) h tell =
       ap₂ (λ (first : WhyEntry) (rest : List WhyEntry). first ∷ rest) (h.0.1 other tell.0) (one_list rows entries others h.1 tell.1)
 
-  -- rows of which one tells no entry tell none
+  -- rows have no list of entries if one of them has no entry
   none_told : (rows behind : List Fields) (row : Fields) (others : List WhyEntry) → TellsNone s row → ¬ Tell s (take (suc (length rows)) (rows ++ row ∷ behind)) others
   none_told [] behind row [] none tell = tell
   none_told [] behind row (other ∷ others) none tell = none other tell.0
   none_told (first ∷ rows) behind row [] none tell = tell
   none_told (first ∷ rows) behind row (other ∷ others) none tell = none_told rows behind row others none tell.1
 
-  -- The entries that are told are the situation's.
-  are_entries : (rows : List Fields) (entries : List WhyEntry) → Tell s rows entries → All (IsEntry s) entries
+  -- The entries of the rows are the situation's.
+  pub are_entries : (rows : List Fields) (entries : List WhyEntry) → Tell s rows entries → All (IsEntry s) entries
   are_entries [] [] h = search rules
   are_entries [] (entry ∷ entries) h = absurd h
   are_entries (row ∷ rows) [] h = absurd h
@@ -98,7 +98,7 @@ module _ (s : Situation) where
   front_sound : (entries : List WhyEntry) (k : ℕ) → IsSoundAt s entries k → IsSoundAt s (take (suc k) entries) k
   front_sound entries k h = rw (front_get entries k, front_front entries k) h
 
-  sound_front : (entries : List WhyEntry) (k : ℕ) → IsSoundAt s (take (suc k) entries) k → IsSoundAt s entries k
+  pub sound_front : (entries : List WhyEntry) (k : ℕ) → IsSoundAt s (take (suc k) entries) k → IsSoundAt s entries k
   sound_front entries k h = rw (front_get entries k, front_front entries k) at h
 
   within : (entries : List WhyEntry) (k : ℕ) → IsSoundAt s entries k → k < length entries
@@ -156,7 +156,7 @@ module _ (s : Situation) where
         let same = one_front read.front read.behind entries row.entries (suc k) read.told (omega arith) (split_front (k + 1) (suc k) row.entries (add-one k) row.told) in
         unsound (sound_front entries k (subst (λ (others : List WhyEntry). IsSoundAt s others k) same row.sound))
 
-    -- ---- where they are all
+    -- ---- if they are all
 
     whole : all ≡ true → rows ≡ read.front
     whole e = let none : read.behind ≡ [] = rw e at read.left in read.split ∙ (ap (λ (behind : List Fields). read.front ++ behind) none ∙ append-nil read.front)
@@ -184,7 +184,7 @@ module _ (s : Situation) where
     all_tells Right e h = all_right e h
     all_tells (Bad k) e h = all_bad k e h
 
-    -- ---- where a row tells none
+    -- ---- if a row has no entry
 
     left_bad : (k : ℕ) → all ≡ false → k ≤ length entries → ((j : ℕ) → j < k → IsSoundAt s entries j) → (k < length entries → ¬ IsSoundAt s entries k)
         → IsFirstBadRow s rows k

@@ -16,28 +16,28 @@ abbrev pub is_why : Fields → Bool
 is_why [] = false
 is_why (kind ∷ rest) = bytes_eq kind (codes "why")
 
--- the rows `why` of a text, in order: it is read as CSV with no headers, behind a byte order mark if it begins with one
+-- the rows `why` of a text, in order: it is read as CSV with no headers, after a byte order mark if it begins with one
 abbrev pub why_rows : List ℕ → List Fields
 why_rows text = filter is_why (records default_config (strip_bom text))
 
 module _ (situation : Situation) where
-  -- Rows tell entries: as many, and each the entry whose row has these fields.
+  -- Rows give entries: the same number, and each is the entry whose row has these fields.
   abbrev pub Tell : List Fields → List WhyEntry → Type 0
   Tell rows entries = AllZip (IsEntryOf situation) rows entries
 
-  -- Rows are right: they tell a list of entries that is.
+  -- Rows are right: they give a list of entries that is right.
   pub record AreRight (rows : List Fields) : Type 0 where
     pub entries : List WhyEntry
     pub told : Tell rows entries
     pub right : IsRight situation entries
 
-  -- The row with an index is sound: it and the rows before it tell entries, of which its own is good and its block begins where those before it end.
+  -- The row with an index is sound: it and the rows before it give entries, its own is good, and its block begins where those before it end.
   pub record IsSoundRow (rows : List Fields) (k : ℕ) : Type 0 where
     pub entries : List WhyEntry
     pub told : Tell (take (k + 1) rows) entries
     pub sound : IsSoundAt situation entries k
 
-  -- The rows are not right, and this is the least index at which one is not sound; where each is, it is their number, and their blocks together are
+  -- The rows are not right, and this is the least index at which one is not sound; if each is, it is their number, and their blocks together are
   -- not all plans.
   pub record IsFirstBadRow (rows : List Fields) (k : ℕ) : Type 0 where
     pub within : k ≤ length rows
@@ -45,7 +45,7 @@ module _ (situation : Situation) where
     pub here : k < length rows → ¬ IsSoundRow rows k
     pub short : k ≡ length rows → (entries : List WhyEntry) → Tell rows entries → ends_from situation 0 entries ≢ plans_of situation.lattice
 
-  -- what a check tells of rows
+  -- what a check returns for rows
   abbrev pub TellsOf : List Fields → Checked → Type 0
   TellsOf rows Right = AreRight rows
   TellsOf rows (Bad k) = IsFirstBadRow rows k

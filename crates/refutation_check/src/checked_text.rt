@@ -14,14 +14,16 @@ use std::alloc::Global;
 /// The greatest length of a text that is checked, in bytes.
 pub const GREATEST_TEXT: u64 = 1 << 24;
 
-/// Checks the rows `why` of a text of at most 2^24 bytes, without a search. Where they are right, every plan fails. Else it tells the least index of a
-/// row that tells no entry, or one that is not good or whose block does not begin where the blocks before it end; where there is no such row, how
-/// many rows there are.
+/// Checks the rows `why` of a text of at most 2^24 bytes, without a search. If they are right, every plan fails. Otherwise returns the least index of
+/// a
+/// row that gives no entry, or whose entry is not good, or whose block does not begin where the blocks before it end; if there is no such row, the
+/// number of rows.
 pub fn recheck(alloc: Global, situation: &Situation, text: &[u8]) -> Result<Checked, Memory>
     requires situation { IsSituation situation.now }
     requires few { length text.now ≤ GREATEST_TEXT }
     ensures told { IfOk result (λ checked. TellsOf situation.now (why_rows text.now) checked) }
-    ensures right { IfOk result (λ checked. (checked ≡ Checked.Right) ↔ AreRight situation.now (why_rows text.now)) }
+    ensures right { IfOk result
+        (λ checked. (checked ≡ Checked.Right) ↔ AreRight situation.now (why_rows text.now)) }
     ensures refutes { IfOk result (λ checked. checked ≡ Checked.Right → AllFail situation.now) }
 {
     let read = read_entries(alloc, situation, text)?;

@@ -1,4 +1,4 @@
-//! The entries that the rows of a text tell.
+//! The entries in the rows of a text.
 ghost use Rattle.std.specs.Prelude.{◌≡◌, ◌+◌, ◌≤◌, ◌<◌, ◌^◌, length, IfOk, [], true};
 ghost use Rattle.csv.specs.Records.{fields_of};
 ghost use Rattle.refutation_check.specs.CheckedRows.{why_rows};
@@ -12,21 +12,23 @@ use plan_situations::Situation;
 use refutations::{WhyEntry, read_entry};
 use std::alloc::Global;
 
-/// The entries of the rows `why` of a text: of all, or up to the first row that tells none.
+/// The entries of the rows `why` of a text: of all, or up to the first row that gives none.
 #[derive(Drop)]
 pub(crate) struct EntriesRead {
     pub(crate) entries: Vec<WhyEntry>,
     pub(crate) all: bool,
 }
 
-/// Adds the entry that a row `why` tells, and passes over a row of another kind. `false` where a row `why` tells no entry.
+/// Adds the entry of a row `why`, and skips a row of another kind. `false` if a row `why` gives no entry.
 fn take_row(
     alloc: Global,
     situation: &Situation,
     row: &ByteRecord,
     entries: &mut Vec<WhyEntry>,
 ) -> Result<bool, Memory>
-    ensures { IfOk result (λ taken. TakesRow situation.now (fields_of row.now) entries.old.items entries.new.items taken) }
+    ensures { IfOk result
+        (λ taken. TakesRow situation.now
+        (fields_of row.now) entries.old.items entries.new.items taken) }
 {
     if !is_why(row) {
         return Ok(true);
@@ -38,7 +40,7 @@ fn take_row(
     Ok(true)
 }
 
-/// Takes the rows that a reader gives, up to the first row `why` that tells no entry. A text has no more rows than bytes, and one more turn finds its end.
+/// Takes the rows that a reader gives, up to the first row `why` that gives no entry. A text has no more rows than bytes, and one more turn finds its end.
 fn take_rows(
     alloc: Global,
     situation: &Situation,
@@ -51,8 +53,10 @@ fn take_rows(
     requires plain { ReadsPlainly reader.old }
     requires none { read.old.entries.items ≡ [] }
     requires all { read.old.all ≡ true }
-    requires so_far { IsReadSoFar situation.now text.now reader.old (length text.now + 1) read.old.entries.items }
-    ensures read { IfOk result (λ _. AreRead situation.now (why_rows text.now) read.new.entries.items read.new.all) }
+    requires so_far { IsReadSoFar situation.now text.now reader.old
+        (length text.now + 1) read.old.entries.items }
+    ensures read { IfOk result
+        (λ _. AreRead situation.now (why_rows text.now) read.new.entries.items read.new.all) }
     ensures few { IfOk result (λ _. length read.new.entries.items < 2 ^ 31) }
 {
     for _turn in 0..text.len() + 1 {
@@ -74,7 +78,8 @@ pub(crate) fn read_entries(
     text: &[u8],
 ) -> Result<EntriesRead, Memory>
     requires { length text.now ≤ GREATEST_TEXT }
-    ensures read { IfOk result (λ read. AreRead situation.now (why_rows text.now) read.entries.items read.all) }
+    ensures read { IfOk result
+        (λ read. AreRead situation.now (why_rows text.now) read.entries.items read.all) }
     ensures few { IfOk result (λ read. length read.entries.items < 2 ^ 31) }
 {
     let mut reader = ReaderBuilder::new()

@@ -1,10 +1,10 @@
-//! Whether the rows of a text say rightly why there is no plan, told without a search.
+//! Checks without a search whether the rows of a text give the right reasons why there is no plan.
 //!
-//! A text is read as CSV with no headers. Its rows `why` are the entries of a refutation, in order, and rows of other kinds are passed over, so that
-//! the whole report of a plan may be given. [`recheck`] tells whether they are right, and else which of them is the first that is not.
+//! A text is read as CSV with no headers. Its rows `why` are the entries of a refutation, in order, and rows of other kinds are skipped, so the whole
+//! report of a plan may be given. [`recheck`] returns whether they are right, and otherwise which of them is the first that is not.
 //!
-//! Of the rows of a right list of three with the second one left out, the entry 1 is the first that is wrong: its plans do not follow on those before it.
-//! Whether there is another plan has no place here: rows are judged as they are given.
+//! If the second row of a right list of three is left out, entry 1 is the first that is wrong: its plans do not follow those before it.
+//! Whether there is another plan is out of scope: rows are judged as they are given.
 #![tactic(auto)]
 
 mod checked_text;

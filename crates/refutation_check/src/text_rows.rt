@@ -8,12 +8,15 @@ ghost use Rattle.refutation_check.specs.Inner.ReadRows.{Gives, ReadsPlainly, Tur
 use csv::{ByteRecord, ErrorKind, Reader};
 use out_of_memory::Memory;
 
-/// The next row, and whether there is one. A read fails for want of memory alone: no error of text, of lengths or of values can come, and bytes in
-/// memory are always there. That last `csv` does not promise, so its error of a failed reader is told as the same.
+/// Reads the next row, and returns whether there is one. A read fails only if memory runs out: no error of text, of lengths or of values can
+/// occur, and
+/// bytes in memory are always available. `csv` does not promise this last fact, so its error of a failed reader is returned as out of memory.
 pub(crate) fn read_row(reader: &mut Reader<&[u8]>, row: &mut ByteRecord) -> Result<bool, Memory>
     requires { ReadsPlainly reader.old }
     ensures plain { IfOk result (λ found. ReadsPlainly reader.new) }
-    ensures turned { IfOk result (λ found. (turns : ℕ) (rows : List Fields) → Gives reader.old (turns + 1) rows → Turned found reader.new turns rows (fields_of row.new)) }
+    ensures turned { IfOk result
+        (λ found. (turns : ℕ) (rows : List Fields) → Gives reader.old (turns + 1) rows
+        → Turned found reader.new turns rows (fields_of row.new)) }
 {
     match reader.read_byte_record(row) {
         Ok(found) => Ok(found),

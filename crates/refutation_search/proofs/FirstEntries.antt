@@ -72,7 +72,7 @@ module _ (s : Situation) (X : List ℕ) (last : ℕ) (T : Target) where
         | inr both ↦ h.no_rule_before index both.1 (subst (λ (k : ℕ). RuleBreaksAt s X last T k index) both.0 holds)
       ]
 
-  -- where the plan fails towards the target and no domain is entered, a rule is newly broken
+  -- if the plan fails towards the target and no domain is entered, a rule is newly broken
   pub some_broken : (found : Option BrokenRule) → (¬ EntersDomain s X last T) → FailsTowards s X last T → MatchOption found (¬ BreaksARule s X last T) (IsFirstBroken s X last T)
       → IsSome found
   some_broken None none (inl enters) h = absurd (none enters)
@@ -148,7 +148,7 @@ module _ (s : Situation) (some : 1 ≤ s.lattice.legs) (prefix plan : List ℕ) 
           none_before other.target other.reason found.0 facts.0 found.1.0 (subst (λ (p : List ℕ). HoldsFor s p (get_or s.targets found.0 T) other.reason) same facts.1) precedes;
     }
 
--- ---- where the prefix is the first legs of the plan
+-- ---- if the prefix is the first legs of the plan
 
 module _ (s : Situation) (some : 1 ≤ s.lattice.legs) (plan prefix : List ℕ) (legs until : ℕ) (is : prefix ≡ take legs plan) (le : legs ≤ length plan) (told : until ≡ reached s legs) where
   lasts : length prefix ≡ legs

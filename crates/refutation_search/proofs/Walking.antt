@@ -141,7 +141,7 @@ module _ (s : Situation) where
           ];
     }
 
-  -- ---- the first plan that extends a prefix of so many legs, where plans with these legs do not fail by its horizon
+  -- ---- the first plan that extends a prefix of this many legs, if plans with these legs do not fail by its horizon
 
   pub begins_so : 1 ≤ choices_of s.lattice → (k n : ℕ) → k ≤ s.lattice.legs → take k (numbered s (first_extension s k n)) ≡ plan_of (choices_of s.lattice) k n
   begins_so some k n le = first_plan_begins (choices_of s.lattice) s.lattice.legs (s.lattice.legs - k) k n some (omega arith)
@@ -153,7 +153,7 @@ module _ (s : Situation) where
       let long = length-plan_of (choices_of s.lattice) s.lattice.legs (first_extension s k n) in
       passes_at s leg plan (take k plan) k (reached s k) refl (omega arith) refl passes
 
-  -- one more entry, that of a prefix of so many legs
+  -- one more entry, that of a prefix of this many legs
   pub listed_next : 1 ≤ choices_of s.lattice → (k n : ℕ) → k ≤ s.lattice.legs → n < choices_of s.lattice ^ k → (xs new : List WhyEntry) (entry : WhyEntry)
       → IsWalkedTo s xs (first_extension s k n) → new ≡ xs ++ entry ∷ [] → entry.prefix ≡ take k (numbered s (first_extension s k n)) → IsEntry s entry → IsFirstGood s entry
       → NoneIsShorter s k (numbered s (first_extension s k n)) → IsWalkedTo s new (first_extension s k (n + 1))

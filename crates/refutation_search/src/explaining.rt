@@ -59,18 +59,20 @@ fn first_towards(
     })
 }
 
-/// The number of the first plan that extends the prefix of so many legs that has a number.
+/// The number of the first plan that extends the prefix of this many legs that has a number.
 fn first_number(situation: &Situation, legs: u8, number: u32) -> u32
     requires legs { legs ≤ situation.now.lattice.legs }
     requires number { number < choices_of situation.now.lattice ^ legs }
-    ensures value { result ≡ number * choices_of situation.now.lattice ^ (situation.now.lattice.legs - legs) }
+    ensures value { result
+        ≡ number * choices_of situation.now.lattice ^ (situation.now.lattice.legs - legs) }
     ensures known { result < plans_of situation.now.lattice }
 {
     let left = situation.lattice.legs() - legs;
     number * situation.lattice.choices().pow(u32::from(left))
 }
 
-/// The first good entry of the prefix of so many legs that has a number: the one towards the first target towards which it fails, which has this index.
+/// The first good entry of the prefix of this many legs that has a number: the one towards the
+/// first target towards which it fails, which has this index.
 fn first_entry(
     alloc: Global,
     situation: &Situation,
@@ -82,9 +84,13 @@ fn first_entry(
     requires some { 1 ≤ legs }
     requires legs { legs ≤ situation.now.lattice.legs }
     requires number { number < choices_of situation.now.lattice ^ legs }
-    requires target { IsFirstFailing situation.now (numbered situation.now (first_extension situation.now legs number)) (reached situation.now legs) target }
+    requires target { IsFirstFailing situation.now
+        (numbered situation.now (first_extension situation.now legs number))
+        (reached situation.now legs) target }
     ensures first { IfOk result (IsFirstGood situation.now) }
-    ensures prefix { IfOk result (λ entry. entry.prefix ≡ take legs (numbered situation.now (first_extension situation.now legs number))) }
+    ensures prefix { IfOk result
+        (λ entry. entry.prefix
+        ≡ take legs (numbered situation.now (first_extension situation.now legs number))) }
     ensures entry { IfOk result (IsEntry situation.now) }
 {
     let plan = situation
@@ -100,7 +106,7 @@ fn first_entry(
     })
 }
 
-/// Adds the first good entry of the prefix of so many legs that has a number. No shorter prefix has one.
+/// Adds the first good entry of the prefix of this many legs that has a number. No shorter prefix has one.
 fn list_first(
     alloc: Global,
     situation: &Situation,
@@ -113,10 +119,16 @@ fn list_first(
     requires some { 1 ≤ legs }
     requires legs { legs ≤ situation.now.lattice.legs }
     requires number { number < choices_of situation.now.lattice ^ legs }
-    requires target { IsFirstFailing situation.now (numbered situation.now (first_extension situation.now legs number)) (reached situation.now legs) target }
-    requires so_far { IsWalkedTo situation.now list.old.items (first_extension situation.now legs number) }
-    requires above { NoneIsShorter situation.now legs (numbered situation.now (first_extension situation.now legs number)) }
-    ensures { OnOk result (IsWalkedTo situation.now list.new.items (first_extension situation.now legs (number + 1))) }
+    requires target { IsFirstFailing situation.now
+        (numbered situation.now (first_extension situation.now legs number))
+        (reached situation.now legs) target }
+    requires so_far { IsWalkedTo situation.now list.old.items
+        (first_extension situation.now legs number) }
+    requires above { NoneIsShorter situation.now legs
+        (numbered situation.now (first_extension situation.now legs number)) }
+    ensures { OnOk result
+        (IsWalkedTo situation.now list.new.items
+        (first_extension situation.now legs (number + 1))) }
 {
     let entry = first_entry(alloc, situation, legs, number, target)?;
     list.push(entry)?;
@@ -139,11 +151,21 @@ fn explore(
     requires places { HavePlaces walked.now.situation.now walked.now.basis.now legs below.old }
     requires number { number < choices_of walked.now.situation.now.lattice ^ legs }
     requires from { Keeps walked.now.situation.now walked.now.basis.now legs number from.now }
-    requires so_far { IsWalkedTo walked.now.situation.now list.old.items (first_extension walked.now.situation.now legs number) }
-    requires above { NoneIsShorter walked.now.situation.now legs (numbered walked.now.situation.now (first_extension walked.now.situation.now legs number)) }
-    requires passes { 1 ≤ legs → ¬ PrefixFails walked.now.situation.now (take legs (numbered walked.now.situation.now (first_extension walked.now.situation.now legs number))) }
-    ensures places { IfOk result (λ all. IsTrue all → HavePlaces walked.now.situation.now walked.now.basis.now legs below.new) }
-    ensures list { IfOk result (λ all. IsTrue all → IsWalkedTo walked.now.situation.now list.new.items (first_extension walked.now.situation.now legs (number + 1))) }
+    requires so_far { IsWalkedTo walked.now.situation.now list.old.items
+        (first_extension walked.now.situation.now legs number) }
+    requires above { NoneIsShorter walked.now.situation.now legs
+        (numbered walked.now.situation.now (first_extension walked.now.situation.now legs number)) }
+    requires passes { 1 ≤ legs
+        → ¬ PrefixFails walked.now.situation.now
+        (take legs (numbered walked.now.situation.now
+        (first_extension walked.now.situation.now legs number))) }
+    ensures places { IfOk result
+        (λ all. IsTrue all
+        → HavePlaces walked.now.situation.now walked.now.basis.now legs below.new) }
+    ensures list { IfOk result
+        (λ all. IsTrue all
+        → IsWalkedTo walked.now.situation.now list.new.items
+        (first_extension walked.now.situation.now legs (number + 1))) }
     ensures passes { IfOk result (λ all. all ≡ false → SomePlanPasses walked.now.situation.now) }
 {
     let situation = walked.situation;
@@ -164,13 +186,16 @@ fn explore(
     Ok(true)
 }
 
-/// Why there is no plan: the canonical list, which is right. `None` exactly where some plan does not fail.
+/// Why there is no plan: the canonical list, which is right. `None` exactly if some plan does not fail.
 pub fn explain(alloc: Global, situation: &Situation) -> Result<Option<Vec<WhyEntry>>, Memory>
     requires { IsSituation situation.now }
     ensures none { IfOk result (λ list. IsNone list ↔ SomePlanPasses situation.now) }
-    ensures list { IfOk result (λ list. IfSome list (λ entries. IsCanonical situation.now entries.items)) }
-    ensures entries { IfOk result (λ list. IfSome list (λ entries. All (IsEntry situation.now) entries.items)) }
-    ensures right { IfOk result (λ list. IfSome list (λ entries. IsRight situation.now entries.items)) }
+    ensures list { IfOk result
+        (λ list. IfSome list (λ entries. IsCanonical situation.now entries.items)) }
+    ensures entries { IfOk result
+        (λ list. IfSome list (λ entries. All (IsEntry situation.now) entries.items)) }
+    ensures right { IfOk result
+        (λ list. IfSome list (λ entries. IsRight situation.now entries.items)) }
 {
     a_right_list_refutes(situation);
     let mut walk = Walk::new(alloc, situation)?;

@@ -70,7 +70,7 @@ module _ (s : Situation) where
         subst (IsInBlock (choices_of s.lattice) (s.lattice.legs - length entry.prefix) (number_of (choices_of s.lattice) entry.prefix)) (sym e) (record { from = h.1; to = h.2 }) in
         block.fail ((reasons entry.prefix (reached s (length entry.prefix))).1 (good_reason s entry h.0)) (numbered s number) plan ((block.block (numbered s number) plan).1 inside)
 
-    -- Where there is a right list, every plan fails.
+    -- If there is a right list, every plan fails.
     pub right_refutes : (xs : List WhyEntry) → All (IsEntry s) xs → IsRight s xs → AllFail s
     right_refutes [] all h number lt = absurd (let none = h.whole in omega arith)
     right_refutes (x ∷ xs) all h number lt =
@@ -78,7 +78,7 @@ module _ (s : Situation) where
         let at = there (IsCoveredBy s number) (x ∷ xs) found.0 found.1 in
         covered_fails (get_or (x ∷ xs) found.0 x) number lt (All-get_or (IsEntry s) (x ∷ xs) found.0 x at.0 all) (at.1 x)
 
--- ---- what a check tells
+-- ---- what a check returns
 
 module _ (s : Situation) where
   -- one more sound entry

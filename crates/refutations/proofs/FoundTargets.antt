@@ -12,7 +12,7 @@ element [] k lt = absurd (omega arith)
 element (x ∷ xs) k lt = x
 
 module _ (xs : List Target) (mmsi : ℕ) (ascending : AllPairs (λ (a b : Target). a.mmsi < b.mmsi) xs) where
-  -- ---- what a comparison with the one in the middle tells of those on either side
+  -- ---- what a comparison with the middle target says about those on either side
 
   pub below_too : (middle : ℕ) (T : Target) → middle < length xs → T ≡ get_or xs middle T → T.mmsi < mmsi → (i : ℕ) (d : Target) → i < middle + 1 → (get_or xs i d).mmsi < mmsi
   below_too middle T lt is less i d within = elim (cases_lt i middle) [

@@ -1,4 +1,4 @@
--- Plans that extend a prefix have the same reasons up to its horizon, and where one holds the prefix fails.
+-- Plans that extend a prefix have the same reasons up to its horizon, and if one holds the prefix fails.
 use Rattle.std.proofs.Common.{◌≡◌, ◌∙◌, ℕ, ◌+◌, ◌<◌, ◌≤◌, inl, inr, List, length, take, sym, ap, subst}
 use Rattle.std.specs.Prelude.{Option, slice_index, IsSomeAnd, ◌↔◌}
 use Rattle.std.proofs.lemmas.List.{get_or-take}

@@ -80,7 +80,7 @@ module _ (s : Situation) (X : List ℕ) (T : Target) where
 
 -- ---- rows under another plan
 
--- What legs in common tell stays.
+-- What the common legs determine stays.
 pub carried : (s : Situation) (X Y : List ℕ) (T : Target) (legs : ℕ) (trace new : TraceSoFar) → 1 ≤ s.lattice.legs → HaveInCommon X Y legs → told_to trace ≤ reached s legs
     → IsTraceSoFar s X T trace → new.start ≡ trace.start → new.rows.items ≡ trace.rows.items → new.followers.items ≡ trace.followers.items → IsTraceSoFar s Y T new
 carried s X Y T legs trace new some common told h start rows followers =
@@ -172,7 +172,7 @@ kept replay k T trace h lt is_target is_trace =
     subst (λ (t : Target). IsTraceSoFar s trace.plan t trace) (sym is_target)
     (subst (λ (x : TraceSoFar). IsTraceSoFar s x.plan (get_or s.targets k T) x) (sym is_trace) (h.traces k T trace (omega arith)))
 
--- one of them is told further
+-- one of the traces becomes longer
 pub kept_too : (replay new : Replay) (k : ℕ) (U : Target) (trace : TraceSoFar) → IsReplay replay → k < length (situation_in replay.course).targets → U ≡ get_or (situation_in replay.course).targets k U
     → new.course ≡ replay.course → new.traces.items ≡ set replay.traces.items k trace → IsTraceSoFar (situation_in replay.course) trace.plan U trace → IsReplay new
 kept_too replay new k U trace h lt is_target same is told =

@@ -1,4 +1,4 @@
--- What the fields of a row tell: at most one entry.
+-- The fields of a row give at most one entry.
 use Rattle.std.proofs.Common.{ℕ, zero, suc, ◌≡◌, ◌≢◌, ◌∙◌, ◌-◌, ◌≤◌, ◌<◌, ◌^◌, false, true, List, [], ◌∷◌, ◌++◌, length, take, take_all, Some, None, refl, arith, ap, ap₂, sym, subst, ◌==◌}
 use Rattle.std.specs.Prelude.{codes, bytes_eq, not, Bool, IsUtf8}
 use Rattle.csv.specs.Records.{field_at}
@@ -66,7 +66,7 @@ module _ (s : Situation) (different : RulesHaveDifferentNames s.rules) where
       let same_index : index ≡ index' = same_rule s.rules index index' different known known' names in
       ap₂ Rule same_index same
 
-  -- Fields tell at most one entry.
+  -- Fields give at most one entry.
   pub same_entry : choices_of s.lattice ≤ 512 → (fields : Fields) (one other : WhyEntry) → IsEntryOf s fields one → IsEntryOf s fields other → one ≡ other
   same_entry few fields one other h g =
       let e : entry_fields s one ≡ entry_fields s other = h.told ∙ sym g.told in
@@ -81,7 +81,7 @@ module _ (s : Situation) (different : RulesHaveDifferentNames s.rules) where
       ap₂ (λ (p : List ℕ) (t : ℕ). let entry : WhyEntry = record { prefix = p; target = t; reason = one.reason } in entry) prefix target
       ∙ ap (λ (r : Reason). let entry : WhyEntry = record { prefix = other.prefix; target = other.target; reason = r } in entry) reason
 
--- ---- what the fields of a number, of a moment and of a reason tell
+-- ---- what the fields of a number, of a moment and of a reason give
 
 pub number_text : (text : List ℕ) (n : ℕ) → n < 2 ^ 64 → decimal n ≡ text → IsUtf8 text
 number_text text n small e = subst IsUtf8 e (IsUtf8-from_ascii (decimal n) (IsAscii-decimal n small))
@@ -116,7 +116,8 @@ module _ (s : Situation) (name step a b : List ℕ) where
       let e : decimal tick ≡ step = cc in
       none tick (record { few = omega arith; told = e })
 
-  -- with an empty field in place of the moment's first number it is a rule, with another empty field
+  -- if the field of the moment's first number is empty, it is a rule, and the other field is empty
+  -- too
   pub reason_rule : (reason : Reason) → IsReasonIn s (name ∷ step ∷ a ∷ b ∷ []) reason → a ≡ []
       → (b ≡ []) × ((index : ℕ) × (index < length s.rules) × ((rule_at s.rules index).name ≡ name))
   reason_rule (Domain tick moment) h empty = let told = h.told in let e : decimal moment.a ≡ [] = cc in absurd (some_digit moment.a h.fits.1 e)
@@ -126,7 +127,7 @@ module _ (s : Situation) (name step a b : List ℕ) where
       let e : (rule_at s.rules index).name ≡ name = cc in
       (none, (index, h.known, e))
 
-  -- and else a domain
+  -- and otherwise a domain
   pub reason_domain : (reason : Reason) → IsReasonIn s (name ∷ step ∷ a ∷ b ∷ []) reason → a ≢ [] → (moment : Moment) × IsMomentIn name a b moment
   reason_domain (Domain tick moment) h some =
       let told = h.told in
@@ -152,7 +153,7 @@ module _ (s : Situation) (name step a b : List ℕ) where
       let e = number.told in
       record { known = known; fits = omega arith; told = cc }
 
--- ---- what the fields of an entry tell
+-- ---- what the fields of an entry give
 
 module _ (s : Situation) (kind choices target name step a b : List ℕ) (entry : WhyEntry)
     (h : IsEntryOf s (kind ∷ choices ∷ target ∷ name ∷ step ∷ a ∷ b ∷ []) entry) where
@@ -203,7 +204,7 @@ no_field [] i e = omega arith
 no_field (x ∷ xs) zero e = absurd cc
 no_field (x ∷ xs) (suc i) e = let le = no_field xs i e in omega arith
 
--- one field more is told
+-- one field more is read
 field_told : (xs told : List (List ℕ)) (x : List ℕ) (i : ℕ) → length told ≡ i → take i xs ≡ told → Some x ≡ field_at xs i → take (suc i) xs ≡ told ++ x ∷ []
 unfolding field_at
 field_told [] told x i long e f = absurd cc

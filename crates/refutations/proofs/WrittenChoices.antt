@@ -1,4 +1,5 @@
--- The choices of a prefix with a point between each two: how the text grows, and that its parts tell them.
+-- The choices of a prefix with a point between each two: how the text grows, and that its parts determine
+-- them.
 use Rattle.std.proofs.Common.{ℕ, zero, suc, ◌≡◌, ◌∙◌, ◌==◌, ◌+◌, ◌≤◌, ◌<◌, ◌^◌, false, List, [], ◌∷◌, ◌++◌, length, take, map, get_or, All, refl, arith, ap, sym, subst, length-append}
 use Rattle.std.proofs.Math.Seq.{take-suc}
 use Rattle.std.proofs.lemmas.Fmt.{decimal_injective, decimal_is_IsNumeral}
@@ -31,7 +32,7 @@ first_written [] k d lt e = absurd (omega arith)
 first_written (c ∷ cs) zero d lt e = refl
 first_written (c ∷ cs) (suc k) d lt e = absurd (omega arith)
 
--- another one, behind a point
+-- another one, after a point
 pub more_written : (cs : List ℕ) (k d : ℕ) → k < length cs → 0 < k → choices_text (take (k + 1) cs) ≡ (choices_text (take k cs) ++ 46 ∷ []) ++ decimal (get_or cs k d)
 more_written cs k d lt some =
     let long : length (map decimal (take k cs)) ≡ k = length-map (take k cs) decimal ∙ length_taken cs k (omega arith) in
@@ -81,13 +82,13 @@ module _ (choices : ℕ) (few : choices ≤ 512) where
       let others : cs ≡ ds = same_numbers cs ds below_c.1 below_d.1 rest in
       cc
 
-  -- A text tells at most one prefix.
+  -- A text gives at most one prefix.
   pub same_choices : (cs ds : List ℕ) → 1 ≤ length cs → 1 ≤ length ds → AllBelowBase choices cs → AllBelowBase choices ds → choices_text cs ≡ choices_text ds → cs ≡ ds
   same_choices cs ds some_c some_d below_c below_d e =
       same_numbers cs ds below_c below_d
       (sym (parts_of cs some_c below_c) ∙ (ap (slice_split (λ (b : ℕ). b == 46)) e ∙ parts_of ds some_d below_d))
 
-  -- the choice behind those that are read, as its part tells it
+  -- the choice after those that are read, as its part gives it
   pub next_choice : (read : List ℕ) (part : List ℕ) (parts : List (List ℕ)) (cs : List ℕ) → AllBelowBase choices cs → map decimal cs ≡ map decimal read ++ part ∷ parts
       → (n : ℕ) × (n < choices) × (decimal n ≡ part)
   next_choice [] part parts [] below e = absurd cc
@@ -97,7 +98,7 @@ module _ (choices : ℕ) (few : choices ≤ 512) where
 
 -- ---- what is read so far, and what is left
 
--- the prefix that is told has the parts of the text as its numbers
+-- the prefix that is read has the parts of the text as its numbers
 pub told_parts : (text : List ℕ) (choices legs : ℕ) (prefix : List ℕ) → choices ≤ 512 → AreChoicesIn text choices legs prefix
     → map decimal prefix ≡ slice_split (λ (b : ℕ). b == 46) text
 told_parts text choices legs prefix few h = sym (parts_of choices few prefix h.some h.below) ∙ ap (slice_split (λ (b : ℕ). b == 46)) h.told

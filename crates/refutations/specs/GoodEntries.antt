@@ -1,5 +1,5 @@
 -- When an entry of a refutation is good: its reason holds over the trace that is cut at its prefix's horizon, the tick up to which the
--- prefix tells the steps.
+-- prefix determines the steps.
 use Rattle.std.specs.Prelude.{ℕ, ◌≡◌, ◌≤◌, ◌<◌, ◌^◌, List, length, IsSomeAnd}
 use Rattle.closest_approach.specs.declared.nearest.Moment.{Moment}
 use Rattle.meetings.specs.Traces.{step_at}
@@ -14,7 +14,7 @@ use Rattle.refutations.specs.declared.entry.Reason.{Reason}
 use Rattle.refutations.specs.declared.entry.Reason.TheVariants.{Domain, Rule}
 use Rattle.refutations.specs.declared.entry.WhyEntry.{WhyEntry}
 
--- It is an instant of a step, told by numbers that can be reckoned with.
+-- It is an instant of a step, with numbers that are small enough to compute with.
 pub record IsInstant (moment : Moment) : Type 0 where
   pub within : moment.a ≤ moment.b
   pub some : 0 < moment.b

@@ -24,7 +24,7 @@ module _ (situation : Situation) where
     pub below : AllBelowBase (choices_of situation.lattice) entry.prefix
     pub known : KnowsRule entry.reason
 
-  -- how many plans extend an entry's prefix, the number of the first of them, and the number behind the last
+  -- how many plans extend an entry's prefix, the number of the first of them, and the number after the last
 
   abbrev pub extensions_of : WhyEntry → ℕ
   extensions_of entry = choices_of situation.lattice ^ (situation.lattice.legs - length entry.prefix)
@@ -56,7 +56,7 @@ module _ (situation : Situation) where
     pub here : k < length entries → ¬ IsSoundAt entries k
     pub short : k ≡ length entries → ends_from 0 entries ≢ plans_of situation.lattice
 
-  -- what a check tells of a list
+  -- what a check returns for a list
   abbrev pub Tells : List WhyEntry → Checked → Type 0
   Tells entries Right = IsRight entries
   Tells entries (Bad k) = IsFirstBad entries k

@@ -29,8 +29,11 @@ fn sound_end(
     requires entry { IsEntry situation.now entry.now }
     ensures replay { OnOk result (IsReplay replay.new) }
     ensures same { situation_in replay.new.course ≡ situation.now }
-    ensures end { IfOk result (λ end. MatchOption end (¬ (IsGood situation.now entry.now × (first_of situation.now entry.now ≡ begin)))
-        (λ end. IsGood situation.now entry.now × (first_of situation.now entry.now ≡ begin) × (behind situation.now entry.now ≡ end))) }
+    ensures end { IfOk result
+        (λ end. MatchOption end
+        (¬ (IsGood situation.now entry.now × (first_of situation.now entry.now ≡ begin)))
+        (λ end. IsGood situation.now entry.now × (first_of situation.now entry.now ≡ begin)
+        × (behind situation.now entry.now ≡ end))) }
 {
     let (first, behind) = situation.lattice.block(entry.prefix.choices());
     if first != begin {
@@ -56,7 +59,8 @@ fn check_each(
     requires entries { All (IsEntry situation.now) entries.now }
     requires few { length entries.now < 2 ^ 31 }
     ensures told { IfOk result (λ checked. Tells situation.now entries.now checked) }
-    ensures right { IfOk result (λ checked. (checked ≡ Checked.Right) ↔ IsRight situation.now entries.now) }
+    ensures right { IfOk result
+        (λ checked. (checked ≡ Checked.Right) ↔ IsRight situation.now entries.now) }
 {
     let mut covered = 0;
     for k in 0..entries.len() {
@@ -72,14 +76,15 @@ fn check_each(
     }
 }
 
-/// Checks a list of entries, fewer than 2^31, without a search: whether each is good, and whether their blocks are one behind the other all plans.
-/// Where it is right, every plan fails.
+/// Checks a list of fewer than 2^31 entries without a search: whether each is good, and whether their blocks, one after the other, make up all plans.
+/// If it is right, every plan fails.
 pub fn check(alloc: Global, situation: &Situation, entries: &[WhyEntry]) -> Result<Checked, Memory>
     requires situation { IsSituation situation.now }
     requires entries { All (IsEntry situation.now) entries.now }
     requires few { length entries.now < 2 ^ 31 }
     ensures told { IfOk result (λ checked. Tells situation.now entries.now checked) }
-    ensures right { IfOk result (λ checked. (checked ≡ Checked.Right) ↔ IsRight situation.now entries.now) }
+    ensures right { IfOk result
+        (λ checked. (checked ≡ Checked.Right) ↔ IsRight situation.now entries.now) }
     ensures refutes { IfOk result (λ checked. checked ≡ Checked.Right → AllFail situation.now) }
 {
     a_right_list_refutes(situation);

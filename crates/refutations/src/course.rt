@@ -45,7 +45,8 @@ impl<'a> Course<'a> {
     /// Goes over to another plan. This takes no memory.
     pub(crate) fn turn_to(&mut self, plan: Plan)
         requires course { IsCourse self.old }
-        requires plan { IsPlan (choices_of (situation_in self.old).lattice) (situation_in self.old).lattice.legs plan }
+        requires plan { IsPlan (choices_of (situation_in self.old).lattice)
+            (situation_in self.old).lattice.legs plan }
         ensures course { IsCourse self.new }
         ensures situation { situation_in self.new ≡ situation_in self.old }
         ensures plan { self.new.plan ≡ plan }
@@ -60,7 +61,9 @@ impl<'a> Course<'a> {
         requires course { IsCourse self.now }
         requires target { IsTarget (situation_in self.now) target.now }
         requires planned { k < end_of (situation_in self.now) }
-        ensures value { result ≡ step_at (own_at (situation_in self.now) self.now.plan) (target_at (situation_in self.now) target.now) k }
+        ensures value { result
+            ≡ step_at (own_at (situation_in self.now) self.now.plan)
+            (target_at (situation_in self.now) target.now) k }
         ensures heads { IfSome result HaveDirections }
     {
         self.situation

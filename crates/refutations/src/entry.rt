@@ -20,12 +20,12 @@ pub struct WhyEntry {
     pub reason: Reason,
 }
 
-/// What a check of a list of entries comes to.
+/// The result of a check of a list of entries.
 #[derive(Clone, Copy, Debug, PartialEq, Eq)]
 pub enum Checked {
     /// The list is right.
     Right,
-    /// It is not, and this is the least index of an entry that is not good or whose block does not begin where the blocks before it end; where there is
+    /// It is not, and this is the least index of an entry that is not good or whose block does not begin where the blocks before it end; if there is
     /// no such entry, the number of entries.
     Bad(u32),
 }

@@ -1,4 +1,4 @@
-//! An entry as its row tells it. This takes no memory.
+//! Reads an entry from its row. This takes no memory.
 ghost use Rattle.std.specs.Prelude.{ℕ, ◌≡◌, ◌≢◌, ◌==◌, ◌<◌, ◌≤◌, List, [], ◌∷◌, length, position, IfSome, MatchOption};
 ghost use Rattle.std.specs.List.{slice_split};
 ghost use Rattle.closest_approach.specs.declared.nearest.Moment.{Moment};
@@ -23,7 +23,8 @@ use std::alloc::Global;
 
 /// The number of at most so much that is written so, in decimal and with no zero in front.
 fn number_in(text: &[u8], most: u64) -> Option<u64>
-    ensures { MatchOption result ((number : ℕ) → ¬ IsNumberIn text.now most number) (IsNumberIn text.now most) }
+    ensures { MatchOption result ((number : ℕ) → ¬ IsNumberIn text.now most number)
+        (IsNumberIn text.now most) }
 {
     let Ok(word) = std::str::from_utf8(text) else {
         return None;
@@ -58,12 +59,13 @@ fn first_part(text: &[u8]) -> (&[u8], Option<&[u8]>)
     }
 }
 
-/// The prefix of at most so many legs, each of so many choices, that is written so.
+/// The prefix of at most this many legs, each of this many choices, that is written so.
 fn choices_in(alloc: Global, text: &[u8], choices: u32, legs: u8) -> Option<Prefix>
     requires some { 1 ≤ choices }
     requires few { choices ≤ 512 }
     requires legs { legs ≤ 8 }
-    ensures { MatchOption result ((prefix : List ℕ) → ¬ AreChoicesIn text.now choices legs prefix) (AreChoicesIn text.now choices legs) }
+    ensures { MatchOption result ((prefix : List ℕ) → ¬ AreChoicesIn text.now choices legs prefix)
+        (AreChoicesIn text.now choices legs) }
 {
     let mut list = SmallVec::<u16, 8>::new(alloc);
     let mut left = Some(text);
@@ -83,7 +85,8 @@ fn choices_in(alloc: Global, text: &[u8], choices: u32, legs: u8) -> Option<Pref
 
 /// The index of the rule with a name.
 fn rule_in(rules: &RuleSet, name: &[u8]) -> Option<u32>
-    ensures { MatchOption result ((index : ℕ) → index < length rules.now → (rule_at rules.now index).name ≢ name.now)
+    ensures { MatchOption result
+        ((index : ℕ) → index < length rules.now → (rule_at rules.now index).name ≢ name.now)
         (λ index. (index < length rules.now) × ((rule_at rules.now index).name ≡ name.now)) }
 {
     for index in 0..rules.len() {
@@ -96,7 +99,8 @@ fn rule_in(rules: &RuleSet, name: &[u8]) -> Option<u32>
 
 /// The moment of a domain, whose name this has to be.
 fn moment_in(name: &[u8], a: &[u8], b: &[u8]) -> Option<Moment>
-    ensures { MatchOption result ((moment : Moment) → ¬ IsMomentIn name.now a.now b.now moment) (IsMomentIn name.now a.now b.now) }
+    ensures { MatchOption result ((moment : Moment) → ¬ IsMomentIn name.now a.now b.now moment)
+        (IsMomentIn name.now a.now b.now) }
 {
     if name != b"domain".as_slice() {
         return None;
@@ -112,7 +116,9 @@ fn moment_in(name: &[u8], a: &[u8], b: &[u8]) -> Option<Moment>
 
 /// The reason that is written so. A rule may be named `domain` too: with a moment it is a domain, without one the rule of that name.
 fn reason_in(situation: &Situation, name: &[u8], step: &[u8], a: &[u8], b: &[u8]) -> Option<Reason>
-    ensures { MatchOption result ((reason : Reason) → ¬ IsReasonIn situation.now (name.now ∷ step.now ∷ a.now ∷ b.now ∷ []) reason)
+    ensures { MatchOption result
+        ((reason : Reason)
+        → ¬ IsReasonIn situation.now (name.now ∷ step.now ∷ a.now ∷ b.now ∷ []) reason)
         (IsReasonIn situation.now (name.now ∷ step.now ∷ a.now ∷ b.now ∷ [])) }
 {
     let Some(tick) = number_in(step, u64::from(u32::MAX)) else {
@@ -146,10 +152,12 @@ struct Row<'a> {
     b: &'a [u8],
 }
 
-/// The fields of a record, where it has seven.
+/// The fields of a record, if it has seven.
 fn row_of(fields: &ByteRecord) -> Option<Row<'_>>
     ensures { MatchOption result (length (fields_of fields.now) ≢ 7)
-        (λ row. fields_of fields.now ≡ row.kind.now ∷ row.choices.now ∷ row.target.now ∷ row.name.now ∷ row.step.now ∷ row.a.now ∷ row.b.now ∷ []) }
+        (λ row. fields_of fields.now
+        ≡ row.kind.now ∷ row.choices.now ∷ row.target.now ∷ row.name.now ∷ row.step.now ∷ row.a.now
+        ∷ row.b.now ∷ []) }
 {
     if fields.len() != 7 {
         return None;
@@ -165,10 +173,14 @@ fn row_of(fields: &ByteRecord) -> Option<Row<'_>>
     })
 }
 
-/// The entry whose row has exactly these fields; `None` where there is none. It is one that a check may be given.
+/// The entry whose row has exactly these fields; `None` if there is none. It is one that a check may be given.
 pub fn read_entry(alloc: Global, situation: &Situation, fields: &ByteRecord) -> Option<WhyEntry>
-    ensures entry { MatchOption result ((entry : WhyEntry) → ¬ IsEntryOf situation.now (fields_of fields.now) entry) (IsEntryOf situation.now (fields_of fields.now)) }
-    ensures only { IfSome result (λ entry. (other : WhyEntry) → IsEntryOf situation.now (fields_of fields.now) other → other ≡ entry) }
+    ensures entry { MatchOption result
+        ((entry : WhyEntry) → ¬ IsEntryOf situation.now (fields_of fields.now) entry)
+        (IsEntryOf situation.now (fields_of fields.now)) }
+    ensures only { IfSome result
+        (λ entry. (other : WhyEntry) → IsEntryOf situation.now (fields_of fields.now) other
+        → other ≡ entry) }
 {
     let Some(row) = row_of(fields) else {
         return None;

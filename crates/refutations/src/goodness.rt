@@ -27,7 +27,7 @@ use plan_situations::laws::prefixes_are_blocks;
 use plan_situations::{Situation, Target};
 use std::alloc::Global;
 
-/// Whether a moment is an instant of a step, told by numbers that can be reckoned with.
+/// Whether a moment is an instant of a step, with numbers that are small enough to compute with.
 fn is_instant(moment: &Moment) -> bool
     ensures { IsTrue result ↔ IsInstant moment.now }
 {
@@ -39,7 +39,8 @@ fn is_inside(situation: &Situation, target: &Target, pair: &PairStep, moment: &M
     requires target { IsTarget situation.now target.now }
     requires heads { HaveDirections pair.now }
     requires instant { IsInstant moment.now }
-    ensures { IsTrue result ↔ IsInsideAt situation.now target.now pair.now moment.now.a moment.now.b }
+    ensures { IsTrue result
+        ↔ IsInsideAt situation.now target.now pair.now moment.now.a moment.now.b }
 {
     match (&situation.shape, pair.b.direction) {
         (Some(shape), Some(direction)) => inside(&pair.step, direction, shape, moment),
@@ -53,7 +54,8 @@ fn is_inside_then(course: &Course<'_>, target: &Target, step: u32, moment: &Mome
     requires target { IsTarget (situation_in course.now) target.now }
     requires planned { step < end_of (situation_in course.now) }
     requires instant { IsInstant moment.now }
-    ensures { IsTrue result ↔ IsInsideThen (situation_in course.now) course.now.plan target.now step moment.now }
+    ensures { IsTrue result
+        ↔ IsInsideThen (situation_in course.now) course.now.plan target.now step moment.now }
 {
     match course.step_at(target, step) {
         Some(pair) => is_inside(course.situation, target, &pair, moment),
@@ -72,7 +74,8 @@ fn is_inside_in(
     requires course { IsCourse course.now }
     requires target { IsTarget (situation_in course.now) target.now }
     requires until { until ≤ end_of (situation_in course.now) }
-    ensures { IsTrue result ↔ IsInsideIn (situation_in course.now) course.now.plan until target.now step moment.now }
+    ensures { IsTrue result
+        ↔ IsInsideIn (situation_in course.now) course.now.plan until target.now step moment.now }
 {
     if step < course.situation.now() || step >= until || !is_instant(moment) {
         return false;
@@ -95,8 +98,10 @@ fn holds(
     requires known { KnowsRule (situation_in replay.old.course) reason }
     ensures replay { OnOk result (IsReplay replay.new) }
     ensures course { replay.new.course ≡ replay.old.course }
-    ensures holds { IfOk result (λ holds. (d : Target) → IsTrue holds
-        ↔ Holds (situation_in replay.old.course) replay.old.course.plan until (get_or (situation_in replay.old.course).targets target d) reason) }
+    ensures holds { IfOk result
+        (λ holds. (d : Target)
+        → IsTrue holds ↔ Holds (situation_in replay.old.course) replay.old.course.plan until
+        (get_or (situation_in replay.old.course).targets target d) reason) }
 {
     match reason {
         Reason::Domain { step, moment } => {
@@ -109,7 +114,7 @@ fn holds(
     }
 }
 
-/// The horizon of so many legs of a plan: the tick up to which they tell the steps.
+/// The horizon of this number of legs of a plan: the tick up to which they determine the steps.
 pub fn horizon(situation: &Situation, legs: usize) -> u32
     requires { IsSituation situation.now }
     ensures value { result ≡ reached situation.now legs }
@@ -140,7 +145,8 @@ pub(crate) fn first_plan(situation: &Situation, prefix: &[u16]) -> Plan
 /// The index of the target with an MMSI, in whose order they are.
 fn index_of(targets: &[Target], mmsi: u32) -> Option<usize>
     requires { AllPairs (λ (a b : Target). a.mmsi < b.mmsi) targets.now }
-    ensures { MatchOption result ((k : ℕ) (d : Target) → k < length targets.now → (get_or targets.now k d).mmsi ≢ mmsi)
+    ensures { MatchOption result
+        ((k : ℕ) (d : Target) → k < length targets.now → (get_or targets.now k d).mmsi ≢ mmsi)
         (λ k. (k < length targets.now) × ((d : Target) → (get_or targets.now k d).mmsi ≡ mmsi)) }
 {
     let mut low = 0;

@@ -7,7 +7,7 @@ use closest_approach::Moment;
 use fixed_geometry::{dot, norm2, turn};
 use motion::Step;
 
-/// Whether `(q b + m)^2 < b^2 d`, where `q^2 < d < (q + 1)^2`.
+/// Whether `(q b + m)^2 < b^2 d`, if `q^2 < d < (q + 1)^2`.
 fn is_rest_below(q: u128, m: u128, b: u128, d: u128) -> bool
     requires m_small { m < b }
     requires b_small { b < 2 ^ 60 }
@@ -90,7 +90,9 @@ fn size_of_sum(x: i128, y: i128) -> u128
 fn along_at(step: &Step, moment: Moment) -> u128
     requires a { moment.a ≤ moment.b }
     requires b { moment.b < 2 ^ 60 }
-    ensures value { result ≡ unsigned_abs (pos moment.b *ℤ dot_of step.now.p step.now.w +ℤ pos moment.a *ℤ norm2_of step.now.w) }
+    ensures value { result
+        ≡ unsigned_abs (pos moment.b *ℤ dot_of step.now.p step.now.w +ℤ pos moment.a *ℤ norm2_of
+        step.now.w) }
     ensures small { result ≤ moment.b * 2 ^ 62 }
 {
     size_of_sum(

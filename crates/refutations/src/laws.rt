@@ -13,15 +13,18 @@ use plan_situations::laws::{failing_has_a_reason, prefixes_are_blocks};
 
 /// All plans that extend a prefix agree on each reason up to the prefix's horizon, whatever legs follow.
 pub fn plans_agree_on_reasons(situation: &Situation)
-    ensures { (prefix plan : List ℕ) (target : Target) (reason : Reason) → take (length prefix) plan ≡ prefix
-        → HoldsFor situation.now prefix target reason ↔ Holds situation.now plan (reached situation.now (length prefix)) target reason }
+    ensures { (prefix plan : List ℕ) (target : Target) (reason : Reason)
+        → take (length prefix) plan ≡ prefix
+        → HoldsFor situation.now prefix target reason
+        ↔ Holds situation.now plan (reached situation.now (length prefix)) target reason }
 {
     let _legs = situation.lattice.legs();
 }
 
-/// Where there is a right list, every plan fails.
+/// If there is a right list, every plan fails.
 pub fn a_right_list_refutes(situation: &Situation)
-    ensures { (entries : List WhyEntry) → All (IsEntry situation.now) entries → IsRight situation.now entries → AllFail situation.now }
+    ensures { (entries : List WhyEntry) → All (IsEntry situation.now) entries
+        → IsRight situation.now entries → AllFail situation.now }
 {
     prefixes_are_blocks(situation);
     failing_has_a_reason(situation);

@@ -1,13 +1,13 @@
-//! Why there is no plan, told so that it can be checked without a search.
+//! Why there is no plan, in a form that can be checked without a search.
 //!
-//! A list of entries says of every plan of own ship why it fails. An entry is a prefix of plans, the choices of their first legs, with a target and a
-//! reason: own ship is inside the target's domain at an instant of a step, or a rule is newly broken at a step. It is good where its reason holds in what
-//! the prefix tells of the trace, and then every plan that extends the prefix fails for that reason. [`check`] judges any list with no search.
-//! [`entry_bytes`] writes an entry as a row, and [`read_entry`] reads it.
+//! A list of entries says for every plan of own ship why it fails. An entry is a prefix of plans, the choices of their first legs, with a target and a
+//! reason: own ship is inside the target's domain at an instant of a step, or a rule is newly broken at a step. It is good if its reason holds in the
+//! part of the trace that the prefix determines, and then every plan that extends the prefix fails for that reason. [`check`] judges any list without a
+//! search. [`entry_bytes`] writes an entry as a row, and [`read_entry`] reads it.
 //!
 //! With ten choices in each of two legs an entry of the prefix (3) is about the plans 30 to 39, and one of the prefix (3, 4) about plan 34. A list that
 //! goes from the prefix (3) to the prefix (5) leaves ten plans out, and is refused at the second of these entries.
-//! How a plan is sought and how such a list is found have no place here.
+//! How a plan is searched for, and how such a list is found, is out of scope.
 #![tactic(auto)]
 
 mod check_list;

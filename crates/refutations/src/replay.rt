@@ -15,7 +15,7 @@ use out_of_memory::Memory;
 use plan_situations::Situation;
 use std::alloc::Global;
 
-/// Own ship's course by the latest plan, and of each target the trace so far, told under a plan of its own.
+/// Own ship's course by the latest plan, and of each target the trace so far, computed under a plan of its own.
 #[derive(Drop)]
 pub(crate) struct Replay<'a> {
     pub(crate) course: Course<'a>,
@@ -42,7 +42,8 @@ impl<'a> Replay<'a> {
     /// Goes over to another plan.
     pub(crate) fn turn_to(&mut self, plan: Plan)
         requires replay { IsReplay self.old }
-        requires plan { IsPlan (choices_of (situation_in self.old.course).lattice) (situation_in self.old.course).lattice.legs plan }
+        requires plan { IsPlan (choices_of (situation_in self.old.course).lattice)
+            (situation_in self.old.course).lattice.legs plan }
         ensures replay { IsReplay self.new }
         ensures situation { situation_in self.new.course ≡ situation_in self.old.course }
         ensures plan { self.new.course.plan ≡ plan }
@@ -66,8 +67,10 @@ impl<'a> Replay<'a> {
         requires known { rule < length (situation_in self.old.course).rules }
         ensures replay { OnOk result (IsReplay self.new) }
         ensures course { self.new.course ≡ self.old.course }
-        ensures breaks { IfOk result (λ breaks. (d : Target) → IsTrue breaks
-            ↔ BreaksAt (situation_in self.old.course) self.old.course.plan until (get_or (situation_in self.old.course).targets target d)
+        ensures breaks { IfOk result
+            (λ breaks. (d : Target)
+            → IsTrue breaks ↔ BreaksAt (situation_in self.old.course) self.old.course.plan until
+            (get_or (situation_in self.old.course).targets target d)
             (rule_at (situation_in self.old.course).rules rule).tree step) }
     {
         let towards = &self.course.situation.targets.as_slice()[target];

@@ -47,7 +47,8 @@ impl TraceSoFar {
     /// One with no row yet.
     pub(crate) fn new(alloc: Global, course: &Course<'_>) -> TraceSoFar
         requires { IsCourse course.now }
-        ensures { (target : Target) → IsTraceSoFar (situation_in course.now) result.plan target result }
+        ensures { (target : Target)
+            → IsTraceSoFar (situation_in course.now) result.plan target result }
     {
         TraceSoFar {
             plan: Prefix::of(alloc, course.plan.choices()),
@@ -59,7 +60,9 @@ impl TraceSoFar {
 
     /// Keeps the rows of the steps up to a tick alone.
     fn shorten(&mut self, end: u32)
-        ensures trace { (situation : Situation) (plan : List ℕ) (target : Target) → IsTraceSoFar situation plan target self.old → IsTraceSoFar situation plan target self.new }
+        ensures trace { (situation : Situation) (plan : List ℕ) (target : Target)
+            → IsTraceSoFar situation plan target self.old
+            → IsTraceSoFar situation plan target self.new }
         ensures short { told_to self.new ≤ end }
         ensures plan { self.new.plan ≡ self.old.plan }
     {
@@ -74,10 +77,12 @@ impl TraceSoFar {
         self.followers.truncate(left);
     }
 
-    /// Goes over to the plan of a course, and keeps what the legs in common tell.
+    /// Changes to the plan of a course, and keeps what the common legs determine.
     pub(crate) fn turn_to(&mut self, alloc: Global, course: &Course<'_>)
         requires course { IsCourse course.now }
-        ensures trace { (target : Target) → IsTraceSoFar (situation_in course.now) self.old.plan target self.old → IsTraceSoFar (situation_in course.now) course.now.plan target self.new }
+        ensures trace { (target : Target)
+            → IsTraceSoFar (situation_in course.now) self.old.plan target self.old
+            → IsTraceSoFar (situation_in course.now) course.now.plan target self.new }
         ensures plan { self.new.plan ≡ course.now.plan }
     {
         let legs = legs_in_common(self.plan.choices(), course.plan.choices());
@@ -89,11 +94,15 @@ impl TraceSoFar {
     fn begun(&mut self, course: &Course<'_>, target: &Target, until: u32) -> Option<u32>
         requires course { IsCourse course.now }
         requires target { IsTarget (situation_in course.now) target.now }
-        requires trace { IsTraceSoFar (situation_in course.now) course.now.plan target.now self.old }
+        requires trace { IsTraceSoFar
+            (situation_in course.now) course.now.plan target.now self.old }
         requires until { until ≤ end_of (situation_in course.now) }
         ensures trace { IsTraceSoFar (situation_in course.now) course.now.plan target.now self.new }
         ensures begins { MatchOption result
-            ((k : ℕ) → k < until → ¬ IsContactAt (own_at (situation_in course.now) course.now.plan) (target_at (situation_in course.now) target.now) (situation_in course.now).detect.watch k)
+            ((k : ℕ) → k < until
+            → ¬ IsContactAt (own_at (situation_in course.now) course.now.plan)
+            (target_at (situation_in course.now) target.now)
+            (situation_in course.now).detect.watch k)
             (BeginsAt (situation_in course.now) course.now.plan until target.now) }
         ensures start { IfSome result (λ start. self.new.start ≡ start) }
         ensures plan { self.new.plan ≡ self.old.plan }
@@ -111,8 +120,11 @@ impl TraceSoFar {
     /// What follows both after the last row.
     fn follower(&self, situation: &Situation) -> Follower
         requires { IsSituation situation.now }
-        ensures { (plan : List ℕ) (target : Target) → IsTraceSoFar situation.now plan target self.now
-            → Follows result (terms_of situation.now) (steps_from (own_at situation.now plan) (target_at situation.now target) self.now.start (length self.now.rows.items)) }
+        ensures { (plan : List ℕ) (target : Target)
+            → IsTraceSoFar situation.now plan target self.now
+            → Follows result (terms_of situation.now)
+            (steps_from (own_at situation.now plan) (target_at situation.now target) self.now.start
+            (length self.now.rows.items)) }
     {
         match self.followers.as_slice().last() {
             Some(follower) => *follower,
@@ -124,10 +136,13 @@ impl TraceSoFar {
     fn follow(&mut self, course: &Course<'_>, target: &Target, until: u32) -> Result<(), Memory>
         requires course { IsCourse course.now }
         requires target { IsTarget (situation_in course.now) target.now }
-        requires trace { IsTraceSoFar (situation_in course.now) course.now.plan target.now self.old }
-        requires begins { BeginsAt (situation_in course.now) course.now.plan until target.now self.old.start }
+        requires trace { IsTraceSoFar
+            (situation_in course.now) course.now.plan target.now self.old }
+        requires begins { BeginsAt
+            (situation_in course.now) course.now.plan until target.now self.old.start }
         requires until { until ≤ end_of (situation_in course.now) }
-        ensures trace { OnOk result (IsTraceSoFar (situation_in course.now) course.now.plan target.now self.new) }
+        ensures trace { OnOk result
+            (IsTraceSoFar (situation_in course.now) course.now.plan target.now self.new) }
         ensures long { OnOk result (until ≤ told_to self.new) }
         ensures start { OnOk result (self.new.start ≡ self.old.start) }
         ensures plan { OnOk result (self.new.plan ≡ self.old.plan) }
@@ -150,7 +165,7 @@ impl TraceSoFar {
         &self.rows[..(until - self.start) as usize]
     }
 
-    /// Whether the rule with an index is newly broken at the position of the step that begins at a tick. The trace is told under the course's plan.
+    /// Whether the rule with an index is newly broken at the position of the step that begins at a tick. The trace is that under the course's plan.
     pub(crate) fn breaks_at(
         &mut self,
         course: &Course<'_>,
@@ -161,14 +176,18 @@ impl TraceSoFar {
     ) -> Result<bool, Memory>
         requires course { IsCourse course.now }
         requires target { IsTarget (situation_in course.now) target.now }
-        requires trace { IsTraceSoFar (situation_in course.now) course.now.plan target.now self.old }
+        requires trace { IsTraceSoFar
+            (situation_in course.now) course.now.plan target.now self.old }
         requires from_now { now_of (situation_in course.now) ≤ until }
         requires until { until ≤ end_of (situation_in course.now) }
         requires known { rule < length (situation_in course.now).rules }
-        ensures trace { OnOk result (IsTraceSoFar (situation_in course.now) course.now.plan target.now self.new) }
+        ensures trace { OnOk result
+            (IsTraceSoFar (situation_in course.now) course.now.plan target.now self.new) }
         ensures plan { OnOk result (self.new.plan ≡ self.old.plan) }
-        ensures breaks { IfOk result (λ breaks. IsTrue breaks
-            ↔ BreaksAt (situation_in course.now) course.now.plan until target.now (rule_at (situation_in course.now).rules rule).tree step) }
+        ensures breaks { IfOk result
+            (λ breaks. IsTrue breaks
+            ↔ BreaksAt (situation_in course.now) course.now.plan until target.now
+            (rule_at (situation_in course.now).rules rule).tree step) }
     {
         if step >= until {
             return Ok(false);

@@ -1,7 +1,7 @@
 //! Rows of fields as CSV (RFC 4180): fields between commas, quoted where they must be, and a line feed.
 //!
-//! The fields `why`, `3.4`, `200000001`, `r14a`, `23` and two empty ones are the row `why,3.4,200000001,r14a,23,,`. Which rows a report has, and what
-//! their fields tell, has no place here.
+//! The fields `why`, `3.4`, `200000001`, `r14a`, `23` and two empty ones are the row `why,3.4,200000001,r14a,23,,`. The rows
+//! of a report and the meaning of their fields are out of scope: `audit_report` has them.
 #![tactic(auto)]
 
 mod numbers;

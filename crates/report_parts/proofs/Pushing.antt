@@ -14,7 +14,7 @@ rows_push f xs k d lt =
     ∙ sym (flat_map-append f (take k xs) (get_or xs k d ∷ []))
     ∙ ap (flat_map f) (sym (take_more xs k d lt))
 
--- the same where the element is told
+-- the same for a given element
 pub rows_get : {X : Type 0} (f : X → List ℕ) (xs : List X) (k : ℕ) (x : X) → slice_get xs k ≡ Some x
     → flat_map f (take k xs) ++ f x ≡ flat_map f (take (k + 1) xs)
 rows_get f xs k x at =

@@ -5,7 +5,7 @@ ghost use Rattle.audit_report.specs.ReportTexts.{HasText};
 ghost use Rattle.early_monitor.specs.declared.alarm.Alarm.{Alarm};
 ghost use Rattle.report_parts.specs.AlarmRows.{alarm_rows, told_alarm};
 
-use audit_report::ReportText;
+use audit_report::{ReportRow, ReportText};
 use early_monitor::Alarm;
 use out_of_memory::Memory;
 use rule_set::RuleSet;
@@ -16,8 +16,12 @@ fn write_alarm(text: &mut ReportText, rules: &RuleSet, alarm: &Alarm) -> Result<
     ensures { OnOk result ((front : List ℕ) → HasText text.old front
         → HasText text.new (front ++ row_of (told_alarm rules.now alarm.now))) }
 {
-    let name = rules.name(alarm.rule as usize);
-    text.write_alarm(alarm.pair, name, alarm.position, alarm.decided)
+    text.write(&ReportRow::Alarm {
+        pair: alarm.pair,
+        name: rules.name(alarm.rule as usize),
+        position: alarm.position,
+        decided: alarm.decided,
+    })
 }
 
 /// Writes the rows of alarms.

@@ -1,8 +1,8 @@
-//! The parts of reports: the rows of lines, stretches, vessels, rules, alarms and plans, written behind those of a text.
+//! The parts of reports: the rows of lines, stretches, vessels, rules, alarms and plans, written after those of a text.
 //!
-//! Each function here writes rows of one kind, as `specs/` defines them. Two judged lines, of which the first was accepted, give one row
-//! `point` and then, at the log's end, the 21 rows `lines`, of which one counts a report accepted.
-//! Which rows a report has, and in which order, has no place here: that is `sessions`.
+//! Each function here writes rows of one kind, as `specs/` defines them. For example, if the first of two judged lines was accepted, they
+//! result in one row `point` and then, at the log's end, in the 21 rows `lines`; one of these counts an accepted report.
+//! Out of scope: which rows a report has, and in which order. That is `sessions`.
 #![tactic(auto)]
 
 mod alarms;

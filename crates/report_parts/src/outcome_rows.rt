@@ -27,8 +27,12 @@ fn write_each(
     counts: &[u64; 21],
     outcomes: &[LineOutcome],
 ) -> Result<(), Memory>
-    ensures { OnOk result ((front : List ℕ) → HasText text.old front → HasText text.new (front
-        ++ flat_map (λ outcome. row_of (count_fields outcome (slice_index counts.now (outcome_index outcome)))) outcomes.now)) }
+    ensures { OnOk result
+        ((front : List ℕ) → HasText text.old front
+        → HasText text.new
+        (front ++ flat_map
+        (λ outcome. row_of (count_fields outcome (slice_index counts.now (outcome_index outcome))))
+        outcomes.now)) }
 {
     for outcome in outcomes {
         text.write(&ReportRow::Lines {
@@ -41,8 +45,10 @@ fn write_each(
 
 /// Writes how many of the lines of a log came to each outcome, in the order of the report: a row for each of the 21.
 pub fn write_counts(text: &mut ReportText, judge: &Judge) -> Result<(), Memory>
-    ensures { OnOk result ((scenario : Scenario) (lines : List (List ℕ)) (front : List ℕ) → JudgeStandsFor judge.now scenario lines
-        → HasText text.old front → HasText text.new (front ++ count_rows (judged_lines scenario lines))) }
+    ensures { OnOk result
+        ((scenario : Scenario) (lines : List (List ℕ)) (front : List ℕ)
+        → JudgeStandsFor judge.now scenario lines → HasText text.old front
+        → HasText text.new (front ++ count_rows (judged_lines scenario lines))) }
 {
     write_each(text, judge.counts(), all_outcomes())
 }

@@ -11,7 +11,7 @@ use lattice::{Lattice, Plan};
 use out_of_memory::Memory;
 use plan_situations::Ready;
 
-/// What the legs of a plan are told by.
+/// What determines the rows of the legs of a plan.
 #[derive(Clone, Copy)]
 pub struct PlannedLegs<'a> {
     /// The tick of now, at most 20,000.
@@ -23,7 +23,7 @@ pub struct PlannedLegs<'a> {
 }
 
 impl PlannedLegs<'_> {
-    /// The tick at which a leg begins.
+    /// Returns the tick at which a leg begins.
     fn first_tick(&self, leg: u8) -> u32
         requires begin { self.now.begin ≤ 20000 }
         requires leg { leg ≤ 8 }
@@ -32,7 +32,7 @@ impl PlannedLegs<'_> {
         self.begin + u32::from(leg) * self.lattice.leg_ticks()
     }
 
-    /// The tick at which it ends.
+    /// Returns the tick at which a leg ends.
     fn last_tick(&self, leg: u8) -> u32
         requires begin { self.now.begin ≤ 20000 }
         requires leg { leg < self.now.lattice.now.legs }
@@ -51,9 +51,12 @@ impl PlannedLegs<'_> {
         requires begin { self.now.begin ≤ 20000 }
         requires course { self.now.ready.course < 3600 }
         requires speed { self.now.ready.speed ≤ 1022 }
-        requires plan { IsPlan (choices_of self.now.lattice.now) self.now.lattice.now.legs plan.now }
-        ensures { OnOk result ((front : List ℕ) → HasText text.old front
-            → HasText text.new (front ++ leg_rows self.now.begin self.now.lattice.now self.now.ready plan.now)) }
+        requires plan { IsPlan
+            (choices_of self.now.lattice.now) self.now.lattice.now.legs plan.now }
+        ensures { OnOk result
+            ((front : List ℕ) → HasText text.old front
+            → HasText text.new
+            (front ++ leg_rows self.now.begin self.now.lattice.now self.now.ready plan.now)) }
     {
         for leg in 0..self.lattice.legs() {
             text.write(&ReportRow::Plan {
@@ -73,9 +76,13 @@ impl PlannedLegs<'_> {
         requires begin { self.now.begin ≤ 20000 }
         requires course { self.now.ready.course < 3600 }
         requires speed { self.now.ready.speed ≤ 1022 }
-        requires plan { IfSome (option_copied plan) (IsPlan (choices_of self.now.lattice.now) self.now.lattice.now.legs) }
-        ensures { OnOk result ((front : List ℕ) → HasText text.old front
-            → HasText text.new (front ++ manoeuvre_rows self.now.begin self.now.lattice.now self.now.ready (option_copied plan.entry))) }
+        requires plan { IfSome (option_copied plan)
+            (IsPlan (choices_of self.now.lattice.now) self.now.lattice.now.legs) }
+        ensures { OnOk result
+            ((front : List ℕ) → HasText text.old front
+            → HasText text.new
+            (front ++ manoeuvre_rows self.now.begin self.now.lattice.now self.now.ready
+            (option_copied plan.entry))) }
     {
         match plan {
             Some(plan) => self.write_plan(text, plan),

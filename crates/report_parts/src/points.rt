@@ -10,7 +10,9 @@ use out_of_memory::Memory;
 /// Writes the rows of a line: that of its accepted report, if it has one.
 #[inline(always)]
 pub fn write_line(text: &mut ReportText, judged: &Judged) -> Result<(), Memory>
-    ensures { OnOk result ((front : List ℕ) → HasText text.old front → HasText text.new (front ++ rows_of_line judged.now)) }
+    ensures { OnOk result
+        ((front : List ℕ) → HasText text.old front
+        → HasText text.new (front ++ rows_of_line judged.now)) }
 {
     match judged {
         Judged::Accepted(accepted) => text.write(&ReportRow::Point {

@@ -4,7 +4,7 @@ ghost use Rattle.report_csv.specs.CsvRows.{row_of};
 ghost use Rattle.audit_report.specs.ReportTexts.{HasText};
 ghost use Rattle.report_parts.specs.StretchRows.{AreOfRules, IsOfRules, stretch_fields, stretch_rows};
 
-use audit_report::ReportText;
+use audit_report::{ReportRow, ReportText};
 use auditor::Row;
 use out_of_memory::Memory;
 use rule_set::RuleSet;
@@ -22,14 +22,29 @@ fn write_stretch(text: &mut ReportText, rules: &RuleSet, row: &Row) -> Result<()
             first,
             last,
             least,
-        } => text.write_meeting(pair, kind, first, last, least),
+        } => text.write(&ReportRow::Meeting {
+            pair,
+            kind,
+            first,
+            last,
+            least,
+        }),
         Row::Verdict {
             pair,
             rule,
             undecided,
             first,
             last,
-        } => text.write_verdict(pair, rules.name(rule as usize), undecided, first, last),
+        } => {
+            let name = rules.name(rule as usize);
+            text.write(&ReportRow::Verdict {
+                pair,
+                name,
+                undecided,
+                first,
+                last,
+            })
+        }
     }
 }
 

@@ -11,7 +11,9 @@ use rule_set::RuleSet;
 /// Writes what each rule comes to, in the order of the rules.
 pub fn write_totals(text: &mut ReportText, rules: &RuleSet, totals: &[Total]) -> Result<(), Memory>
     requires { length totals.now ≡ length rules.now }
-    ensures { OnOk result ((front : List ℕ) → HasText text.old front → HasText text.new (front ++ total_rows rules.now totals.now)) }
+    ensures { OnOk result
+        ((front : List ℕ) → HasText text.old front
+        → HasText text.new (front ++ total_rows rules.now totals.now)) }
 {
     for rule in 0..rules.len() {
         text.write(&ReportRow::Total {

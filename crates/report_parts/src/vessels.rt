@@ -17,7 +17,7 @@ use out_of_memory::Memory;
 use plan_situations::Near;
 use tracks::{Book, HeldVessel, Statics};
 
-/// A vessel's type, 0 where she told none.
+/// Returns a vessel's type, 0 if she sent none.
 fn kind_of(ship: Option<ShipData>) -> u8
     ensures { result ≡ ship_type_of ship }
 {
@@ -27,23 +27,25 @@ fn kind_of(ship: Option<ShipData>) -> u8
     }
 }
 
-/// The name that a vessel told.
-fn name_told(statics: &Statics) -> Option<&Text20>
+/// Returns the name that a vessel sent.
+fn sent_name(statics: &Statics) -> Option<&Text20>
     ensures { option_copied result ≡ statics.now.name }
 {
     statics.name.as_ref()
 }
 
-/// Writes the row of a vessel that is held, of whom a track is kept.
+/// Writes the row of a vessel that is held, with the track that is stored of her.
 fn write_vessel(text: &mut ReportText, vessel: &HeldVessel<'_>) -> Result<(), Memory>
-    ensures { OnOk result ((keeping : Keeping) (numbers : JudgingNumbers) (messages : List Sent) (front : List ℕ) → keeping ≢ Latest
-        → length messages < 2 ^ 64 → IsHeldVessel keeping numbers messages vessel.now
-        → HasText text.old front → HasText text.new (front ++ row_of (held_fields numbers messages vessel.now.mmsi))) }
+    ensures { OnOk result
+        ((keeping : Keeping) (numbers : JudgingNumbers) (messages : List Sent) (front : List ℕ)
+        → keeping ≢ Latest → length messages < 2 ^ 64
+        → IsHeldVessel keeping numbers messages vessel.now → HasText text.old front
+        → HasText text.new (front ++ row_of (held_fields numbers messages vessel.now.mmsi))) }
 {
     let statics = vessel.statics;
     text.write(&ReportRow::Vessel {
         mmsi: vessel.mmsi,
-        name: name_told(statics),
+        name: sent_name(statics),
         kind: kind_of(statics.ship),
         length: statics.length(),
         reports: vessel.counts.reports,
@@ -54,8 +56,10 @@ fn write_vessel(text: &mut ReportText, vessel: &HeldVessel<'_>) -> Result<(), Me
 /// Writes the row of the vessel of this identity, who is held.
 fn write_vessel_of(text: &mut ReportText, book: &Book, mmsi: u32) -> Result<(), Memory>
     requires { book.now.keeping ≢ Latest }
-    ensures { OnOk result ((numbers : JudgingNumbers) (messages : List Sent) (front : List ℕ) → length messages < 2 ^ 64
-        → BookStandsFor book.now numbers messages → is_held numbers messages mmsi ≡ true → HasText text.old front
+    ensures { OnOk result
+        ((numbers : JudgingNumbers) (messages : List Sent) (front : List ℕ)
+        → length messages < 2 ^ 64 → BookStandsFor book.now numbers messages
+        → is_held numbers messages mmsi ≡ true → HasText text.old front
         → HasText text.new (front ++ row_of (held_fields numbers messages mmsi))) }
 {
     match book.find(mmsi) {
@@ -67,8 +71,10 @@ fn write_vessel_of(text: &mut ReportText, book: &Book, mmsi: u32) -> Result<(), 
 /// Writes the rows of all vessels that are held, in the order of their MMSIs.
 pub fn write_vessels(text: &mut ReportText, book: &Book) -> Result<(), Memory>
     requires { book.now.keeping ≢ Latest }
-    ensures { OnOk result ((numbers : JudgingNumbers) (messages : List Sent) (front : List ℕ) → length messages < 2 ^ 64
-        → BookStandsFor book.now numbers messages → HasText text.old front → HasText text.new (front ++ vessel_rows numbers messages)) }
+    ensures { OnOk result
+        ((numbers : JudgingNumbers) (messages : List Sent) (front : List ℕ)
+        → length messages < 2 ^ 64 → BookStandsFor book.now numbers messages
+        → HasText text.old front → HasText text.new (front ++ vessel_rows numbers messages)) }
 {
     for k in 0..book.vessels() {
         write_vessel(text, &book.held(k))?;
@@ -79,9 +85,11 @@ pub fn write_vessels(text: &mut ReportText, book: &Book) -> Result<(), Memory>
 /// Writes the rows of the vessels near own ship.
 pub fn write_near(text: &mut ReportText, book: &Book, near: &[Near]) -> Result<(), Memory>
     requires { book.now.keeping ≡ Tracks }
-    ensures { OnOk result ((numbers : JudgingNumbers) (messages : List Sent) (front : List ℕ) → length messages < 2 ^ 64
-        → BookStandsFor book.now numbers messages
-        → All (λ (vessel : Near). is_held numbers messages vessel.mmsi ≡ true) near.now → HasText text.old front
+    ensures { OnOk result
+        ((numbers : JudgingNumbers) (messages : List Sent) (front : List ℕ)
+        → length messages < 2 ^ 64 → BookStandsFor book.now numbers messages
+        → All (λ (vessel : Near). is_held numbers messages vessel.mmsi ≡ true) near.now
+        → HasText text.old front
         → HasText text.new (front ++ near_rows numbers messages near.now)) }
 {
     for vessel in near {

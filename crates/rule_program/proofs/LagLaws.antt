@@ -1,4 +1,4 @@
--- A No, and a Yes, needs as many rows behind its position as the formula's lags say.
+-- A No, and a Yes, needs as many rows after its position as the formula's lags say.
 use Rattle.std.proofs.Common.{◌≡◌, ℕ, zero, ◌+◌, ◌-◌, ◌<◌, ◌≤◌, refl, arith, Bool, true, false, inl, inr, length, max, min}
 use Rattle.std.specs.Prelude.{nat_lt, ◌==◌}
 use Rattle.std.proofs.lemmas.Bool.Decides.{nat_tests}
@@ -73,7 +73,7 @@ HasLags-pair Implies f g a b n h k = record {
   ];
 }
 
--- Where an operator that looks back has a lower bound of 0, the value here is one of those that it looks at.
+-- If an operator that looks back has a lower bound of 0, the value here is one of those that it looks at.
 here_below : (i l lag n : ℕ) → i < n → (l ≡ 0 → i + lag < n) → i + here l lag < n
 here_below i l lag n inside h = by_test (l == 0) refl
   where

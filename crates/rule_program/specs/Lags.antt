@@ -1,5 +1,5 @@
--- How many rows behind a position are needed at least before its value can be No, and before it can be Yes. It is told by the
--- operators alone, so it may be fewer than are needed in fact, and is never more.
+-- How many rows after a position are needed at least before its value can be No, and before it can be Yes. The operators
+-- alone decide this, so it may be fewer than are needed in fact, and is never more.
 use Rattle.std.specs.Prelude.{ℕ, ◌≡◌, ◌+◌, ◌-◌, ◌<◌, ◌==◌, length, max, min, if◌then◌else◌}
 use Rattle.mtl_formulas.specs.declared.formula.PairKind.{PairKind}
 use Rattle.mtl_formulas.specs.declared.formula.PairKind.TheVariants.{And, Or, Implies}
@@ -13,7 +13,7 @@ use Rattle.mtl_formulas.specs.FormulaMeasures.{reach_of}
 use Rattle.mtl_formulas.specs.Traces.{Trace, value_in}
 use Rattle.rule_program.specs.declared.lags.Lags.{Lags}
 
--- An operator that looks back looks at the position itself where its lower bound is 0.
+-- An operator that looks back looks at the position itself if its lower bound is 0.
 abbrev pub here : ℕ → ℕ → ℕ
 here l lag = if l == 0 then lag else 0
 

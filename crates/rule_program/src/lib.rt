@@ -1,9 +1,9 @@
 //! The rules of an audit as one program, which gives the values of all of them along a trace; and how many rows their formulas need at
 //! least before a value of Yes or No.
 //!
-//! A Yes of `F[0,20] risk` at a tick of 10 seconds may come with the position's own row, and a No needs two rows behind it: the last that the
-//! formula reaches. Of `G[0,20] risk` it is the other way round, so that a No may come early.
-//! How a value is found has no place here: that is `mtl_monitor`.
+//! A Yes of `F[0,20] risk` at a tick of 10 seconds may come with the position's own row, and a No needs two rows after it: the last that the
+//! formula reaches. For `G[0,20] risk` it is the other way round: a No may come early.
+//! How a value is found is out of scope: `mtl_monitor` defines that.
 #![tactic(auto)]
 
 mod lags;
@@ -22,7 +22,8 @@ use std::alloc::Global;
 
 /// The formulas of all rules in order, each at the index of its rule, as one program.
 pub fn program_of(alloc: Global, rules: &RuleSet) -> Result<Program, Memory>
-    ensures formulas { IfOk result (λ program. IsProgramOf program (map (λ (rule : NamedTree). rule.tree) rules.now)) }
+    ensures formulas { IfOk result
+        (λ program. IsProgramOf program (map (λ (rule : NamedTree). rule.tree) rules.now)) }
     ensures count { IfOk result (λ program. count_of program ≡ length rules.now) }
     ensures few { IfOk result (λ program. count_of program ≤ MOST_RULES) }
 {

@@ -6,7 +6,7 @@ use Rattle.std.proofs.lemmas.List.Folds.{list_any-append}
 use Rattle.std.proofs.lemmas.Slice.Eq.{bytes_eq-Decides}
 use Rattle.rule_set.specs.NamedTrees.{NamedTree, has_rule, RulesHaveDifferentNames}
 
--- where one differs from another, the other differs from it
+-- if one differs from another, the other differs from it
 pub differs_back : (a b : List ℕ) → bytes_eq a b ≡ false → bytes_eq b a ≡ false
 differs_back a b h = false_from_ne_true (bytes_eq b a) (λ same. absurd (cc ((bytes_eq-Decides a b).1 (sym ((bytes_eq-Decides b a).0 same)))))
 

@@ -1,9 +1,9 @@
 -- The formulas of the rules, as trees: the duties of the COLREGs 1972, with the numbers of a scenario. The bounds of their
--- operators are in positions, each a tick of so many seconds.
+-- operators are in positions, each one tick long.
 --
--- Rule 18 says by what they are which of two vessels keeps out of the way of the other. Where these ranks count it has a duty of its
--- own, r18, and the duties of meeting head-on and of crossing (Rules 14, 15 and 17) hold between power-driven vessels alone. What
--- stands there only where ranks count is in brackets. Overtaking comes before any rank (Rule 13).
+-- Rule 18 says, by their ranks, which of two vessels keeps out of the way of the other. If ranks count, it has a duty of its
+-- own, r18, and the duties of meeting head-on and of crossing (Rules 14, 15 and 17) hold only between power-driven vessels.
+-- What stands there only if ranks count is in brackets. Overtaking comes before any rank (Rule 13).
 use Rattle.std.specs.Prelude.{ℕ, ◌≡◌, ◌≤◌, ◌/◌, ◌%◌}
 use Rattle.mtl_formulas.specs.declared.atom.Atom.TheVariants.{Risk, Engaged, Begin, Overtaking, Overtaken, HeadOn, CrossingGives, CrossingStands, Passing, Unclassified, Age, Opening, Clear, Close, OtherOnPort, Ahead, Alters, Apparent, ToStarboard, ToPort, OtherApparent, RankGives, RankStands, BothPower}
 use Rattle.mtl_formulas.specs.declared.formula.PairKind.TheVariants.{And, Or, Implies}
@@ -60,7 +60,7 @@ unfoldable pub between_power : Ranking → FormulaTree → FormulaTree
 between_power Ignored a = a
 between_power Counted a = a and leaf BothPower
 
--- The duty to act within so many seconds, unless the engagement ends: F[0,seconds] (act | !engaged)
+-- The duty to act within this many seconds, unless the engagement ends: F[0,seconds] (act | !engaged)
 unfoldable pub soon : ℕ → ℕ → FormulaTree → FormulaTree
 soon tick seconds act = span F 0 (seconds / tick) (act or negation (leaf Engaged))
 
@@ -88,7 +88,7 @@ waits tick n =
 unfoldable pub free : ℕ → RuleNumbers → FormulaTree
 free tick n = link S 0 (n.te / tick) (leaf Engaged) (waits tick n or extremis n)
 
--- Engaged in an encounter of this kind, the vessels pass at so many metres: engaged & kind -> clear(metres)
+-- Engaged in an encounter of this kind, the vessels pass at this many metres: engaged & kind -> clear(metres)
 abbrev pub passes_clear : FormulaTree → ℕ → FormulaTree
 passes_clear kind metres = leaf Engaged and kind implies leaf (Clear metres)
 

@@ -30,7 +30,9 @@ pub(crate) fn atom(atom: Atom) -> Draft
 #[tactic(auto, using(crate::proofs::Drafts::made))]
 pub(crate) fn not(alloc: Global, a: Draft) -> Result<Draft, Memory>
     requires { node_count (tree_of a.formula) < 64 }
-    ensures { IfOk result (λ d. IsMade d.formula (negation (tree_of a.formula)) (node_count (tree_of a.formula) + 1)) }
+    ensures { IfOk result
+        (λ d. IsMade d.formula (negation (tree_of a.formula))
+        (node_count (tree_of a.formula) + 1)) }
 {
     Ok(Draft {
         formula: Formula::negated(alloc, a.formula)?,
@@ -55,7 +57,9 @@ pub(crate) fn over(alloc: Global, kind: SpanKind, upper: u32, a: Draft) -> Resul
     requires few { node_count (tree_of a.formula) < 64 }
     requires near { upper ≤ 7200 }
     requires alone { reach_of (tree_of a.formula) ≡ 0 }
-    ensures { IfOk result (λ d. IsMade d.formula (span kind 0 upper (tree_of a.formula)) (node_count (tree_of a.formula) + 1)) }
+    ensures { IfOk result
+        (λ d. IsMade d.formula (span kind 0 upper (tree_of a.formula))
+        (node_count (tree_of a.formula) + 1)) }
 {
     Ok(Draft {
         formula: Formula::span(alloc, kind, 0, upper, a.formula)?,
@@ -67,7 +71,8 @@ pub(crate) fn over(alloc: Global, kind: SpanKind, upper: u32, a: Draft) -> Resul
 pub(crate) fn since(alloc: Global, upper: u32, a: Draft, b: Draft) -> Result<Draft, Memory>
     requires few { node_count (tree_of a.formula) + node_count (tree_of b.formula) < 64 }
     requires near { upper ≤ 7200 }
-    ensures { IfOk result (λ d. IsMade d.formula (link LinkKind.S 0 upper (tree_of a.formula) (tree_of b.formula))
+    ensures { IfOk result
+        (λ d. IsMade d.formula (link LinkKind.S 0 upper (tree_of a.formula) (tree_of b.formula))
         (node_count (tree_of a.formula) + node_count (tree_of b.formula) + 1)) }
 {
     Ok(Draft {

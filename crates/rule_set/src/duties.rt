@@ -22,7 +22,8 @@ use std::alloc::Global;
 /// Rule 8(b): an alteration is readily apparent.
 pub(crate) fn r8b(alloc: Global, tick: u32, numbers: &RuleNumbers) -> Result<Rule, Memory>
     requires { AreRuleNumbers tick numbers.now }
-    ensures { IfOk result (λ rule. named_tree rule ≡ rule_named (codes "r8b") (r8b tick numbers.now)) }
+    ensures { IfOk result
+        (λ rule. named_tree rule ≡ rule_named (codes "r8b") (r8b tick numbers.now)) }
 {
     let apparent = soon(alloc, tick, numbers.t8, Atom::Apparent)?;
     Ok(Rule::of(b"r8b", implies(alloc, atom(Atom::Alters), apparent)?))
@@ -32,7 +33,9 @@ pub(crate) fn r8b(alloc: Global, tick: u32, numbers: &RuleNumbers) -> Result<Rul
 fn passes_clear(alloc: Global, kind: Draft, metres: u32) -> Result<Draft, Memory>
     requires metres { AreMetres metres }
     requires few { node_count (tree_of kind.formula) < 60 }
-    ensures { IfOk result (λ d. IsMade d.formula (passes_clear (tree_of kind.formula) metres) (node_count (tree_of kind.formula) + 4)) }
+    ensures { IfOk result
+        (λ d. IsMade d.formula (passes_clear (tree_of kind.formula) metres)
+        (node_count (tree_of kind.formula) + 4)) }
 {
     implies(alloc, engaged_and(alloc, kind)?, atom(Atom::Clear(metres)))
 }
@@ -55,7 +58,8 @@ fn passes_clear_per_kind(
     other: u32,
 ) -> Result<Draft, Memory>
     requires { AreSafeMetres (Safe.PerKind head_on overtaking crossing other) }
-    ensures { IfOk result (λ d. tree_of d.formula ≡ passes_safely (Safe.PerKind head_on overtaking crossing other)) }
+    ensures { IfOk result
+        (λ d. tree_of d.formula ≡ passes_safely (Safe.PerKind head_on overtaking crossing other)) }
 {
     let head_on = passes_clear(alloc, atom(Atom::HeadOn), head_on)?;
     let overtaking = either_passes_clear(alloc, Atom::Overtaking, Atom::Overtaken, overtaking);
@@ -104,19 +108,21 @@ pub(crate) fn r13(alloc: Global, numbers: &RuleNumbers) -> Result<Rule, Memory>
     ))
 }
 
-/// Where the draft holds, the vessel does not act so.
+/// If the draft holds, the vessel does not act so.
 fn forbidding(alloc: Global, name: &[u8], when: Draft, act: Atom) -> Result<Rule, Memory>
     requires some { 1 ≤ length name.now }
     requires short { length name.now ≤ 16 }
     requires few { node_count (tree_of when.formula) < 62 }
     requires act { IsValidAtom act }
-    ensures { IfOk result (λ rule. named_tree rule ≡ rule_named name.now (tree_of when.formula implies negation (leaf act))) }
+    ensures { IfOk result
+        (λ rule. named_tree rule
+        ≡ rule_named name.now (tree_of when.formula implies negation (leaf act))) }
 {
     let (when, keeps) = paired(when, not(alloc, atom(act)))?;
     Ok(Rule::of(name, implies(alloc, when, keeps)?))
 }
 
-/// Where the draft holds, the vessel soon acts so.
+/// If the draft holds, the vessel soon acts so.
 fn demanding(
     alloc: Global,
     name: &[u8],
@@ -131,7 +137,9 @@ fn demanding(
     requires tick { 1 ≤ tick }
     requires seconds { AreSeconds tick seconds }
     requires act { IsValidAtom act }
-    ensures { IfOk result (λ rule. named_tree rule ≡ rule_named name.now (tree_of when.formula implies soon tick seconds (leaf act))) }
+    ensures { IfOk result
+        (λ rule. named_tree rule
+        ≡ rule_named name.now (tree_of when.formula implies soon tick seconds (leaf act))) }
 {
     let (when, acts) = paired(when, soon(alloc, tick, seconds, act))?;
     Ok(Rule::of(name, implies(alloc, when, acts)?))
@@ -145,7 +153,8 @@ pub(crate) fn r14a(
     numbers: &RuleNumbers,
 ) -> Result<Rule, Memory>
     requires { AreRuleNumbers tick numbers.now }
-    ensures { IfOk result (λ rule. named_tree rule ≡ rule_named (codes "r14a") (r14a ranks tick numbers.now)) }
+    ensures { IfOk result
+        (λ rule. named_tree rule ≡ rule_named (codes "r14a") (r14a ranks tick numbers.now)) }
 {
     let begins = both(alloc, atom(Atom::Begin), atom(Atom::HeadOn))?;
     let begins = between_power(alloc, ranks, begins)?;
@@ -185,7 +194,8 @@ pub(crate) fn r16(
     numbers: &RuleNumbers,
 ) -> Result<Rule, Memory>
     requires { AreRuleNumbers tick numbers.now }
-    ensures { IfOk result (λ rule. named_tree rule ≡ rule_named (codes "r16") (r16 ranks tick numbers.now)) }
+    ensures { IfOk result
+        (λ rule. named_tree rule ≡ rule_named (codes "r16") (r16 ranks tick numbers.now)) }
 {
     let (begin, keeps_out) = paired(atom(Atom::Begin), keeps_out(alloc, ranks))?;
     let begins = both(alloc, begin, keeps_out)?;
@@ -200,7 +210,8 @@ pub(crate) fn r17a(
     numbers: &RuleNumbers,
 ) -> Result<Rule, Memory>
     requires { AreRuleNumbers tick numbers.now }
-    ensures { IfOk result (λ rule. named_tree rule ≡ rule_named (codes "r17a") (r17a ranks tick numbers.now)) }
+    ensures { IfOk result
+        (λ rule. named_tree rule ≡ rule_named (codes "r17a") (r17a ranks tick numbers.now)) }
 {
     let stands = engaged_and(alloc, stands_on(alloc, ranks)?)?;
     let (stands, bound) = paired(stands, not_free(alloc, tick, numbers))?;
@@ -216,7 +227,8 @@ pub(crate) fn r17b(
     numbers: &RuleNumbers,
 ) -> Result<Rule, Memory>
     requires { AreRuleNumbers tick numbers.now }
-    ensures { IfOk result (λ rule. named_tree rule ≡ rule_named (codes "r17b") (r17b ranks tick numbers.now)) }
+    ensures { IfOk result
+        (λ rule. named_tree rule ≡ rule_named (codes "r17b") (r17b ranks tick numbers.now)) }
 {
     let (stands, in_extremis) = paired(stands_on(alloc, ranks)?, extremis(alloc, numbers))?;
     let in_extremis = both(alloc, stands, in_extremis)?;
@@ -238,7 +250,8 @@ pub(crate) fn r17c(
     numbers: &RuleNumbers,
 ) -> Result<Rule, Memory>
     requires { AreRuleNumbers tick numbers.now }
-    ensures { IfOk result (λ rule. named_tree rule ≡ rule_named (codes "r17c") (r17c ranks tick numbers.now)) }
+    ensures { IfOk result
+        (λ rule. named_tree rule ≡ rule_named (codes "r17c") (r17c ranks tick numbers.now)) }
 {
     let stands = engaged_in(alloc, ranks, Atom::CrossingStands)?;
     let (stands, free) = paired(stands, free(alloc, tick, numbers))?;

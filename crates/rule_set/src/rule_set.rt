@@ -41,10 +41,11 @@ impl Model for RuleSet {
 
     ghost use Rattle.rule_set.specs.declared.rule_set.TheConstants.{MOST_RULES};
 
-    ghost invariant = { λ s. (length s.rules.items ≤ MOST_RULES) × RulesHaveDifferentNames (named_trees s.rules.items) };
+    ghost invariant = { λ s. (length s.rules.items ≤ MOST_RULES)
+        × RulesHaveDifferentNames (named_trees s.rules.items) };
 }
 
-/// Puts a rule that was made behind the others, or hands on the want of memory.
+/// Appends a rule that was made, or passes on the out-of-memory error.
 fn put(rules: &mut Vec<Rule>, made: Result<Rule, Memory>) -> Result<(), Memory>
     ensures { OnOk result (IsPut rules.old.items made rules.new.items) }
 {
@@ -120,13 +121,14 @@ impl RuleSet {
         Ok(RuleSet { rules })
     }
 
-    /// Adds a valid formula under a name that the set does not hold, behind the others. The set holds fewer than [`MOST_RULES`].
-    /// At want of memory, the one cause of an `Err`, the formula comes back and the set is as it was.
+    /// Adds a valid formula after the others, under a name that the set does not hold. The set holds fewer than [`MOST_RULES`].
+    /// If memory runs out, the one cause of an `Err`, the formula comes back and the set is unchanged.
     pub fn add(&mut self, name: Name, formula: Formula) -> Result<(), Formula>
         requires few { length self.old < MOST_RULES }
         requires new { has_rule self.old name ≡ false }
         requires valid { IsValid (tree_of formula) }
-        ensures added { OnOk result (self.new ≡ self.old ++ rule_named name (tree_of formula) ∷ []) }
+        ensures added { OnOk result
+            (self.new ≡ self.old ++ rule_named name (tree_of formula) ∷ []) }
         ensures left { OnErr result (self.new ≡ self.old) }
         ensures back { IfErr result (λ f. f ≡ formula) }
     {

@@ -12,7 +12,7 @@ use mtl_formulas::{Atom, PairKind, SpanKind};
 use out_of_memory::Memory;
 use std::alloc::Global;
 
-/// Both, or the want of memory of the second, at which the first is dropped by a call.
+/// Both, or the out-of-memory error of the second; the first is then dropped by a call.
 pub(crate) fn paired(a: Draft, b: Result<Draft, Memory>) -> Result<(Draft, Draft), Memory>
     ensures { IfOk result (λ made. (made.0 ≡ a) × (b ≡ Ok made.1)) }
 {
@@ -64,16 +64,20 @@ pub(crate) fn implies(alloc: Global, a: Draft, b: Draft) -> Result<Draft, Memory
 /// `engaged & a`.
 pub(crate) fn engaged_and(alloc: Global, a: Draft) -> Result<Draft, Memory>
     requires { node_count (tree_of a.formula) < 63 }
-    ensures { IfOk result (λ d. IsMade d.formula (leaf Atom.Engaged and tree_of a.formula) (node_count (tree_of a.formula) + 2)) }
+    ensures { IfOk result
+        (λ d. IsMade d.formula (leaf Atom.Engaged and tree_of a.formula)
+        (node_count (tree_of a.formula) + 2)) }
 {
     both(alloc, atom(Atom::Engaged), a)
 }
 
-/// `a`, where ranks count `a & both_power`: between two power-driven vessels.
+/// `a`, if ranks count `a & both_power`: between two power-driven vessels.
 #[tactic(auto, unfolding(crate::specs::RuleTrees::between_power))]
 pub(crate) fn between_power(alloc: Global, ranks: Ranking, a: Draft) -> Result<Draft, Memory>
     requires { node_count (tree_of a.formula) < 63 }
-    ensures { IfOk result (λ d. IsMade d.formula (between_power ranks (tree_of a.formula)) (node_count (tree_of a.formula) + 2)) }
+    ensures { IfOk result
+        (λ d. IsMade d.formula (between_power ranks (tree_of a.formula))
+        (node_count (tree_of a.formula) + 2)) }
 {
     match ranks {
         Ranking::Ignored => Ok(a),
@@ -81,10 +85,11 @@ pub(crate) fn between_power(alloc: Global, ranks: Ranking, a: Draft) -> Result<D
     }
 }
 
-/// `engaged & kind`, where ranks count between two power-driven vessels.
+/// `engaged & kind`, if ranks count between two power-driven vessels.
 pub(crate) fn engaged_in(alloc: Global, ranks: Ranking, kind: Atom) -> Result<Draft, Memory>
     requires { IsValidAtom kind }
-    ensures { IfOk result (λ d. IsMade d.formula (between_power ranks (leaf Atom.Engaged and leaf kind)) 5) }
+    ensures { IfOk result
+        (λ d. IsMade d.formula (between_power ranks (leaf Atom.Engaged and leaf kind)) 5) }
 {
     between_power(alloc, ranks, engaged_and(alloc, atom(kind))?)
 }
@@ -111,7 +116,9 @@ fn with_rank(alloc: Global, overtaking: Atom, rank: Atom, crossing: Atom) -> Res
     requires overtaking { IsValidAtom overtaking }
     requires rank { IsValidAtom rank }
     requires crossing { IsValidAtom crossing }
-    ensures { IfOk result (λ d. IsMade d.formula (leaf overtaking or leaf rank or (leaf crossing and leaf Atom.BothPower)) 7) }
+    ensures { IfOk result
+        (λ d. IsMade d.formula
+        (leaf overtaking or leaf rank or (leaf crossing and leaf Atom.BothPower)) 7) }
 {
     let before_crossing = one_of(alloc, overtaking, rank)?;
     let crossing = both(alloc, atom(crossing), atom(Atom::BothPower));

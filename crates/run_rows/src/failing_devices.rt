@@ -21,7 +21,7 @@ verdict,369190000,477553000,r8d,broken,18,21
 verdict,477553000,369190000,r8d,broken,18,21
 ";
 
-/// The line that tells that the log was not read.
+/// The line for a log that could not be read.
 const NOT_READ: &[u8] = b"log: not read\n";
 
 /// How a run ends, with its number.
@@ -68,7 +68,7 @@ fn audited(alloc: Global, last: &[u8], devices: Devices) -> Result<RunEnd, Fail>
     ended_with(alloc, AUDIT, &[], log.as_slice(), devices)
 }
 
-// The clock of the whole lines settles the first two rows, and the read behind them fails.
+// The clock of the whole lines settles the first two rows, and the read after them fails.
 #[test]
 fn a_read_that_fails_leaves_the_rows_that_are_settled(rt: HostRuntime) -> Result<(), Fail> {
     let last = b"\\c:1700000741*5D\\x\n";
@@ -118,7 +118,7 @@ fn is_front_of(ended: &RunEnd, whole: &RunEnd) -> Result<(), Fail> {
     }
 }
 
-/// Whether runs of which one write fails have written fronts of what this one has written.
+/// Whether runs with one write that fails have written fronts of what this one has written.
 fn has_fronts(alloc: Global, whole: &RunEnd) -> Result<(), Fail> {
     is(whole.status, Status::Done)?;
     for call in 0..20u32 {
@@ -139,7 +139,7 @@ fn each_write_that_fails_leaves_a_front_of_the_report(rt: HostRuntime) -> Result
     has_fronts(rt.alloc(), &whole)
 }
 
-/// The run's write failed behind so many bytes of the report of points, and it told nothing.
+/// The run's write failed after this number of bytes of the report of points, and standard error stayed empty.
 fn is_cut_off_at(ended: &RunEnd, length: usize) -> Result<(), Fail> {
     is_true(REPORT.starts_with(ended.out.bytes()))?;
     is(

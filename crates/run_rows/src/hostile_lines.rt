@@ -33,7 +33,7 @@ const FIELDS: &[u8] =
 
 const SUFFIX: &[u8] = b"!AIVDM,1,1,,A,15P5TL0P2l00001wwHt000000000,0*5c,1700000000\n";
 
-// A stamp outside the window is the nearest to the line behind it, and moves no clock.
+// A stamp outside the window is the nearest to the line after it, and moves no clock.
 const STAMPS: &[u8] = b"\\c:9999999999*59\\!AIVDM,1,1,,A,15P5TL0P2l00001wwHt000000000,0*5C
 !AIVDM,1,1,,A,15P5TL0P2l00001wwHt000000000,0*5C
 \\c:1700000000*5F\\!AIVDM,1,1,,A,15P5TL0P2l00001wwHt000000000,0*5C

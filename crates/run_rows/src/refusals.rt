@@ -1,4 +1,4 @@
-//! Each fault by its number, and the line that tells it.
+//! Each fault by its number, and the line that names it.
 use crate::logs::{LOG, ONE_COURSE, ONE_TICK, OWN};
 use crate::whole_run::{Edit, SOUND, ended};
 use crate::worked_row::{NOTHING, POINTS, Row, Written, is_as_worked_out};
@@ -116,14 +116,14 @@ static REFUSALS: [Row; 14] = [
         ..NOT_READY
     },
     Row {
-        shows: "own ship's report tells no course",
+        shows: "own ship's report has no course",
         log: &[b"\\c:1700000000*5F\\!AIVDM,1,1,,A,15P5TL0P2l000000000>4?wp0000,0*63\n"],
         status: Status::OwnUnready(Unready::NoCourse(1700000000)),
         err: b"own: no course\n",
         ..NOT_READY
     },
     Row {
-        shows: "own ship's report tells no speed",
+        shows: "own ship's report has no speed",
         log: &[b"\\c:1700000000*5F\\!AIVDM,1,1,,A,15P5TL0P?w0000000003Q?wp0000,0*1D\n"],
         status: Status::OwnUnready(Unready::NoSpeed(1700000000)),
         err: b"own: no speed\n",

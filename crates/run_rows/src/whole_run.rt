@@ -22,7 +22,7 @@ pub struct Devices {
     pub failing_line: Option<u32>,
 }
 
-/// Devices of which none fails.
+/// Devices that do not fail.
 pub const SOUND: Devices = Devices {
     piece: 64,
     failing_read: None,
@@ -30,7 +30,7 @@ pub const SOUND: Devices = Devices {
     failing_line: None,
 };
 
-/// What a run ended with, what it wrote, and what a read behind it gives.
+/// What a run ended with, what it wrote, and what a read after it gives.
 #[derive(Drop)]
 pub struct RunEnd {
     pub status: Status,

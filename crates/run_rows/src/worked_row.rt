@@ -16,7 +16,7 @@ pub enum Written {
 /// A run of the program, on the scenario of all rows with some edits, and its end.
 #[derive(Clone, Copy)]
 pub struct Row {
-    /// What the row is there to show: its name, which is told where it fails.
+    /// What the row shows: its name, which a failure prints.
     pub shows: &'static str,
     pub words: &'static [&'static str],
     pub edits: &'static [Edit],
@@ -73,7 +73,7 @@ fn unlike(row: &Row, what: &str) -> Fail {
     Fail::new(format_args!("{}: {what}", row.shows))
 }
 
-/// A run ended as the row has it. What is unlike is told by what the row shows.
+/// Checks that a run ended as the row says. A difference is printed with what the row shows.
 fn is_like(ended: &RunEnd, row: &Row) -> Result<(), Fail> {
     if ended.status != row.status || ended.status.number() != row.number {
         return Err(Fail::new(format_args!("{}: ended with {:?}", row.shows, ended.status)));

@@ -26,7 +26,7 @@ use Rattle.scenario.specs.Inner.NoFaults.{HaveNoFault}
 use Rattle.scenario.specs.declared.basis.Basis.{Basis}
 use Rattle.scenario.specs.declared.purpose.Purpose.{Purpose}
 
--- what is told where the first of all tests comes out
+-- the result if the first of all tests finds a fault
 
 found_first : (test : Row → Option (Key × Cause)) (list : List Row) (result : Option (Key × Cause)) → result ≡ first_of (map test list) →
     IsFound (λ row told. told ≡ test row) list result
@@ -53,7 +53,7 @@ pub first_told : {A : Type 0} (test : Row → Option (Key × Cause)) (view : A �
 first_told test view list rows result e f =
     found_first test rows result (f ∙ ap first_of (seen_tests test view list) ∙ ap (λ l. first_of (map test l)) e)
 
--- keys that are none of formulas are told by their faults
+-- keys other than those of formulas are reported by their faults
 
 abbrev pub is_plain : Kind → Bool
 is_plain kind.FormulaName = false

@@ -13,7 +13,7 @@ use Rattle.scenario_keys.specs.IntegerFaults.{bounds_of, integer_cause, is_multi
 use Rattle.scenario_keys.specs.ToldFaults.{fault_by}
 use Rattle.scenario.specs.KeyFaults.{basis_of, counts, fault_in, fault_of, is_version_two, tick_of, tick_or_one}
 use Rattle.scenario.specs.Inner.NoFaults.{rows_by, HaveNoFault}
-use Rattle.scenario.specs.Inner.KnownKeys.{are_ticks, begins_with_the_tick, is_named, kind_at, kind_of, lies_in, may_lie_in, range_at, range_in}
+use Rattle.scenario.specs.Inner.KnownKeys.{are_ticks, begins_with_the_tick, is_named, kind_at, kind_of, least_in, lies_in, may_lie_in, most_in, range_at, range_in}
 use Rattle.scenario_keys.specs.declared.cause.Cause.{Cause}
 use Rattle.scenario_keys.specs.declared.cause.Cause.TheVariants as cause
 use Rattle.scenario_keys.specs.declared.key.Key.{Key}
@@ -90,7 +90,7 @@ holds_required bounds None e h =
     let f : missing_cause bounds.otherwise ≡ Some cause.Missing = rw e in cc
 holds_required bounds (Some found) e h = holds_found bounds found h
 
--- the row of a key has no fault where no row has one
+-- the row of a key has no fault if no row has one
 
 record Found (names : Row → Bool) (test : Row → Option (Key × Cause)) (here : Row) : Type 0 where
   named : names here ≡ true
@@ -251,7 +251,51 @@ unfolding integer_at
 known need_own document table name low high result within faultless e =
     told low high (found_in name (table_at table document)) result (lies need_own document table name low high within faultless) e
 
--- where the key's range begins with the tick
+-- the bounds of the range itself
+
+int_le-itself : (z : ℤ) → int_le z z ≡ true
+int_le-itself z = grind (arith, ints)
+
+both_itself : (y z : ℤ) → (int_le y y && int_le z z) ≡ true
+both_itself y z = rw (int_le-itself y, int_le-itself z) refl
+
+narrowest : (low high : ℤ) (r : Option Range) → lies_in low high r ≡ true → lies_in (least_in r) (most_in r) r ≡ true
+narrowest low high None h = cc
+narrowest low high (Some (range.FromTo least most)) h = both_itself least most
+narrowest low high (Some (range.FromTheTickTo most)) h = both_itself (pos 1) most
+narrowest low high (Some (range.TicksFromOneTo most)) h = both_itself (pos 1) most
+narrowest low high (Some (range.TicksTo most)) h = both_itself (pos 0) most
+narrowest low high (Some (range.Optional least most otherwise)) h = cc
+
+two_bounds : (low high least most : ℤ) → (int_le low least && int_le most high) ≡ true → (low ≤ℤ least) × (most ≤ℤ high)
+two_bounds low high least most h =
+    let (a, b) = and_parts (int_le low least) (int_le most high) h in
+    (int_le-true low least a, int_le-true most high b)
+
+pub lies_bounds : (low high : ℤ) (r : Option Range) → lies_in low high r ≡ true → (low ≤ℤ least_in r) × (most_in r ≤ℤ high)
+lies_bounds low high None h = cc
+lies_bounds low high (Some (range.FromTo least most)) h = two_bounds low high least most h
+lies_bounds low high (Some (range.FromTheTickTo most)) h = two_bounds low high (pos 1) most h
+lies_bounds low high (Some (range.TicksFromOneTo most)) h = two_bounds low high (pos 1) most h
+lies_bounds low high (Some (range.TicksTo most)) h = two_bounds low high (pos 0) most h
+lies_bounds low high (Some (range.Optional least most otherwise)) h = cc
+
+pub known_in_range : (need_own : Bool) (document : Members) (table name : List ℕ) (low high : ℤ) (result : Option ℤ) → lies_in low high (range_at (basis_of need_own document) table name) ≡ true → HaveNoFault need_own document →
+    result ≡ integer_at table name document →
+    MatchOption result ⊥ (λ n. (least_in (range_at (basis_of need_own document) table name) ≤ℤ n) × (n ≤ℤ most_in (range_at (basis_of need_own document) table name)))
+known_in_range need_own document table name low high result within faultless e =
+    let r = range_at (basis_of need_own document) table name in
+    known need_own document table name (least_in r) (most_in r) result (narrowest low high r within) faultless e
+
+pub natural_from : (z : ℤ) (n : ℕ) → pos 0 ≤ℤ z → z ≤ℤ pos n → unsigned_abs z ≤ n
+natural_from (pos m) n h k = omega (arith, ints)
+natural_from (negsuc m) n h k = omega (arith, ints)
+
+pub natural_to : (z : ℤ) (n : ℕ) → pos n ≤ℤ z → n ≤ unsigned_abs z
+natural_to (pos m) n h = omega (arith, ints)
+natural_to (negsuc m) n h = omega (arith, ints)
+
+-- if the key's range begins with the tick
 
 least_told : (bounds : Bounds) (found : Option Data) (result : Option ℤ) → Holds bounds found → result ≡ integer_found found → MatchOption result ⊥ (λ n. bounds.low ≤ℤ n)
 least_told bounds found None holds e = let f = e ∙ holds.is in cc
@@ -281,7 +325,7 @@ from_tick need_own document table name result begins faultless e =
       | Some of ↦ λ f h. from_tick_by need_own document table name of result f h faultless e
     ] refl begins
 
--- where the key holds multiples of the tick
+-- if the key holds multiples of the tick
 
 whole_told : (bounds : Bounds) (found : Option Data) (result : Option ℤ) → Holds bounds found → result ≡ integer_found found → MatchOption result ⊥ (λ n. unsigned_abs n % bounds.step ≡ 0)
 whole_told bounds found None holds e = let f = e ∙ holds.is in cc
@@ -313,36 +357,48 @@ in_ticks need_own document table name result ticks faultless e =
 
 -- a key that may be left out
 
-or_by : (low high otherwise other least most : ℤ) (found : Option Data) → ((int_le low least && int_le most high) && (int_le low otherwise && int_le otherwise high)) ≡ true →
+or_by : (otherwise other least most : ℤ) (found : Option Data) → (int_le least otherwise && int_le otherwise most) ≡ true →
     number_cause (record { low = least; high = most; step = 1; otherwise = Some other }) found ≡ None →
-    MatchOption (integer_or otherwise found) ⊥ (λ n. (low ≤ℤ n) × (n ≤ℤ high))
-or_by low high otherwise other least most None within h =
-    let (a, b) = and_parts (int_le low least && int_le most high) (int_le low otherwise && int_le otherwise high) within in
-    let (d, e) = and_parts (int_le low otherwise) (int_le otherwise high) b in
-    (int_le-true low otherwise d, int_le-true otherwise high e)
-or_by low high otherwise other least most (Some found) within h =
-    let bounds : Bounds = record { low = least; high = most; step = 1; otherwise = Some other } in
-    let (a, b) = and_parts (int_le low least && int_le most high) (int_le low otherwise && int_le otherwise high) within in
-    let (d, e) = and_parts (int_le low least) (int_le most high) a in
-    told low high (Some found) (as_integer found)
-    (narrower low high bounds (Some found) (int_le-true low least d) e (holds_found bounds found h)) refl
+    MatchOption (integer_or otherwise found) ⊥ (λ n. (least ≤ℤ n) × (n ≤ℤ most))
+or_by otherwise other least most None within h = two_bounds least most otherwise otherwise within
+or_by otherwise other least most (Some found) within h =
+    let holds = holds_found (record { low = least; high = most; step = 1; otherwise = Some other }) found h in
+    told least most (Some found) (as_integer found) (record { number = holds.number; is = holds.is; least = holds.least; most = holds.most }) refl
 
 or_at : (need_own : Bool) (document : Members) (table name : List ℕ) (low high otherwise : ℤ) (of : Range) → range_at (basis_of need_own document) table name ≡ Some of → may_lie_in low high otherwise (Some of) ≡ true → HaveNoFault need_own document →
-    MatchOption (integer_or otherwise (found_in name (table_at table document))) ⊥ (λ n. (low ≤ℤ n) × (n ≤ℤ high))
+    MatchOption (integer_or otherwise (found_in name (table_at table document))) ⊥ (λ n. (least_in (Some of) ≤ℤ n) × (n ≤ℤ most_in (Some of)))
 or_at need_own document table name low high otherwise (range.FromTo least most) is within faultless = cc
 or_at need_own document table name low high otherwise (range.FromTheTickTo most) is within faultless = cc
 or_at need_own document table name low high otherwise (range.TicksFromOneTo most) is within faultless = cc
 or_at need_own document table name low high otherwise (range.TicksTo most) is within faultless = cc
 or_at need_own document table name low high otherwise (range.Optional least most other) is within faultless =
-    or_by low high otherwise other least most (found_in name (table_at table document)) within (uncaused_at need_own document table name (range.Optional least most other) is faultless)
+    let (a, b) = and_parts (int_le low least && int_le most high) (int_le least otherwise && int_le otherwise most) within in
+    or_by otherwise other least most (found_in name (table_at table document)) b (uncaused_at need_own document table name (range.Optional least most other) is faultless)
 
 pub known_or : (need_own : Bool) (document : Members) (table name : List ℕ) (low high otherwise : ℤ) → may_lie_in low high otherwise (range_at (basis_of need_own document) table name) ≡ true → HaveNoFault need_own document →
-    MatchOption (integer_or otherwise (found_in name (table_at table document))) ⊥ (λ n. (low ≤ℤ n) × (n ≤ℤ high))
+    MatchOption (integer_or otherwise (found_in name (table_at table document))) ⊥
+    (λ n. (least_in (range_at (basis_of need_own document) table name) ≤ℤ n) × (n ≤ℤ most_in (range_at (basis_of need_own document) table name)))
 known_or need_own document table name low high otherwise within faultless =
-    elim (range_at (basis_of need_own document) table name) as (λ r. range_at (basis_of need_own document) table name ≡ r → may_lie_in low high otherwise r ≡ true → MatchOption (integer_or otherwise (found_in name (table_at table document))) ⊥ (λ n. (low ≤ℤ n) × (n ≤ℤ high))) [
+    elim (range_at (basis_of need_own document) table name) as (λ r. range_at (basis_of need_own document) table name ≡ r → may_lie_in low high otherwise r ≡ true →
+    MatchOption (integer_or otherwise (found_in name (table_at table document))) ⊥ (λ n. (least_in r ≤ℤ n) × (n ≤ℤ most_in r))) [
       | None ↦ λ f h. cc
       | Some of ↦ λ f h. or_at need_own document table name low high otherwise of f h faultless
     ] refl within
+
+pub optional_bounds : (low high otherwise : ℤ) (r : Option Range) → may_lie_in low high otherwise r ≡ true → (low ≤ℤ least_in r) × (most_in r ≤ℤ high)
+optional_bounds low high otherwise None h = cc
+optional_bounds low high otherwise (Some (range.FromTo least most)) h = cc
+optional_bounds low high otherwise (Some (range.FromTheTickTo most)) h = cc
+optional_bounds low high otherwise (Some (range.TicksFromOneTo most)) h = cc
+optional_bounds low high otherwise (Some (range.TicksTo most)) h = cc
+optional_bounds low high otherwise (Some (range.Optional least most other)) h =
+    let (a, b) = and_parts (int_le low least && int_le most high) (int_le least otherwise && int_le otherwise most) h in
+    two_bounds low high least most a
+
+pub wider : (low high least most : ℤ) (n : Option ℤ) → low ≤ℤ least → most ≤ℤ high → MatchOption n ⊥ (λ n. (least ≤ℤ n) × (n ≤ℤ most)) →
+    MatchOption n ⊥ (λ n. (low ≤ℤ n) × (n ≤ℤ high))
+wider low high least most None a b h = h
+wider low high least most (Some n) a b h = (≤ℤ_trans low least n a h.0, ≤ℤ_trans n most high h.1 b)
 
 -- the window's tick is the tick by which keys are tested
 
@@ -353,7 +409,7 @@ pub tick_is : (document : Members) (n : ℕ) → 1 ≤ n → n ≤ 60 → intege
 unfolding tick_of
 tick_is document n h k e = rw e (tick_known n h k)
 
--- a key without a fault where own ship is needed has none where she is not
+-- a key without a fault if own ship is needed has none if she is not
 
 same_fault : (need_own : Bool) (document : Members) (row : ℕ) (name : List ℕ) (here : Kind) (table : Result Members Cause) →
     fault_in (basis_of need_own document) row name here table ≡ fault_in (basis_of false document) row name here table

@@ -1,4 +1,4 @@
--- The tables of a list of which the known members are kept: they have the same faults and the same values.
+-- The tables of a list, reduced to their known members: they have the same faults and the same values.
 use Rattle.std.proofs.Common.{◌≡◌, ℕ, List, [], ◌∷◌, ◌++◌, map, length, Bool, true, false, ◌==◌, if◌then◌else◌, Option, Some, None, refl, ap, sym, ◌∙◌, subst, All, arith}
 use Rattle.std.specs.Prelude.{codes}
 use Rattle.std.specs.List.{list_any, position, position_or_len}

@@ -18,7 +18,7 @@ use Rattle.scenario_keys.specs.ToldFaults.{fault_listed}
 use Rattle.scenario.specs.KeyFaults.{basis_of, fault_in}
 use Rattle.scenario.specs.Shapes.{shape_fault}
 use Rattle.scenario.specs.Inner.NoFaults.{HaveNoFault}
-use Rattle.scenario.specs.Inner.KnownKeys.{fewest_of, kind_at, list_range_at, list_range_in, lists_lie_in}
+use Rattle.scenario.specs.Inner.KnownKeys.{fewest_in, fewest_of, high_in, kind_at, list_range_at, list_range_in, lists_lie_in, longest_in, low_in}
 use Rattle.scenario.specs.Inner.WithinBounds.{IsWithin}
 use Rattle.scenario.specs.declared.basis.Basis.{Basis}
 use Rattle.scenario_keys.specs.declared.cause.Cause.{Cause}
@@ -27,9 +27,9 @@ use Rattle.scenario_keys.specs.declared.rows.ListRange.{ListRange}
 use Rattle.scenario_keys.specs.declared.rows.Kind.{Kind}
 use Rattle.scenario_keys.specs.declared.rows.Kind.TheVariants as kind
 use Rattle.scenario_keys.proofs.Elements.{mapped_seen, seen_elements}
-use Rattle.scenario.proofs.Held.{faultless_at}
+use Rattle.scenario.proofs.Held.{faultless_at, natural_from, natural_to}
 
--- no element passes where none is first
+-- no element passes if none is first
 
 pub no_position : {A : Type 0} (p : A → Bool) (l : List A) → position p l ≡ None → length l ≤ position_or_len p l
 no_position p l h = grind (arith, nat_tests)
@@ -174,33 +174,34 @@ list_held_by need_own document table name range is faultless =
 pub nat_le-true : (m n : ℕ) → nat_le m n ≡ true → m ≤ n
 nat_le-true m n h = grind (arith, nat_tests)
 
+pub list_held : (need_own : Bool) (document : Members) (table name : List ℕ) (low high : ℤ) → lists_lie_in low high (list_range_at (basis_of need_own document) table name) ≡ true →
+    HaveNoFault need_own document →
+    (let r = list_range_at (basis_of need_own document) table name in ListHolds (fewest_in r) (longest_in r) (low_in r) (high_in r) (list_at table name document))
+list_held need_own document table name low high within faultless =
+    elim (list_range_at (basis_of need_own document) table name) as (λ r. list_range_at (basis_of need_own document) table name ≡ r → lists_lie_in low high r ≡ true →
+    ListHolds (fewest_in r) (longest_in r) (low_in r) (high_in r) (list_at table name document)) [
+      | None ↦ λ e h. cc
+      | Some range ↦ λ e h. list_held_by need_own document table name range e faultless
+    ] refl within
+
+pub list_bounds : (low high : ℤ) (r : Option ListRange) → lists_lie_in low high r ≡ true → (low ≤ℤ low_in r) × (high_in r ≤ℤ high)
+list_bounds low high None h = cc
+list_bounds low high (Some range) h =
+    let (a, b) = and_parts (int_le low range.low) (int_le range.high high) h in
+    (int_le-true low range.low a, int_le-true range.high high b)
+
 wider_element : (low high least most : ℤ) (n : Option ℤ) → low ≤ℤ least → most ≤ℤ high → MatchOption n ⊥ (λ n. (least ≤ℤ n) × (n ≤ℤ most)) →
     MatchOption n ⊥ (λ n. (low ≤ℤ n) × (n ≤ℤ high))
 wider_element low high least most None a b h = h
 wider_element low high least most (Some n) a b h = (≤ℤ_trans low least n a h.0, ≤ℤ_trans n most high h.1 b)
 
-pub list_held : (need_own : Bool) (document : Members) (table name : List ℕ) (fewest most : ℕ) (low high : ℤ) → lists_lie_in fewest most low high (list_range_at (basis_of need_own document) table name) ≡ true →
-    HaveNoFault need_own document → ListHolds fewest most low high (list_at table name document)
-list_held need_own document table name fewest most low high within faultless =
-    elim (list_range_at (basis_of need_own document) table name) as (λ r. list_range_at (basis_of need_own document) table name ≡ r → lists_lie_in fewest most low high r ≡ true →
-    ListHolds fewest most low high (list_at table name document)) [
-      | None ↦ λ e h. cc
-      | Some range ↦ λ e h. (
-          let (a, b) = and_parts (nat_le fewest (fewest_of range) && nat_le range.most most) (int_le low range.low && int_le range.high high) h in
-          let (c, d) = and_parts (nat_le fewest (fewest_of range)) (nat_le range.most most) a in
-          let (f, g) = and_parts (int_le low range.low) (int_le range.high high) b in
-          let held = list_held_by need_own document table name range e faultless in
-          let first = held.from in
-          let last = held.to in
-          let c2 = nat_le-true fewest (fewest_of range) c in
-          let d2 = nat_le-true range.most most d in
-          record {
-            from = omega arith;
-            to = omega arith;
-            all = λ k x lt. wider_element low high range.low range.high (as_integer (slice_index_or (list_at table name document) k x)) (int_le-true low range.low f) (int_le-true range.high high g)
-                (held.all k x lt);
-          })
-    ] refl within
+pub elements_within : (need_own : Bool) (document : Members) (table name : List ℕ) (low high : ℤ) → lists_lie_in low high (list_range_at (basis_of need_own document) table name) ≡ true →
+    HaveNoFault need_own document → All (IsWithin low high) (list_at table name document)
+elements_within need_own document table name low high within faultless =
+    let r = list_range_at (basis_of need_own document) table name in
+    let held = list_held need_own document table name low high within faultless in
+    let (a, b) = list_bounds low high r within in
+    λ k x lt. wider_element low high (low_in r) (high_in r) (as_integer (slice_index_or (list_at table name document) k x)) a b (held.all k x lt)
 
 -- the same of the values of an array
 
@@ -274,45 +275,53 @@ tables_held need_own document table name most is faultless =
 
 -- what the naturals of a list are
 
-natural_held : (least most : ℕ) (n : Option ℤ) → MatchOption n ⊥ (λ n. (pos least ≤ℤ n) × (n ≤ℤ pos most)) → (least ≤ natural_of n) × (natural_of n ≤ most)
-natural_held least most None h = absurd h
-natural_held least most (Some (pos n)) h = let a = h.0 in let b = h.1 in (omega (arith, ints), omega (arith, ints))
-natural_held least most (Some (negsuc n)) h = let a = h.0 in absurd (omega (arith, ints))
+natural_held : (low high : ℤ) (n : Option ℤ) → pos 0 ≤ℤ low → MatchOption n ⊥ (λ n. (low ≤ℤ n) × (n ≤ℤ high)) → (unsigned_abs low ≤ natural_of n) × (natural_of n ≤ unsigned_abs high)
+natural_held low high None from h = absurd h
+natural_held low high (Some (pos n)) from h = (natural_from low n from h.0, natural_to high n h.1)
+natural_held low high (Some (negsuc n)) from h = let a = h.0 in absurd (omega (arith, ints))
 
-pub naturals_held : (fewest most low high : ℕ) (list : List Data) → ListHolds fewest most (pos low) (pos high) list →
-    All (λ n. (low ≤ n) × (n ≤ high)) (map (λ d. natural_of (as_integer d)) list)
-naturals_held fewest most low high list held =
-    All-map (λ n. (low ≤ n) × (n ≤ high)) (λ d. natural_of (as_integer d)) list
-    (λ k d lt. natural_held low high (as_integer (slice_index_or list k d)) (held.all k d lt))
+naturals_held : (fewest most : ℕ) (low high : ℤ) (list : List Data) → pos 0 ≤ℤ low → ListHolds fewest most low high list →
+    All (λ n. (unsigned_abs low ≤ n) × (n ≤ unsigned_abs high)) (map (λ d. natural_of (as_integer d)) list)
+naturals_held fewest most low high list from held =
+    All-map (λ n. (unsigned_abs low ≤ n) × (n ≤ unsigned_abs high)) (λ d. natural_of (as_integer d)) list
+    (λ k d lt. natural_held low high (as_integer (slice_index_or list k d)) from (held.all k d lt))
 
-pub told : {E : Type 0} (fewest most low high : ℕ) (list : List Data) (result : Result (Vec ℕ Global) E) → ListHolds fewest most (pos low) (pos high) list →
+pub naturals_in_range : {E : Type 0} (fewest most : ℕ) (low high : ℤ) (list : List Data) (result : Result (Vec ℕ Global) E) → pos 0 ≤ℤ low → ListHolds fewest most low high list →
     IfOk result (λ v. v.items ≡ map (λ d. natural_of (as_integer d)) list) →
-    IfOk result (λ v. All (λ n. (low ≤ n) × (n ≤ high)) v.items) × IfOk result (λ v. fewest ≤ length v.items) × IfOk result (λ v. length v.items ≤ most)
-told fewest most low high list (Err e) held is = (tt, tt, tt)
-told fewest most low high list (Ok v) held is =
+    IfOk result (λ v. All (λ n. (unsigned_abs low ≤ n) × (n ≤ unsigned_abs high)) v.items) × IfOk result (λ v. fewest ≤ length v.items) × IfOk result (λ v. length v.items ≤ most)
+naturals_in_range fewest most low high list (Err e) from held is = (tt, tt, tt)
+naturals_in_range fewest most low high list (Ok v) from held is =
     let count : length v.items ≡ length list = ap length is ∙ length-map list (λ d. natural_of (as_integer d)) in
     let a = held.from in
     let b = held.to in
-    (subst (λ (l : List ℕ). All (λ n. (low ≤ n) × (n ≤ high)) l) (sym is) (naturals_held fewest most low high list held), omega arith, omega arith)
+    (subst (λ (l : List ℕ). All (λ n. (unsigned_abs low ≤ n) × (n ≤ unsigned_abs high)) l) (sym is) (naturals_held fewest most low high list from held), omega arith, omega arith)
 
--- what the integers of a list are, where none is further than this from 0
+-- what the integers of a list are
 
-integer_held : (size : ℕ) (n : Option ℤ) → MatchOption n ⊥ (λ n. ((neg_ℤ (pos size)) ≤ℤ n) × (n ≤ℤ pos size)) → unsigned_abs (integer_of n) ≤ size
-integer_held size None h = absurd h
-integer_held size (Some z) h = let a = h.0 in let b = h.1 in grind (arith, ints)
+integer_held : (low high : ℤ) (n : Option ℤ) → MatchOption n ⊥ (λ n. (low ≤ℤ n) × (n ≤ℤ high)) → (low ≤ℤ integer_of n) × (integer_of n ≤ℤ high)
+integer_held low high None h = absurd h
+integer_held low high (Some z) h = h
 
-pub integers_held : (fewest most : ℕ) (size : ℕ) (list : List Data) → ListHolds fewest most (neg_ℤ (pos size)) (pos size) list →
-    All (λ z. unsigned_abs z ≤ size) (map (λ d. integer_of (as_integer d)) list)
-integers_held fewest most size list held =
-    All-map (λ z. unsigned_abs z ≤ size) (λ d. integer_of (as_integer d)) list
-    (λ k d lt. integer_held size (as_integer (slice_index_or list k d)) (held.all k d lt))
-
-pub integers_told : {E : Type 0} (fewest most : ℕ) (size : ℕ) (list : List Data) (result : Result (Vec ℤ Global) E) → ListHolds fewest most (neg_ℤ (pos size)) (pos size) list →
+pub integers_in_range : {E : Type 0} (fewest most : ℕ) (low high : ℤ) (list : List Data) (result : Result (Vec ℤ Global) E) → ListHolds fewest most low high list →
     IfOk result (λ v. v.items ≡ map (λ d. integer_of (as_integer d)) list) →
-    IfOk result (λ v. All (λ z. unsigned_abs z ≤ size) v.items) × IfOk result (λ v. fewest ≤ length v.items) × IfOk result (λ v. length v.items ≤ most)
-integers_told fewest most size list (Err e) held is = (tt, tt, tt)
-integers_told fewest most size list (Ok v) held is =
+    IfOk result (λ v. All (λ z. (low ≤ℤ z) × (z ≤ℤ high)) v.items) × IfOk result (λ v. fewest ≤ length v.items) × IfOk result (λ v. length v.items ≤ most)
+integers_in_range fewest most low high list (Err e) held is = (tt, tt, tt)
+integers_in_range fewest most low high list (Ok v) held is =
     let count : length v.items ≡ length list = ap length is ∙ length-map list (λ d. integer_of (as_integer d)) in
     let a = held.from in
-    let b = held.to in
-    (subst (λ (l : List ℤ). All (λ z. unsigned_abs z ≤ size) l) (sym is) (integers_held fewest most size list held), omega arith, omega arith)
+    let b = held.to in (
+      subst (λ (l : List ℤ). All (λ z. (low ≤ℤ z) × (z ≤ℤ high)) l) (sym is)
+          (All-map (λ z. (low ≤ℤ z) × (z ≤ℤ high)) (λ d. integer_of (as_integer d)) list (λ k d lt. integer_held low high (as_integer (slice_index_or list k d)) (held.all k d lt))),
+      omega arith,
+      omega arith,
+    )
+
+-- integers between two numbers that are equally far from 0
+
+near_zero : (size : ℕ) (z : ℤ) → neg_ℤ (pos size) ≤ℤ z → z ≤ℤ pos size → unsigned_abs z ≤ size
+near_zero size z h k = grind (arith, ints)
+
+pub about_zero : {E : Type 0} (size : ℕ) (result : Result (Vec ℤ Global) E) → IfOk result (λ v. All (λ z. (neg_ℤ (pos size) ≤ℤ z) × (z ≤ℤ pos size)) v.items) →
+    IfOk result (λ v. All (λ z. unsigned_abs z ≤ size) v.items)
+about_zero size (Err e) h = tt
+about_zero size (Ok v) h = λ k d lt. near_zero size (slice_index_or v.items k d) (h k d lt).0 (h k d lt).1

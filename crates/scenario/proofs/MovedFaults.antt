@@ -87,7 +87,7 @@ kept_uncaused tick here kind.Formulas found e h = tt
 kept_uncaused tick here kind.PredictedShip found e h = tt
 kept_uncaused tick here kind.PredictedChanges found e h = tt
 
--- a key that the migrated document holds has no fault there, where what it holds has no cause
+-- a key that the migrated document holds has no fault there, if what it holds has no cause
 
 held_faultless : (basis : Basis) (document : Members) (here : Row) → is_key here.kind ≡ true → Held document here → HasNoCause basis.tick here.kind (new_value document here) →
     fault_in basis here.number here.name here.kind (table_at here.table (migrated document)) ≡ None

@@ -99,7 +99,7 @@ module _ (purpose : Purpose) (document : Members) where
       own_plain : list_all (λ (row : Row). is_plain row.kind) own_rows ≡ true
       own_plain = refl
 
-  -- Where a formula has a fault, it is the first of them; and where none has, they have a weight.
+  -- If a formula has a fault, it is the first of them; and if none has, they have a weight.
   formulas_told : (told : Told) × IsFound test formula_rows told
   unfolding formula_rows
   formulas_told = by (some_formula_fault (ranking_of purpose document) (tick_of document) (formula_tables document))
@@ -114,7 +114,7 @@ module _ (purpose : Purpose) (document : Members) where
   all_told : (told : Told) × IsFound test rows told
   all_told = found_append test first_rows (formula_rows ++ own_rows) first_told (found_append test formula_rows own_rows formulas_told own_told)
 
-  -- ---- what a document comes to
+  -- ---- what a document results in
 
   formulas_faultless : IsFaultless purpose document → IsFormulaFault (ranking_of purpose document) (tick_of document) (formula_tables document) None
   unfolding IsFaultless formula_rows
@@ -135,7 +135,7 @@ module _ (purpose : Purpose) (document : Members) where
       by (None, all) = inl all
       by (Some found, is) = inr (found, is)
 
--- ---- what bytes come to
+-- ---- what bytes result in
 
 only_meaning : (need_own : Bool) (bytes : List ℕ) (scenario : Scenario) → Means need_own bytes scenario → HasOneReading need_own bytes
 only_meaning need_own bytes scenario means = inl (

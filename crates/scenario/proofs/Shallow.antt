@@ -143,7 +143,7 @@ list_deep range (Some found) h =
           omega arith)
     ] refl h
 
--- lists of tables of which two members are kept
+-- lists of tables that are reduced to two members
 
 tables_deep : (most n : ℕ) (name : List ℕ) (found : Option Data) → tables_fault most found ≡ None → All (λ here. depth (known_members name here) ≤ n) (list_in (array_in found)) →
     (row : Row) → row.kind ≡ kind.Tables most → row.name ≡ name → IsDeep (suc n) (kept row found)
@@ -362,7 +362,7 @@ key_plain kind.Formulas h = cc
 key_plain kind.PredictedShip h = refl
 key_plain kind.PredictedChanges h = refl
 
--- the lists of tables are those of which members are known
+-- the lists of tables are those with known members
 
 abbrev pub IsKnownList : Members → Row → Type 0
 IsKnownList document here =

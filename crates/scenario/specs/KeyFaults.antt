@@ -17,7 +17,7 @@ use Rattle.scenario.specs.PlanFaults.{plans_cause, sizes_of}
 use Rattle.scenario.specs.Shapes.{shape_fault}
 use Rattle.scenario.specs.declared.basis.Basis.{Basis}
 
--- the seconds of a tick; 1 where there are none, since a key no later than the tick's then has a fault
+-- the seconds of a tick; 1 if there are none, since a key no later than the tick's then has a fault
 
 abbrev pub tick_or_one : Option ℤ → ℕ
 tick_or_one None = 1
@@ -27,7 +27,7 @@ tick_or_one (Some (negsuc n)) = 1
 unfoldable pub tick_of : Members → ℕ
 tick_of document = tick_or_one (integer_at (codes "window") (codes "tick") document)
 
--- whether the keys are those of version 2; where there is no version, no later key's fault is the first
+-- whether the keys are those of version 2; if there is no version, no later key's fault is the first
 
 abbrev pub is_two : Option ℤ → Bool
 is_two None = false
@@ -37,7 +37,7 @@ is_two (Some (negsuc n)) = false
 unfoldable pub is_version_two : Members → Bool
 is_version_two document = is_two (integer_at (codes "") (codes "version") document)
 
--- what the tests of all keys stand on, and whether a key is looked at
+-- what the tests of all keys depend on, and whether a key is checked
 
 abbrev pub basis_of : Bool → Members → Basis
 basis_of need_own document = record { tick = tick_of document; is_version_two = is_version_two document; need_own = need_own }
@@ -48,7 +48,7 @@ counts basis when.InVersionOne = not basis.is_version_two
 counts basis when.InVersionTwo = basis.is_version_two
 counts basis when.ForOwnShip = basis.need_own
 
--- the fault of a key that counts, by what stands in its table; none of those of formulas, which are told apart
+-- the fault of a key that counts, by what its table holds; none for keys of formulas, which are reported apart
 
 abbrev pub fault_in : Basis → ℕ → List ℕ → Kind → Result Members Cause → Option (Key × Cause)
 fault_in basis row name kind (Err cause) = fault_at row 0 cause

@@ -65,12 +65,12 @@ found_at table name document = found_in name (table_at table document)
 unfoldable pub has_own : Members → Bool
 has_own document = is_some (get_member (codes "own") document)
 
--- All that the document has counts: her keys, and ranks where it wants them.
+-- All that the document has counts: her keys, and ranks if it wants them.
 abbrev pub for_migration : Members → Purpose
 for_migration document = record { need_own = has_own document; ranks = Counted }
 
 -- What a key holds in version 2: each of the safe distances what `rules.safe` holds, `version` 2, and any other what it held. The
--- keys that count for own ship alone are left out where the document has none.
+-- keys that count for own ship alone are left out if the document has none.
 
 abbrev pub new_value_when : When → Row → Members → Option Data
 new_value_when when.InVersionTwo row document = found_at (codes "rules") (codes "safe") document
@@ -93,7 +93,7 @@ is_key _ = false
 abbrev pub is_key_of : List ℕ → Row → Bool
 is_key_of table row = is_key row.kind && bytes_eq row.table table
 
--- What a table holds at a name in version 2: the new value of the key that stands there, and nothing where none does.
+-- What a table holds at a name in version 2: the new value of the key that stands there, and nothing if none does.
 
 abbrev pub is_key_at : List ℕ → List ℕ → Row → Bool
 is_key_at table name row = is_key_of table row && bytes_eq name row.name
@@ -150,7 +150,7 @@ pub record IsOfVersionTwo (bytes : List ℕ) (key : Key) (why : Cause) : Type 0 
   pub at : key ≡ record { row = 1; item = 0 }
   pub because : why ≡ cause.Range
 
--- The first fault of the keys of another document, where all that it has counts.
+-- The first fault of the keys of another document, if all that it has counts.
 pub record HasFirstFault (bytes : List ℕ) (key : Key) (why : Cause) : Type 0 where
   pub document : Members
   pub reads : Reads bytes document
@@ -194,7 +194,7 @@ pub record HasSafePerKind (scenario other : Scenario) : Type 0 where
         own = scenario.own;
       }
 
--- The text means that scenario, where its rules are light enough together, and else it is refused for their weight.
+-- The text means that scenario, if its rules are light enough together, and otherwise it is refused for their weight.
 pub record MeansTheSame (need_own : Bool) (scenario : Scenario) (text : List ℕ) : Type 0 where
   pub other : Scenario
   pub same : HasSafePerKind scenario other

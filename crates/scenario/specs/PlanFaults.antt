@@ -15,7 +15,7 @@ sizes_of document = record {
   tail = natural_at (codes "own") (codes "tail") document;
 }
 
--- each is in its key's range; else an earlier key has a fault
+-- each is in its key's range; otherwise an earlier key has a fault
 abbrev pub are_in_range : PlanSizes → Bool
 are_in_range sizes =
     (nat_le sizes.courses 32 && nat_le sizes.speeds 16) && (nat_le sizes.legs 8 && (nat_le sizes.leg_ticks 7200 && nat_le sizes.tail 7200))

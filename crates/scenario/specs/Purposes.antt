@@ -11,7 +11,7 @@ abbrev pub purpose_by : Bool → Purpose
 purpose_by true = record { need_own = true; ranks = Ignored }
 purpose_by false = record { need_own = false; ranks = Counted }
 
--- The document wants ranks to count where its key of them is 1.
+-- The document wants ranks to count if its key of them is 1.
 
 abbrev pub is_one : Option ℤ → Bool
 is_one None = false
@@ -21,7 +21,7 @@ is_one (Some (negsuc n)) = false
 unfoldable pub wants_ranks : Members → Bool
 wants_ranks document = is_one (integer_at (codes "rules") (codes "ranks") document)
 
--- They count where the document wants them to, if they do for this purpose.
+-- They count if the document wants them to, if they do for this purpose.
 unfoldable pub ranking_of : Purpose → Members → Ranking
 ranking_of purpose document = if wants_ranks document then purpose.ranks else Ignored
 

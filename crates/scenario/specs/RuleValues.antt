@@ -38,6 +38,6 @@ rule_numbers_of document = record {
 unfoldable pub formula_tables : Members → List Data
 formula_tables document = list_at (codes "") (codes "formula") document
 
--- The rules are those of the COLREGs 1972 with these numbers, with ranks or without, and behind them the formulas of these tables.
+-- The rules are those of the COLREGs 1972 with these numbers, with ranks or without, followed by the formulas of these tables.
 abbrev pub AreRulesOf : Purpose → Members → List NamedTree → Type 0
 AreRulesOf purpose document rules = AreScenarioRules (ranking_of purpose document) (tick_of document) (rule_numbers_of document) (formula_tables document) rules

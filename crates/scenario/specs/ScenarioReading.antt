@@ -16,7 +16,7 @@ pub record Reads (bytes : List ℕ) (document : Members) : Type 0 where
   pub text : IsUtf8 bytes
   pub tree : parse_document bytes ≡ Some document
 
--- The bytes mean a scenario, with own ship where she is needed, and else with ranks where they want them: no key that counts has a
+-- The bytes mean a scenario, with own ship if she is needed, and otherwise with ranks if they want them: no key that counts has a
 -- fault, and the values are those at the keys.
 pub record Means (need_own : Bool) (bytes : List ℕ) (scenario : Scenario) : Type 0 where
   pub document : Members

@@ -1,4 +1,4 @@
--- The values of a scenario: the numbers at its keys. In which ranges they are is told where the values are.
+-- The values of a scenario: the numbers at its keys. Their ranges are stated where the values are defined.
 use Rattle.std.specs.Prelude.{ℕ, ◌*◌, ◌/◌, codes, List, Bool, true, false, Option, Some, None}
 use Rattle.toml.specs.Data.{Members}
 use Rattle.fixed_geometry.specs.Place.{Place}
@@ -93,7 +93,7 @@ own_of document = record {
   shape = shape_in (list_at (codes "own") (codes "shape") document);
 }
 
--- own ship, where she is needed
+-- own ship, if she is needed
 abbrev pub own_where : Bool → Members → Option OwnPart
 own_where false document = None
 own_where true document = Some (own_of document)

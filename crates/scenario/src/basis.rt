@@ -17,7 +17,7 @@ pub struct Basis {
     pub need_own: bool,
 }
 
-/// The seconds of a tick, or 1 where the document has none.
+/// The seconds of a tick, or 1 if the document has none.
 #[tactic(auto, unfolding(crate::specs::KeyFaults::tick_of))]
 pub(crate) fn tick_of(document: &Table) -> u32
     ensures value { result ≡ tick_of (table_view document.now) }
@@ -49,7 +49,7 @@ pub(crate) fn basis_of(document: &Table, need_own: bool) -> Basis
     }
 }
 
-/// Whether a key is looked at.
+/// Whether a key is checked.
 pub(crate) fn counts(basis: Basis, when: When) -> bool
     ensures { result ≡ counts basis when }
 {

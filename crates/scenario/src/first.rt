@@ -62,7 +62,8 @@ fn fault_of(basis: Basis, document: &Table, row: &KeyRow) -> Option<(Key, Cause)
 /// The fault of the first of some keys that has one.
 fn first_among(basis: Basis, document: &Table, rows: &[KeyRow]) -> Option<(Key, Cause)>
     requires { 1 ≤ basis.tick }
-    ensures { result ≡ first_of (map (λ row. fault_of basis (table_view document.now) (seen row)) rows.now) }
+    ensures { result ≡ first_of
+        (map (λ row. fault_of basis (table_view document.now) (seen row)) rows.now) }
 {
     for row in rows {
         if let Some(fault) = fault_of(basis, document, row) {
@@ -75,7 +76,8 @@ fn first_among(basis: Basis, document: &Table, rows: &[KeyRow]) -> Option<(Key, 
 /// The first fault of the keys before those of formulas.
 pub(crate) fn first_fault(basis: Basis, document: &Table) -> Option<(Key, Cause)>
     requires { 1 ≤ basis.tick }
-    ensures { (ranks : Ranking) → IsFound (IsTold basis ranks (table_view document.now)) first_rows result }
+    ensures { (ranks : Ranking)
+        → IsFound (IsTold basis ranks (table_view document.now)) first_rows result }
 {
     first_among(basis, document, first_rows())
 }
@@ -83,7 +85,8 @@ pub(crate) fn first_fault(basis: Basis, document: &Table) -> Option<(Key, Cause)
 /// The first fault of the keys of own ship.
 pub(crate) fn own_fault(basis: Basis, document: &Table) -> Option<(Key, Cause)>
     requires { 1 ≤ basis.tick }
-    ensures { (ranks : Ranking) → IsFound (IsTold basis ranks (table_view document.now)) own_rows result }
+    ensures { (ranks : Ranking)
+        → IsFound (IsTold basis ranks (table_view document.now)) own_rows result }
 {
     first_among(basis, document, own_rows())
 }

@@ -1,4 +1,4 @@
-//! Laws of scenarios, which stand over the definitions alone.
+//! Laws of scenarios, which follow from the definitions alone.
 ghost use Rattle.std.specs.Prelude.{◌≡◌, ℕ, List, Bool};
 ghost use Rattle.toml.specs.Data.{Members};
 ghost use Rattle.scenario.specs.Migration.{IsMigrated, IsMigratedDocument, MeansTheSame};
@@ -12,14 +12,15 @@ pub fn one_reading()
 {}
 
 /// Whatever text is the migration of some bytes means the scenario that they mean, with the one safe distance for each kind of encounter; or
-/// it is refused for the weight of its rules, where these are too heavy together.
+/// it is refused for the weight of its rules, if these are too heavy together.
 pub fn a_migrated_text_means_the_same()
-    ensures { (bytes text : List ℕ) (need_own : Bool) (scenario : Scenario) → IsMigrated bytes text → Means need_own bytes scenario →
-        MeansTheSame need_own scenario text }
+    ensures { (bytes text : List ℕ) (need_own : Bool) (scenario : Scenario) → IsMigrated bytes text
+        → Means need_own bytes scenario → MeansTheSame need_own scenario text }
 {}
 
 /// Whatever document stands in a scenario of version 1, there is exactly one document of version 2 that it becomes.
 pub fn one_migrated_document()
     ensures some { (document : Members) → (after : Members) × IsMigratedDocument document after }
-    ensures one { (document after other : Members) → IsMigratedDocument document after → IsMigratedDocument document other → after ≡ other }
+    ensures one { (document after other : Members) → IsMigratedDocument document after
+        → IsMigratedDocument document other → after ≡ other }
 {}

@@ -1,10 +1,10 @@
 //! The scenario of a run: its values, or the first fault in the order of its keys, from its TOML text.
 //!
-//! The keys stand in one table, that of `scenario_keys`. A document is tested row by row, and the first row with a fault is the
+//! The keys are listed in one table, in `scenario_keys`. A document is tested row by row, and the first row with a fault is the
 //! answer. The values are read after that and cannot fail.
 //!
-//! A scenario of `version = 3` and `tick = 0` is answered by `version: range`: that row stands first.
-//! How one key is judged has no place here: that is `scenario_keys`.
+//! A scenario of `version = 3` and `tick = 0` has the fault `version: range`: that row comes first.
+//! How one key is judged is out of scope: `scenario_keys` defines that.
 #![tactic(auto)]
 
 mod basis;

@@ -48,7 +48,7 @@ fn has_own(document: &Table) -> bool
     value(document, "own").is_some()
 }
 
-/// All that the document has counts: own ship's keys, and ranks where it wants them.
+/// All that the document has counts: own ship's keys, and ranks if it wants them.
 fn for_migration(document: &Table) -> Purpose
     ensures { result ≡ for_migration (table_view document.now) }
 {
@@ -60,7 +60,8 @@ fn for_migration(document: &Table) -> Purpose
 
 /// Puts a member to those that are there.
 fn put(alloc: Global, members: &mut Table, name: &str, value: Value) -> Result<(), AllocError>
-    ensures { OnOk result (table_view members.new ≡ with_member name.now (view value) (table_view members.old)) }
+    ensures { OnOk result
+        (table_view members.new ≡ with_member name.now (view value) (table_view members.old)) }
 {
     let name = String::from_str(alloc, name)?;
     members.insert(name, value)?;
@@ -74,7 +75,9 @@ fn put_found(
     name: &str,
     found: Option<&Value>,
 ) -> Result<(), AllocError>
-    ensures { OnOk result (table_view members.new ≡ with_found name.now (option_map (λ v. view v.now) found.entry) (table_view members.old)) }
+    ensures { OnOk result
+        (table_view members.new
+        ≡ with_found name.now (option_map (λ v. view v.now) found.entry) (table_view members.old)) }
 {
     match found {
         Some(found) => put(alloc, members, name, found.clone()?),
@@ -93,7 +96,7 @@ fn two_of(alloc: Global, here: &Value, first: &str, second: &str) -> Result<Valu
     Ok(Value::Table(members))
 }
 
-/// A table of `formula`, or else of `predict`, with its known members alone.
+/// A table of `formula`, or of `predict`, with its known members alone.
 fn known_members(alloc: Global, list: &str, here: &Value) -> Result<Value, AllocError>
     ensures { IfOk result (λ v. view v ≡ known_members list.now (view here.now)) }
 {
@@ -104,7 +107,8 @@ fn known_members(alloc: Global, list: &str, here: &Value) -> Result<Value, Alloc
 }
 
 fn known_tables(alloc: Global, list: &str, tables: &Array) -> Result<Array, AllocError>
-    ensures { IfOk result (λ a. map view a.items ≡ map (λ v. known_members list.now (view v)) tables.now.items) }
+    ensures { IfOk result
+        (λ a. map view a.items ≡ map (λ v. known_members list.now (view v)) tables.now.items) }
 {
     let mut known = Vec::new(alloc);
     for here in tables.iter() {
@@ -127,7 +131,10 @@ fn kept(alloc: Global, row: &KeyRow, found: &Value) -> Result<Value, AllocError>
 }
 
 fn kept_at(alloc: Global, document: &Table, row: &KeyRow) -> Result<Option<Value>, AllocError>
-    ensures { IfOk result (λ v. option_map view v ≡ kept (seen row.now) (found_at row.now.table.now row.now.name.now (table_view document.now))) }
+    ensures { IfOk result
+        (λ v. option_map view v
+        ≡ kept (seen row.now)
+        (found_at row.now.table.now row.now.name.now (table_view document.now))) }
 {
     match found(document, row.table, row.name) {
         Some(found) => Ok(Some(kept(alloc, row, found)?)),
@@ -137,7 +144,9 @@ fn kept_at(alloc: Global, document: &Table, row: &KeyRow) -> Result<Option<Value
 
 /// The safe distance of version 1.
 fn safe_at(document: &Table) -> Result<Option<Value>, AllocError>
-    ensures { IfOk result (λ v. option_map view v ≡ found_at (codes "rules") (codes "safe") (table_view document.now)) }
+    ensures { IfOk result
+        (λ v. option_map view v
+        ≡ found_at (codes "rules") (codes "safe") (table_view document.now)) }
 {
     match found(document, "rules", "safe") {
         Some(found) => Ok(Some(found.clone()?)),
@@ -148,7 +157,8 @@ fn safe_at(document: &Table) -> Result<Option<Value>, AllocError>
 /// What a key holds in version 2, if the document has something for it.
 #[tactic(auto, unfolding(crate::specs::Migration::new_value))]
 fn new_value(alloc: Global, document: &Table, row: &KeyRow) -> Result<Option<Value>, AllocError>
-    ensures { IfOk result (λ v. option_map view v ≡ new_value (table_view document.now) (seen row.now)) }
+    ensures { IfOk result
+        (λ v. option_map view v ≡ new_value (table_view document.now) (seen row.now)) }
 {
     match row.when {
         When::InVersionTwo => safe_at(document),
@@ -177,7 +187,9 @@ fn put_key(
     row: &KeyRow,
     members: &mut Table,
 ) -> Result<(), AllocError>
-    ensures { OnOk result (table_view members.new ≡ with_key (table_view document.now) table.now (seen row.now) (table_view members.old)) }
+    ensures { OnOk result
+        (table_view members.new
+        ≡ with_key (table_view document.now) table.now (seen row.now) (table_view members.old)) }
 {
     let is_key = matches!(
         row.kind,
@@ -199,7 +211,9 @@ fn with_keys(
     rows: &[KeyRow],
     members: Table,
 ) -> Result<Table, AllocError>
-    ensures { IfOk result (λ t. table_view t ≡ with_keys (table_view document.now) table.now (map seen rows.now) (table_view members)) }
+    ensures { IfOk result
+        (λ t. table_view t
+        ≡ with_keys (table_view document.now) table.now (map seen rows.now) (table_view members)) }
 {
     let mut members = members;
     for row in rows {
@@ -217,14 +231,16 @@ fn keys_of(alloc: Global, document: &Table, table: &str) -> Result<Table, AllocE
     with_keys(alloc, document, table, own_rows(), members)
 }
 
-/// Puts a table, if the document has it.
+/// Adds a table, if the document has it.
 fn put_table(
     alloc: Global,
     document: &Table,
     name: &str,
     members: &mut Table,
 ) -> Result<(), AllocError>
-    ensures { OnOk result (table_view members.new ≡ with_table (table_view document.now) name.now (table_view members.old)) }
+    ensures { OnOk result
+        (table_view members.new
+        ≡ with_table (table_view document.now) name.now (table_view members.old)) }
 {
     if value(document, name).is_none() {
         return Ok(());
@@ -239,7 +255,10 @@ fn with_tables(
     names: &[&str],
     members: Table,
 ) -> Result<Table, AllocError>
-    ensures { IfOk result (λ t. table_view t ≡ with_tables (table_view document.now) (map (λ name. name.now) names.now) (table_view members)) }
+    ensures { IfOk result
+        (λ t. table_view t
+        ≡ with_tables (table_view document.now) (map (λ name. name.now) names.now)
+        (table_view members)) }
 {
     let mut members = members;
     for name in names {
@@ -257,7 +276,7 @@ fn migrated(alloc: Global, document: &Table) -> Result<Table, AllocError>
     with_tables(alloc, document, &TABLES, members)
 }
 
-/// The text of a document. Its numbers and texts are no dates, so memory alone may run out.
+/// The text of a document. Its numbers and texts are no dates, so only memory may run out.
 fn text_of(alloc: Global, document: &Table) -> Result<Vec<u8>, ScenarioFault>
     requires { members_depth (table_view document.now) ≤ 5 }
     ensures printed { IfOk result (λ v. IsDocumentText false (table_view document.now) v.items) }
@@ -273,8 +292,10 @@ fn text_of(alloc: Global, document: &Table) -> Result<Vec<u8>, ScenarioFault>
 /// The text of version 2 of a document of version 1 without a fault.
 fn migrated_text(alloc: Global, document: &Table) -> Result<Vec<u8>, ScenarioFault>
     requires version_one { is_version_two (table_view document.now) ≡ false }
-    requires faultless { IsFaultless (for_migration (table_view document.now)) (table_view document.now) }
-    ensures printed { IfOk result (λ v. IsDocumentText false (migrated (table_view document.now)) v.items) }
+    requires faultless { IsFaultless (for_migration (table_view document.now))
+        (table_view document.now) }
+    ensures printed { IfOk result
+        (λ v. IsDocumentText false (migrated (table_view document.now)) v.items) }
     ensures read_again { IfOk result (λ v. Reads v.items (migrated (table_view document.now))) }
     ensures memory { IfErr result (λ fault. fault ≡ ScenarioFault.Memory) }
 {
@@ -295,17 +316,20 @@ fn migration(alloc: Global, bytes: &[u8]) -> Result<Vec<u8>, ScenarioFault>
     migrated_text(alloc, &document)
 }
 
-/// Turns a scenario of version 1 into one of version 2 with the same meaning, or tells exactly why it does not: it is of version 2
+/// Turns a scenario of version 1 into one of version 2 with the same meaning, or returns the exact reason why it does not: it is of version 2
 /// already, or it has a fault. Memory may run out instead.
 ///
-/// The text holds the known keys alone; comments are gone. Own ship's keys count where the scenario has them, and so do ranks. What is
-/// predicted of other vessels is kept with her alone. Each kind of encounter has the one safe distance that the scenario had. Where this makes
+/// The text holds only the known keys; comments are gone. Own ship's keys are kept if the scenario has them, and so are ranks. Predictions
+/// of other vessels are kept only with her. Each kind of encounter has the one safe distance that the scenario had. If this makes
 /// the rules too heavy, the text is refused as `formulas: product`.
 pub fn migrate(alloc: Global, bytes: &[u8]) -> Result<Vec<u8>, ScenarioFault>
     ensures migrated { IfOk result (λ text. IsMigrated bytes.now text.items) }
-    ensures same { IfOk result (λ text. (need_own : Bool) (scenario : Scenario) → Means need_own bytes.now scenario → MeansTheSame need_own scenario text.items) }
-    ensures refused { (key : Key) (cause : Cause) → result ≡ Err (ScenarioFault.Fault key cause) → IsNotMigrated bytes.now key cause }
-    // The same the other way round: memory alone is free.
+    ensures same { IfOk result
+        (λ text. (need_own : Bool) (scenario : Scenario) → Means need_own bytes.now scenario
+        → MeansTheSame need_own scenario text.items) }
+    ensures refused { (key : Key) (cause : Cause) → result ≡ Err (ScenarioFault.Fault key cause)
+        → IsNotMigrated bytes.now key cause }
+    // The converse: only out of memory needs no cause.
     ensures told { (key : Key) (cause : Cause) → IsNotMigrated bytes.now key cause
         → (result ≡ Err (ScenarioFault.Fault key cause)) ⊎ (result ≡ Err ScenarioFault.Memory) }
 {

@@ -1,4 +1,4 @@
-//! Own ship, and the plans among which a manoeuvre is sought.
+//! Own ship, and the plans among which a manoeuvre is searched for.
 ghost use Rattle.std.specs.Prelude.{◌≡◌, ◌≤◌, ◌*◌, neg_ℤ, pos, unsigned_abs, codes, length, map, All, IfOk, IfSome, true};
 ghost use Rattle.toml.specs.View.{table_view, view};
 ghost use Rattle.lattice.specs.Grids.{positions_of};
@@ -21,31 +21,35 @@ use toml::{Table, Value};
 #[tactic(auto, unfolding(crate::specs::Inner::KnownKeys::kind_at, scenario_keys::specs::ScenarioKeys::own_rows))]
 fn courses_in(alloc: Global, document: &Table) -> Result<Vec<i16>, AllocError>
     requires { HaveNoFault true (table_view document.now) }
-    ensures values { IfOk result (λ v. v.items ≡ integers_at (codes "own") (codes "courses") (table_view document.now)) }
+    ensures values { IfOk result
+        (λ v. v.items ≡ integers_at (codes "own") (codes "courses") (table_view document.now)) }
     ensures in_range { IfOk result (λ v. All (λ z. unsigned_abs z ≤ 1800) v.items) }
     ensures some { IfOk result (λ v. 1 ≤ length v.items) }
     ensures most { IfOk result (λ v. length v.items ≤ 32) }
 {
-    shorts(alloc, document, "own", "courses", 32, 1800)
+    shorts(alloc, document, "own", "courses")
 }
 
 #[tactic(auto, unfolding(crate::specs::Inner::KnownKeys::kind_at, scenario_keys::specs::ScenarioKeys::own_rows))]
 fn speeds_in(alloc: Global, document: &Table) -> Result<Vec<i16>, AllocError>
     requires { HaveNoFault true (table_view document.now) }
-    ensures values { IfOk result (λ v. v.items ≡ integers_at (codes "own") (codes "speeds") (table_view document.now)) }
+    ensures values { IfOk result
+        (λ v. v.items ≡ integers_at (codes "own") (codes "speeds") (table_view document.now)) }
     ensures in_range { IfOk result (λ v. All (λ z. unsigned_abs z ≤ 1022) v.items) }
     ensures some { IfOk result (λ v. 1 ≤ length v.items) }
     ensures most { IfOk result (λ v. length v.items ≤ 16) }
 {
-    shorts(alloc, document, "own", "speeds", 16, 1022)
+    shorts(alloc, document, "own", "speeds")
 }
 
 /// The lattice of these changes of course and of speed, with the other numbers of the document.
 #[tactic(auto, unfolding(crate::specs::ScenarioValues::grid_of, crate::specs::Inner::KnownKeys::kind_at, scenario_keys::specs::ScenarioKeys::own_rows))]
 fn lattice_of(alloc: Global, document: &Table, courses: &[i16], speeds: &[i16]) -> Lattice
     requires faultless { HaveNoFault true (table_view document.now) }
-    requires courses { courses.now ≡ integers_at (codes "own") (codes "courses") (table_view document.now) }
-    requires speeds { speeds.now ≡ integers_at (codes "own") (codes "speeds") (table_view document.now) }
+    requires courses { courses.now
+        ≡ integers_at (codes "own") (codes "courses") (table_view document.now) }
+    requires speeds { speeds.now
+        ≡ integers_at (codes "own") (codes "speeds") (table_view document.now) }
     requires some_courses { 1 ≤ length courses.now }
     requires few_courses { length courses.now ≤ 32 }
     requires course_changes { All (λ z. unsigned_abs z ≤ 1800) courses.now }
@@ -55,11 +59,11 @@ fn lattice_of(alloc: Global, document: &Table, courses: &[i16], speeds: &[i16]) 
     ensures value { result ≡ grid_of (table_view document.now) }
     ensures time { positions_of result * tick_of (table_view document.now) ≤ 7200 }
 {
-    let legs = natural(document, "own", "legs", 1, 8);
-    let leg_ticks = natural(document, "own", "leg_ticks", 1, 7200);
-    let tail = natural(document, "own", "tail", 0, 7200);
-    let turn_rate = optional(document, "own", "turn_rate", 1, 1800, 1800);
-    let speed_rate = optional(document, "own", "speed_rate", 1, 1022, 1022);
+    let legs = natural(document, "own", "legs");
+    let leg_ticks = natural(document, "own", "leg_ticks");
+    let tail = natural(document, "own", "tail");
+    let turn_rate = optional(document, "own", "turn_rate", 1800);
+    let speed_rate = optional(document, "own", "speed_rate", 1022);
     Lattice::new(
         alloc,
         courses,
@@ -82,10 +86,11 @@ fn lattice_in(alloc: Global, document: &Table) -> Result<Lattice, AllocError>
     Ok(lattice_of(alloc, document, &courses, &speeds))
 }
 
-/// The tables of `predict`, none where it is left out.
+/// The tables of `predict`, none if it is left out.
 fn predict_tables(document: &Table) -> &[Value]
     requires { HaveNoFault true (table_view document.now) }
-    ensures tables { map view result.now ≡ list_at (codes "") (codes "predict") (table_view document.now) }
+    ensures tables { map view result.now
+        ≡ list_at (codes "") (codes "predict") (table_view document.now) }
     ensures few { length result.now ≤ 64 }
 {
     values_at(document, "predict")
@@ -94,8 +99,11 @@ fn predict_tables(document: &Table) -> &[Value]
 /// What is predicted of other vessels.
 fn predictions_in(alloc: Global, document: &Table) -> Result<Predictions, AllocError>
     requires { HaveNoFault true (table_view document.now) }
-    ensures values { IfOk result (λ p. p ≡ predictions_of (list_at (codes "") (codes "predict") (table_view document.now))) }
-    ensures in_range { IfOk result (ArePredictions (tick_of (table_view document.now)) (natural_at (codes "own") (codes "mmsi") (table_view document.now))) }
+    ensures values { IfOk result
+        (λ p. p ≡ predictions_of (list_at (codes "") (codes "predict") (table_view document.now))) }
+    ensures in_range { IfOk result
+        (ArePredictions (tick_of (table_view document.now))
+        (natural_at (codes "own") (codes "mmsi") (table_view document.now))) }
 {
     predictions_of(alloc, predict_tables(document))
 }
@@ -106,17 +114,19 @@ fn own_with(document: &Table, lattice: Lattice, predict: Predictions) -> OwnPart
     requires faultless { HaveNoFault true (table_view document.now) }
     requires lattice { lattice ≡ grid_of (table_view document.now) }
     requires time { positions_of lattice * tick_of (table_view document.now) ≤ 7200 }
-    requires predict { predict ≡ predictions_of (list_at (codes "") (codes "predict") (table_view document.now)) }
-    requires predicted { ArePredictions (tick_of (table_view document.now)) (natural_at (codes "own") (codes "mmsi") (table_view document.now)) predict }
+    requires predict { predict
+        ≡ predictions_of (list_at (codes "") (codes "predict") (table_view document.now)) }
+    requires predicted { ArePredictions (tick_of (table_view document.now))
+        (natural_at (codes "own") (codes "mmsi") (table_view document.now)) predict }
     ensures values { result ≡ own_of (table_view document.now) }
     ensures in_range { IsOwnPart (tick_of (table_view document.now)) result }
 {
     OwnPart {
-        mmsi: natural(document, "own", "mmsi", 200_000_000, 799_999_999),
+        mmsi: natural(document, "own", "mmsi"),
         lattice,
-        base: natural(document, "own", "base", 0, 100_000),
-        lengths: natural(document, "own", "lengths", 0, 100),
-        range: natural(document, "own", "range", 1, 100_000),
+        base: natural(document, "own", "base"),
+        lengths: natural(document, "own", "lengths"),
+        range: natural(document, "own", "range"),
         predict,
         shape: shape_at(document),
     }
@@ -133,7 +143,7 @@ fn own_in(alloc: Global, document: &Table) -> Result<OwnPart, AllocError>
     Ok(own_with(document, lattice, predict))
 }
 
-/// Own ship of a document without a fault, where she is needed.
+/// Own ship of a document without a fault, if she is needed.
 pub(crate) fn own_where(
     alloc: Global,
     document: &Table,

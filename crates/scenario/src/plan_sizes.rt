@@ -20,7 +20,7 @@ pub struct PlanSizes {
     pub tail: u64,
 }
 
-/// A number of own ship, 0 where there is none.
+/// A number of own ship, 0 if there is none.
 pub(crate) fn natural_at(document: &Table, name: &str) -> u64
     ensures { result ≡ natural_at (codes "own") name.now (table_view document.now) }
 {

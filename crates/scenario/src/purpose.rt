@@ -10,13 +10,13 @@ use toml::Table;
 /// What a scenario is read for: what of it counts.
 #[derive(Clone, Copy, PartialEq, Eq)]
 pub struct Purpose {
-    /// Whether own ship is needed. Her keys are looked at only then.
+    /// Whether own ship is needed. Her keys are checked only then.
     pub need_own: bool,
-    /// Whether ranks count, where the document wants them to.
+    /// Whether ranks count, if the document wants them to.
     pub ranks: Ranking,
 }
 
-/// To seek a manoeuvre of own ship, where she is needed; and else to judge vessels, by their ranks too.
+/// To search for a manoeuvre of own ship, if she is needed; otherwise to judge vessels, by their ranks too.
 pub(crate) fn purpose_by(need_own: bool) -> Purpose
     ensures { result ≡ purpose_by need_own }
 {

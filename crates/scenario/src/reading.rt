@@ -69,13 +69,14 @@ fn reading(alloc: Global, bytes: &[u8], need_own: bool) -> Result<Scenario, Scen
 /// Reads a scenario: its values, each in its range, or exactly the first fault in the order of the table of keys. Memory
 /// may run out instead.
 ///
-/// Own ship is there exactly where she is needed, and only then her keys are looked at. Ranks count exactly where she is not and the
+/// Own ship is there exactly if she is needed, and only then her keys are checked. Ranks count exactly if she is not and the
 /// scenario wants them to.
 pub fn read(alloc: Global, bytes: &[u8], need_own: bool) -> Result<Scenario, ScenarioFault>
     ensures values { IfOk result (Means need_own bytes.now) }
     ensures in_range { IfOk result IsInRange }
-    ensures refused { (key : Key) (cause : Cause) → result ≡ Err (ScenarioFault.Fault key cause) → IsRefused need_own bytes.now key cause }
-    // The same the other way round: memory alone is free.
+    ensures refused { (key : Key) (cause : Cause) → result ≡ Err (ScenarioFault.Fault key cause)
+        → IsRefused need_own bytes.now key cause }
+    // The converse: only out of memory needs no cause.
     ensures meant { (scenario : Scenario) → Means need_own bytes.now scenario
         → (result ≡ Ok scenario) ⊎ (result ≡ Err ScenarioFault.Memory) }
     ensures told { (key : Key) (cause : Cause) → IsRefused need_own bytes.now key cause

@@ -30,13 +30,13 @@ fn safe_in(document: &Table) -> Safe
 {
     if is_version_two(document) {
         Safe::PerKind {
-            head_on: natural(document, "rules", "safe_head_on", 1, 100_000),
-            overtaking: natural(document, "rules", "safe_overtaking", 1, 100_000),
-            crossing: natural(document, "rules", "safe_crossing", 1, 100_000),
-            other: natural(document, "rules", "safe_other", 1, 100_000),
+            head_on: natural(document, "rules", "safe_head_on"),
+            overtaking: natural(document, "rules", "safe_overtaking"),
+            crossing: natural(document, "rules", "safe_crossing"),
+            other: natural(document, "rules", "safe_other"),
         }
     } else {
-        Safe::One(natural(document, "rules", "safe", 1, 100_000))
+        Safe::One(natural(document, "rules", "safe"))
     }
 }
 
@@ -48,17 +48,17 @@ fn rule_numbers_in(document: &Table) -> RuleNumbers
 {
     RuleNumbers {
         safe: safe_in(document),
-        overtake: natural(document, "rules", "overtake", 1, 100_000),
-        close: natural(document, "rules", "close", 1, 100_000),
-        t8: natural(document, "rules", "t8", 0, 7200),
-        ta: natural(document, "rules", "ta", 0, 7200),
-        tl: natural(document, "rules", "tl", 0, 7200),
-        tw: natural(document, "rules", "tw", 0, 7200),
-        te: natural(document, "rules", "te", 0, 7200),
+        overtake: natural(document, "rules", "overtake"),
+        close: natural(document, "rules", "close"),
+        t8: natural(document, "rules", "t8"),
+        ta: natural(document, "rules", "ta"),
+        tl: natural(document, "rules", "tl"),
+        tw: natural(document, "rules", "tw"),
+        te: natural(document, "rules", "te"),
     }
 }
 
-/// The tables of `formula`, none where it is left out.
+/// The tables of `formula`, none if it is left out.
 fn formula_tables(document: &Table) -> &[Value]
     requires { HaveNoFault false (table_view document.now) }
     ensures tables { map view result.now ≡ formula_tables (table_view document.now) }
@@ -76,10 +76,16 @@ pub(crate) fn rules_in(
     requires { HaveNoFault false (table_view document.now) }
     ensures rules { IfOk result (AreRulesOf purpose (table_view document.now)) }
     ensures light { IfOk result AreLightRules }
-    ensures faultless { OnOk result ((need_own : Bool)
-        → IsFound (IsTold (basis_of need_own (table_view document.now)) (ranking_of purpose (table_view document.now)) (table_view document.now)) formula_rows None) }
-    ensures fault { IfErr result (IfFault (λ told. (need_own : Bool)
-        → IsFound (IsTold (basis_of need_own (table_view document.now)) (ranking_of purpose (table_view document.now)) (table_view document.now)) formula_rows (Some told))) }
+    ensures faultless { OnOk result
+        ((need_own : Bool)
+        → IsFound (IsTold (basis_of need_own (table_view document.now))
+        (ranking_of purpose (table_view document.now)) (table_view document.now)) formula_rows
+        None) }
+    ensures fault { IfErr result
+        (IfFault (λ told. (need_own : Bool)
+        → IsFound (IsTold (basis_of need_own (table_view document.now))
+        (ranking_of purpose (table_view document.now)) (table_view document.now)) formula_rows
+        (Some told))) }
 {
     rules_with(
         alloc,

@@ -12,7 +12,7 @@ use scenario_keys::{Cause, element_count, integer_of, is_integer_list, length_fa
 use toml::value::Array;
 use toml::{Table, Value};
 
-/// The vertex of two integers, where neither is farther than 2000 from 0.
+/// The vertex of two integers, if neither is farther than 2000 from 0.
 fn near_vertex(forward: i64, starboard: i64) -> Option<(i32, i32)>
     ensures { result ≡ near_vertex (forward, starboard) }
 {

@@ -1,9 +1,10 @@
 //! The values of a scenario, from a document without a fault.
-ghost use Rattle.std.specs.Prelude.{◌≡◌, ◌≤◌, ◌*◌, ◌/◌, codes, pos, length, unsigned_abs, All, IfOk, IfSome, false, true};
+ghost use Rattle.std.specs.Prelude.{◌≡◌, ◌≤◌, ◌*◌, ◌/◌, codes, length, unsigned_abs, All, IfOk, IfSome, Some, false};
 ghost use Rattle.toml.specs.View.{table_view};
 ghost use Rattle.ais_messages.specs.ShipIdentities.{IsShip};
-ghost use Rattle.scenario.specs.Inner.KnownKeys.{is_own, lies_in, range_at};
+ghost use Rattle.scenario.specs.Inner.KnownKeys.{is_own, kind_at};
 ghost use Rattle.scenario_keys.specs.KeyValues.{natural_at, naturals_at, whole_at};
+ghost use Rattle.scenario_keys.specs.ScenarioKeys.{metres};
 ghost use Rattle.scenario.specs.KeyFaults.{basis_of, tick_of};
 ghost use Rattle.scenario.specs.Inner.NoFaults.{HaveNoFault};
 ghost use Rattle.scenario_values.specs.LightRules.{AreLightRules};
@@ -11,8 +12,8 @@ ghost use Rattle.scenario.specs.ScenarioValues.{act_of, detect_of, log_numbers_o
 ghost use Rattle.scenario_values.specs.ValueRanges.{AreActNumbers, AreDetectNumbers, AreLogNumbers, IsInRange, IsOwnPart, IsWindow};
 
 use crate::basis::tick_of;
-use crate::integers::{integer, long_natural, natural, optional, short_natural};
-use crate::listed::{ListBounds, naturals};
+use crate::integers::{long_natural, natural, optional, short_natural, small_integer};
+use crate::listed::naturals;
 use crate::own_part::own_where;
 use crate::purpose::{Purpose, are_counted, ranking_of};
 use encounters::{Act, Detect};
@@ -31,9 +32,9 @@ fn window_in(document: &Table) -> Window
     ensures tick { tick_of (table_view document.now) ≡ result.tick }
 {
     Window {
-        start: long_natural(document, "window", "start", 9_999_999_999),
-        tick: natural(document, "window", "tick", 1, 60),
-        ticks: natural(document, "window", "ticks", 1, 20_000),
+        start: long_natural(document, "window", "start"),
+        tick: natural(document, "window", "tick"),
+        ticks: natural(document, "window", "ticks"),
     }
 }
 
@@ -43,7 +44,7 @@ fn latitude_in(document: &Table) -> i32
     ensures value { result ≡ whole_at (codes "reference") (codes "lat") (table_view document.now) }
     ensures in_range { unsigned_abs result ≤ 45000000 }
 {
-    integer(document, "reference", "lat", -45_000_000, 45_000_000) as i32
+    small_integer(document, "reference", "lat")
 }
 
 #[tactic(auto, unfolding(crate::specs::Inner::KnownKeys::kind_at, scenario_keys::specs::ScenarioKeys::first_rows))]
@@ -52,7 +53,7 @@ fn longitude_in(document: &Table) -> i32
     ensures value { result ≡ whole_at (codes "reference") (codes "lon") (table_view document.now) }
     ensures in_range { unsigned_abs result ≤ 108000000 }
 {
-    integer(document, "reference", "lon", -108_000_000, 108_000_000) as i32
+    small_integer(document, "reference", "lon")
 }
 
 #[tactic(auto, unfolding(crate::specs::ScenarioValues::reference_of))]
@@ -70,10 +71,10 @@ fn log_numbers_in(document: &Table) -> LogNumbers
     ensures in_range { AreLogNumbers (tick_of (table_view document.now)) result }
 {
     LogNumbers {
-        gap: natural(document, "log", "gap", 1, 3600),
-        slack: natural(document, "log", "slack", 0, 3600),
-        max_speed: short_natural(document, "log", "max_speed", 1, 1022),
-        max_bytes: u64::from(optional(document, "log", "max_bytes", 1, 1 << 30, 1 << 30)),
+        gap: natural(document, "log", "gap"),
+        slack: natural(document, "log", "slack"),
+        max_speed: short_natural(document, "log", "max_speed"),
+        max_bytes: u64::from(optional(document, "log", "max_bytes", 1 << 30)),
     }
 }
 
@@ -81,12 +82,13 @@ fn log_numbers_in(document: &Table) -> LogNumbers
 #[tactic(auto, unfolding(crate::specs::ScenarioValues::units_at))]
 fn units(document: &Table, table: &str, name: &str) -> u64
     requires faultless { HaveNoFault (is_own table.now) (table_view document.now) }
-    requires known { lies_in (pos 1) (pos 100000) (range_at (basis_of (is_own table.now) (table_view document.now)) table.now name.now) ≡ true }
+    requires known { kind_at
+        (basis_of (is_own table.now) (table_view document.now)) table.now name.now ≡ Some metres }
     ensures value { result ≡ units_at table.now name.now (table_view document.now) }
     ensures least { 10000 ≤ result }
     ensures most { result ≤ 1000000000 }
 {
-    u64::from(natural(document, table, name, 1, 100_000)) * 10_000
+    u64::from(natural(document, table, name)) * 10_000
 }
 
 /// The number of ticks in some seconds, at least one.
@@ -104,15 +106,14 @@ fn ticks_in(seconds: u32, tick: u32) -> u32
 #[tactic(auto, unfolding(crate::specs::Inner::KnownKeys::kind_at, scenario_keys::specs::ScenarioKeys::first_rows))]
 fn horizon_in(document: &Table) -> u32
     requires { HaveNoFault false (table_view document.now) }
-    ensures value { result ≡ natural_at (codes "detect") (codes "horizon") (table_view document.now) / tick_of (table_view document.now) }
+    ensures value { result
+        ≡ natural_at (codes "detect") (codes "horizon") (table_view document.now)
+        / tick_of (table_view document.now) }
     ensures some { 1 ≤ result }
     ensures time { result * tick_of (table_view document.now) ≤ 7200 }
     ensures most { result ≤ 7200 }
 {
-    ticks_in(
-        natural(document, "detect", "horizon", 1, 7200),
-        tick_of(document),
-    )
+    ticks_in(natural(document, "detect", "horizon"), tick_of(document))
 }
 
 #[tactic(auto, unfolding(crate::specs::ScenarioValues::detect_of, crate::specs::Inner::KnownKeys::kind_at, scenario_keys::specs::ScenarioKeys::first_rows))]
@@ -127,9 +128,9 @@ fn detect_in(document: &Table) -> Detect
         clear: units(document, "detect", "clear"),
         horizon: horizon_in(document),
         angles: Angles {
-            doubt: short_natural(document, "detect", "doubt", 0, 1124),
-            ahead: short_natural(document, "detect", "ahead", 0, 900),
-            reciprocal: short_natural(document, "detect", "reciprocal", 0, 900),
+            doubt: short_natural(document, "detect", "doubt"),
+            ahead: short_natural(document, "detect", "ahead"),
+            reciprocal: short_natural(document, "detect", "reciprocal"),
         },
     }
 }
@@ -141,27 +142,22 @@ fn act_in(document: &Table) -> Act
     ensures in_range { AreActNumbers result }
 {
     Act {
-        steady_turn: short_natural(document, "act", "steady_turn", 0, 1800),
-        apparent_turn: short_natural(document, "act", "apparent_turn", 1, 1800),
-        steady_speed: short_natural(document, "act", "steady_speed", 0, 1022),
-        apparent_speed: short_natural(document, "act", "apparent_speed", 1, 1022),
+        steady_turn: short_natural(document, "act", "steady_turn"),
+        apparent_turn: short_natural(document, "act", "apparent_turn"),
+        steady_speed: short_natural(document, "act", "steady_speed"),
+        apparent_speed: short_natural(document, "act", "apparent_speed"),
     }
 }
 
 #[tactic(auto, unfolding(crate::specs::Inner::KnownKeys::kind_at, scenario_keys::specs::ScenarioKeys::first_rows))]
 fn subjects_in(alloc: Global, document: &Table) -> Result<Subjects, AllocError>
     requires { HaveNoFault false (table_view document.now) }
-    ensures values { IfOk result (λ s. s ≡ naturals_at (codes "") (codes "subjects") (table_view document.now)) }
+    ensures values { IfOk result
+        (λ s. s ≡ naturals_at (codes "") (codes "subjects") (table_view document.now)) }
     ensures in_range { IfOk result (All IsShip) }
     ensures few { IfOk result (λ s. length s ≤ 64) }
 {
-    let ships = ListBounds {
-        fewest: 0,
-        most: 64,
-        low: 200_000_000,
-        high: 799_999_999,
-    };
-    let list = naturals(alloc, document, "", "subjects", ships)?;
+    let list = naturals(alloc, document, "", "subjects")?;
     Ok(Subjects::new(list))
 }
 
@@ -176,7 +172,8 @@ fn with_lists(
 ) -> Scenario
     requires faultless { HaveNoFault false (table_view document.now) }
     requires rules { AreLightRules rules }
-    requires subjects { subjects ≡ naturals_at (codes "") (codes "subjects") (table_view document.now) }
+    requires subjects { subjects
+        ≡ naturals_at (codes "") (codes "subjects") (table_view document.now) }
     requires ships { All IsShip subjects }
     requires few { length subjects ≤ 64 }
     requires own { IfSome own (IsOwnPart (tick_of (table_view document.now))) }

@@ -1,4 +1,5 @@
--- Lemmas for the crates above: the first fault that the tests of a list find, and lists of which something holds.
+-- Lemmas for the crates above: the first fault that the tests of a list find, and lists whose items all have a
+-- property.
 use Rattle.std.proofs.Common.{◌≡◌, ◌⊎◌, inl, inr, suc, List, [], ◌∷◌, ◌++◌, Option, Some, None, refl, ap, ◌∙◌, subst, All, arith}
 use Rattle.std.proofs.lemmas.List.Elements.{All-cons}
 use Rattle.scenario_keys.specs.FirstFaults.{IsFirst, IsFound}
@@ -72,7 +73,7 @@ first_ahead test a b found is = record {
   faulty = is.faulty;
 }
 
--- what the tests of a list find is one, where each test finds one thing
+-- what the tests of a list find is one, if each test finds one thing
 
 first_of_none : {A F : Type 0} (test : A → Option F → Type 0) (found : F) → IsFirst test [] found → ⊥
 first_of_none test found is = no_split is.before is.here is.after is.order
@@ -132,7 +133,7 @@ one_found test single list None (Some b) h k = absurd (never_both test single li
 one_found test single list (Some a) None h k = absurd (never_both test single list a k h)
 one_found test single list (Some a) (Some b) h k = ap (λ f. Some f) (one_first test single list a b h k)
 
--- and where each test finds something, so do those of a list
+-- and if each test finds something, so do those of a list
 
 pub some_found : {A F : Type 0} (test : A → Option F → Type 0) (list : List A) → All (λ here. (told : Option F) × test here told) list → (told : Option F) × IsFound test list told
 some_found test [] each = (None, all_none (λ here. test here None))
@@ -151,7 +152,7 @@ found_append test a b (Some found, is) rest = (Some found, first_ahead test a b 
 found_append test a b (None, all) (None, more) = (None, all_append (λ here. test here None) a b all more)
 found_append test a b (None, all) (Some found, is) = (Some found, first_behind test a b found all is)
 
--- what holds of a fault that is told
+-- what holds of a reported fault
 
 pub faults_alike : (P Q : Key × Cause → Type 0) → ((told : Key × Cause) → P told → Q told) → (fault : ScenarioFault) → IfFault P fault → IfFault Q fault
 faults_alike P Q f (refusal.Fault key why) h = f (key, why) h

@@ -14,7 +14,7 @@ abbrev pub IsFound : {A F : Type 0} → (A → Option F → Type 0) → List A �
 IsFound test list None = All (λ here. test here None) list
 IsFound test list (Some found) = IsFirst test list found
 
--- each element of a list behind these, with all those before it
+-- each element of a list after these, with all those before it
 
 abbrev pub with_before : {A : Type 0} → List A → List A → List (List A × A)
 with_before before [] = []

@@ -7,7 +7,7 @@ use Rattle.scenario_keys.specs.declared.numbers.Bounds.{Bounds}
 use Rattle.scenario_keys.specs.declared.cause.Cause.{Cause}
 use Rattle.scenario_keys.specs.declared.cause.Cause.TheVariants as cause
 
--- the integers of a range, at a tick of so many seconds
+-- the integers of a range, at a tick of this many seconds
 
 abbrev pub bounds_of : ℕ → Range → Bounds
 bounds_of tick (range.FromTo low high) = record { low = low; high = high; step = 1; otherwise = None }

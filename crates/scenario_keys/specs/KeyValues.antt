@@ -5,7 +5,7 @@ use Rattle.scenario_keys.specs.ListFaults.{elements}
 use Rattle.scenario_keys.specs.declared.cause.Cause.{Cause}
 use Rattle.scenario_keys.specs.declared.cause.Cause.TheVariants as cause
 
--- the table of a name, and the document itself where the name is empty
+-- the table of a name, and the document itself if the name is empty
 
 abbrev pub as_table_found : Option Members → Result Members Cause
 as_table_found None = Err cause.Type_
@@ -31,7 +31,7 @@ integer_found (Some found) = as_integer found
 unfoldable pub integer_at : List ℕ → List ℕ → Members → Option ℤ
 integer_at table name document = integer_found (found_in name (table_at table document))
 
--- the integer at a key; 0 where there is none, which is so in no document without a fault
+-- the integer at a key; 0 if there is none, which is so in no document without a fault
 
 abbrev pub integer_of : Option ℤ → ℤ
 integer_of None = pos 0
@@ -57,7 +57,7 @@ integer_or otherwise (Some found) = as_integer found
 unfoldable pub optional_at : List ℕ → List ℕ → ℕ → Members → ℕ
 optional_at table name otherwise document = natural_of (integer_or (pos otherwise) (found_in name (table_at table document)))
 
--- the elements of the list at a key, none where it is left out
+-- the elements of the list at a key, none if it is left out
 
 abbrev pub array_in : Option Data → Option Items
 array_in None = None

@@ -13,7 +13,7 @@ pub record Row : Type 0 where
   pub table : List ℕ
   pub name : List ℕ
   pub kind : Kind
-  -- when the key is looked at
+  -- when the key is checked
   pub when : When
 
 abbrev pub row_when : When → ℕ → List ℕ → List ℕ → Kind → Row
@@ -56,7 +56,7 @@ ticks_from_one_to high = kind.Number (range.TicksFromOneTo (pos high))
 abbrev pub ticks_to : ℕ → Kind
 ticks_to high = kind.Number (range.TicksTo (pos high))
 
--- an integer from the one to the other; where the key is left out, the last number stands for it
+-- an integer from the one to the other; if the key is left out, the last number stands for it
 abbrev pub optional : ℕ → ℕ → ℕ → Kind
 optional low high otherwise = kind.Number (range.Optional (pos low) (pos high) (pos otherwise))
 
@@ -64,7 +64,7 @@ optional low high otherwise = kind.Number (range.Optional (pos low) (pos high) (
 abbrev pub optional_list : ℕ → ℕ → ℕ → Kind
 optional_list most low high = kind.Numbers (record { is_optional = true; fewest = 0; most = most; low = pos low; high = pos high })
 
--- a list of so many integers, from the one to the other, no further than this from 0
+-- a list of this many integers, from the one to the other, no further than this from 0
 abbrev pub changes_list : ℕ → ℕ → ℕ → Kind
 changes_list fewest most size = kind.Numbers (record { is_optional = false; fewest = fewest; most = most; low = neg_ℤ (pos size); high = pos size })
 

@@ -10,7 +10,7 @@ use Rattle.scenario_keys.specs.declared.cause.Cause.TheVariants as cause
 use Rattle.scenario_keys.specs.declared.fault.ScenarioFault.{ScenarioFault}
 use Rattle.scenario_keys.specs.declared.fault.ScenarioFault.TheVariants as refusal
 
--- the key's name, behind that of its table
+-- the key's name, after that of its table
 abbrev pub name_text : Row → List ℕ
 name_text row = if length row.table == 0 then row.name else row.table ++ codes "." ++ row.name
 
@@ -28,8 +28,8 @@ abbrev pub row_key_text : ℕ → Option Row → List ℕ
 row_key_text item None = []
 row_key_text item (Some row) = if has_items row.kind then name_text row ++ codes "[" ++ decimal item ++ codes "]" else name_text row
 
--- A key is printed as its row in the table of keys is named, with the item in brackets where it has items, and as nothing
--- where the table has no such row.
+-- A key is printed as its row in the table of keys is named, with the item in brackets if it has items, and as nothing
+-- if the table has no such row.
 abbrev pub key_text : Key → List ℕ
 key_text key = row_key_text key.item (find (λ row. row.number == key.row) rows)
 

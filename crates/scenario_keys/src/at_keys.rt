@@ -14,7 +14,7 @@ pub fn value<'a>(table: &'a Table, name: &str) -> Option<&'a Value>
     table.get(name)
 }
 
-/// The table of a name, and the document itself where the name is empty.
+/// The table of a name, and the document itself if the name is empty.
 pub fn table_of<'a>(document: &'a Table, name: &str) -> Result<&'a Table, Cause>
     ensures { viewed (λ t. table_view t.now) result ≡ table_at name.now (table_view document.now) }
 {
@@ -32,7 +32,8 @@ pub fn table_of<'a>(document: &'a Table, name: &str) -> Result<&'a Table, Cause>
 
 /// What stands at a key.
 pub fn found<'a>(document: &'a Table, table: &str, name: &str) -> Option<&'a Value>
-    ensures { option_map (λ v. view v.now) result ≡ found_in name.now (table_at table.now (table_view document.now)) }
+    ensures { option_map (λ v. view v.now) result
+        ≡ found_in name.now (table_at table.now (table_view document.now)) }
 {
     match table_of(document, table) {
         Ok(table) => value(table, name),
@@ -51,7 +52,7 @@ pub fn integer_found(document: &Table, table: &str, name: &str) -> Option<i64>
     }
 }
 
-/// The integer of a value, 0 where it is none.
+/// The integer of a value, 0 if it is none.
 pub fn integer_of(found: &Value) -> i64
     ensures { result ≡ integer_of (as_integer (view found.now)) }
 {

@@ -7,12 +7,11 @@ use std::fmt;
 
 /// A key of a scenario, by its row in the table of keys.
 ///
-/// It is printed as the name that the table gives it, as `log.gap`, with the item where it is a list, as `subjects[3]`, and as nothing where the table has no such row.
+/// It is printed as the name that the table gives it, as `log.gap`, with the item if it is a list, as `subjects[3]`, and as nothing if the table has no such row.
 #[derive(Clone, Copy, Debug, PartialEq, Eq)]
 pub struct Key {
     pub row: u8,
-    /// An item of the key's list, counted from 0; 0 where the key has none, and
-    /// 65,535 for an item further behind.
+    /// An item of the key's list, counted from 0; 0 if the key has none, and 65,535 for an item beyond that.
     pub item: u16,
 }
 

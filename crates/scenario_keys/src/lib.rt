@@ -1,9 +1,10 @@
 //! The keys of a scenario: their table, what stands at a key of a TOML document, and the fault of one integer or one list.
 //!
-//! A fault is told by its key and its cause, as `log.gap: range`.
+//! A fault is reported by its key and its cause, as `log.gap: range`.
 //!
-//! In the table `[log]`, `gap = 9` is told as `log.gap: range`, `gap = {}` as `log.gap: type`, and no gap at all as `log.gap: missing`.
-//! What the values mean has no place here, and neither has a fault that hangs on two keys.
+//! In the table `[log]`, `gap = 9` is reported as `log.gap: range`, `gap = {}` as `log.gap: type`, and a missing gap as `log.gap:
+//! missing`.
+//! What the values mean is out of scope, and so are faults that depend on two keys.
 #![tactic(auto)]
 
 mod at_keys;

@@ -43,7 +43,7 @@ pub fn element_count(list: &Array) -> usize
     list.len()
 }
 
-/// The fault of a list of so many elements that is to have from the first number to the second.
+/// The fault of a list of this many elements that is to have from the first number to the second.
 pub fn length_fault(fewest: usize, most: usize, length: usize) -> Option<(usize, Cause)>
     ensures { result ≡ length_fault fewest most length }
 {

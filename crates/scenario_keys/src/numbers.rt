@@ -12,7 +12,7 @@ use toml::Value;
 pub struct Bounds {
     pub low: i64,
     pub high: i64,
-    /// What the integer is a multiple of, 1 where any will do.
+    /// What the integer is a multiple of, 1 if any will do.
     pub step: u32,
     pub otherwise: Option<i64>,
 }

@@ -1,6 +1,6 @@
 //! The table of keys, in the order in which they are tested.
 ghost use Rattle.std.specs.Prelude.{◌≡◌, ◌==◌, find, map, option_map};
-ghost use Rattle.scenario_keys.specs.ScenarioKeys.{first_rows, own_rows, rows};
+ghost use Rattle.scenario_keys.specs.ScenarioKeys.{first_rows, formula_rows, own_rows, rows};
 ghost use Rattle.scenario_keys.specs.ScenarioTexts.{has_items};
 ghost use Rattle.scenario_keys.specs.Inner.SeenRows.{seen};
 
@@ -15,7 +15,7 @@ pub enum Range {
     TicksFromOneTo(i64),
     /// The same from 0 on.
     TicksTo(i64),
-    /// From the first to the second. Where the key is left out, the third stands for it.
+    /// From the first to the second. If the key is left out, the third stands for it.
     Optional(i64, i64, i64),
 }
 
@@ -41,21 +41,22 @@ pub enum Kind {
     Number(Range),
     /// A list of integers.
     Numbers(ListRange),
-    /// A list of at most so many tables, which may be left out.
+    /// A list of at most this many tables, which may be left out.
     Tables(usize),
     /// A list of six vertices, each a list of two integers, that are a shape about a vessel. It may be left out.
     Shape,
-    /// Of each table of `formula` the name of a formula. It is tested together with the text, table by table.
+    /// The name of a formula, in each table of `formula`. It is tested together with the text, table by table.
     FormulaName,
-    /// Of each table of `formula` the text of a formula. It is tested together with the name.
+    /// The text of a formula, in each table of `formula`. It is tested together with the name.
     FormulaText,
     /// Rules and formulas that are light enough together.
     Formulas,
     /// Few and short enough plans, by the keys of own ship.
     Plans,
-    /// Of each table of `predict` a ship. It is tested together with the changes, table by table.
+    /// A ship, in each table of `predict`. It is tested together with the changes, table by table.
     PredictedShip,
-    /// Of each table of `predict` the changes of the ship's course and speed. They are tested together with the ship.
+    /// The changes of the ship's course and speed, in each table of `predict`. They are tested together with the
+    /// ship.
     PredictedChanges,
 }
 
@@ -74,13 +75,13 @@ pub(crate) fn has_items(kind: Kind) -> bool
     )
 }
 
-/// When a key is looked at.
+/// When a key is checked.
 #[derive(Clone, Copy, PartialEq, Eq)]
 pub enum When {
     Always,
     InVersionOne,
     InVersionTwo,
-    /// Where own ship is needed.
+    /// If own ship is needed.
     ForOwnShip,
 }
 
@@ -126,8 +127,9 @@ const SPEEDS: Kind = Kind::Numbers(ListRange {
     high: 1022,
 });
 
+/// The keys of the document and its tables, but for what formulas hold.
 #[rattlefmt::skip]
-const ROWS: [KeyRow; 56] = [
+const FIRST_ROWS: [KeyRow; 37] = [
     KeyRow { number: 0, table: "", name: "document", kind: Kind::Document, when: When::Always },
     KeyRow { number: 1, table: "", name: "version", kind: Kind::Number(Range::FromTo(1, 2)), when: When::Always },
     KeyRow { number: 2, table: "window", name: "start", kind: Kind::Number(Range::FromTo(0, 9_999_999_999)), when: When::Always },
@@ -165,9 +167,19 @@ const ROWS: [KeyRow; 56] = [
     KeyRow { number: 55, table: "rules", name: "ranks", kind: Kind::Number(Range::Optional(0, 1, 0)), when: When::Always },
     KeyRow { number: 30, table: "", name: "subjects", kind: SHIPS, when: When::Always },
     KeyRow { number: 31, table: "", name: "formula", kind: Kind::Tables(5), when: When::Always },
+];
+
+/// What each table of `formula` holds, and then the weight of all.
+#[rattlefmt::skip]
+const FORMULA_ROWS: [KeyRow; 3] = [
     KeyRow { number: 32, table: "", name: "formula.name", kind: Kind::FormulaName, when: When::Always },
     KeyRow { number: 33, table: "", name: "formula.text", kind: Kind::FormulaText, when: When::Always },
     KeyRow { number: 34, table: "", name: "formulas", kind: Kind::Formulas, when: When::Always },
+];
+
+/// The keys of own ship, and of the changes that are predicted of other vessels.
+#[rattlefmt::skip]
+const OWN_ROWS: [KeyRow; 16] = [
     KeyRow { number: 35, table: "own", name: "mmsi", kind: Kind::Number(Range::FromTo(200_000_000, 799_999_999)), when: When::ForOwnShip },
     KeyRow { number: 36, table: "own", name: "courses", kind: COURSES, when: When::ForOwnShip },
     KeyRow { number: 37, table: "own", name: "speeds", kind: SPEEDS, when: When::ForOwnShip },
@@ -186,28 +198,27 @@ const ROWS: [KeyRow; 56] = [
     KeyRow { number: 54, table: "own", name: "shape", kind: Kind::Shape, when: When::ForOwnShip },
 ];
 
-/// The rows, in the order in which they are tested.
-#[tactic(auto, unfolding(crate::specs::ScenarioKeys::first_rows, crate::specs::ScenarioKeys::formula_rows, crate::specs::ScenarioKeys::own_rows))]
-fn key_rows() -> &'static [KeyRow]
-    ensures { map seen result.now ≡ rows }
-{
-    &ROWS
-}
-
-/// The rows before those of formulas.
+/// The rows that are tested before those of formulas.
 #[tactic(auto, unfolding(crate::specs::ScenarioKeys::first_rows))]
 pub fn first_rows() -> &'static [KeyRow]
     ensures { map seen result.now ≡ first_rows }
 {
-    &ROWS[..37]
+    &FIRST_ROWS
 }
 
-/// The rows of own ship, which are those behind the rows of formulas.
+#[tactic(auto, unfolding(crate::specs::ScenarioKeys::formula_rows))]
+fn formula_rows() -> &'static [KeyRow]
+    ensures { map seen result.now ≡ formula_rows }
+{
+    &FORMULA_ROWS
+}
+
+/// The rows of own ship, which are tested after those of formulas.
 #[tactic(auto, unfolding(crate::specs::ScenarioKeys::own_rows))]
 pub fn own_rows() -> &'static [KeyRow]
     ensures { map seen result.now ≡ own_rows }
 {
-    &ROWS[40..]
+    &OWN_ROWS
 }
 
 fn find_row(rows: &[KeyRow], number: u8) -> Option<&KeyRow>
@@ -216,9 +227,13 @@ fn find_row(rows: &[KeyRow], number: u8) -> Option<&KeyRow>
     rows.iter().find(|row| row.number == number)
 }
 
-/// The row of a number, where the table has it.
+/// The row of a number, if the table has it.
 pub(crate) fn row_of(number: u8) -> Option<&'static KeyRow>
     ensures { option_map (λ row. seen row.now) result ≡ find (λ row. row.number == number) rows }
 {
-    find_row(key_rows(), number)
+    let of_formulas = find_row(formula_rows(), number);
+    let of_own_ship = find_row(own_rows(), number);
+    find_row(first_rows(), number)
+        .or(of_formulas)
+        .or(of_own_ship)
 }

@@ -1,4 +1,4 @@
-//! How faults are told.
+//! How faults are reported.
 ghost use Rattle.std.specs.Prelude.{◌≡◌};
 ghost use Rattle.scenario_keys.specs.ToldFaults.{fault_by, fault_by_at, fault_listed, item_of};
 
@@ -15,7 +15,7 @@ pub fn fault_by(row: u8, cause: Option<Cause>) -> Option<(Key, Cause)>
     }
 }
 
-/// An item, or the greatest number that a key can tell where it lies further behind.
+/// The index of an item, or the greatest index that a key can hold if the item lies beyond it.
 fn item_of(item: usize) -> u16
     ensures { result ≡ item_of item }
 {

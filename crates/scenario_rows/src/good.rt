@@ -118,7 +118,7 @@ pub(crate) static WITH_PREDICTIONS: [&str; 7] = [
     PREDICTIONS,
 ];
 
-/// Ranks count where own ship is not needed.
+/// Ranks count if own ship is not needed.
 pub(crate) static WITH_RANKS: [&str; 6] = [
     "version = 1\n",
     TABLES,

@@ -123,7 +123,7 @@ fn ranks_are_kept(rt: HostRuntime) -> Result<(), ScenarioFault> {
 /// What is put for a text in a scenario, and the fault of what this gives.
 type Case = (&'static str, &'static str, &'static str);
 
-/// Of the scenario in version 2: as it is, and with other faults.
+/// The scenario in version 2: as it is, and with other faults.
 static NOT_SECOND: [Case; 3] = [
     ("version = 2", "version = 2", "version: range"),
     ("tick = 10", "tick = 0", "version: range"),
@@ -145,7 +145,7 @@ static NOT_WITH_RANKS: [Case; 1] = [(
     "formula.name[0]: range",
 )];
 
-/// Compares what is told of a scenario that is changed and then migrated.
+/// Compares the report of a scenario that is changed and then migrated.
 fn is_not_migrated(
     rt: &impl Abort,
     alloc: Global,

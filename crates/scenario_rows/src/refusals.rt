@@ -10,7 +10,7 @@ use std::process::Abort;
 /// What is put for a part of a scenario, and the fault of what this gives.
 type Case = (&'static str, &'static str, &'static str);
 
-/// The text of a fault, and an empty one where there is none.
+/// The text of a fault, and an empty one if there is none.
 pub(crate) fn told(alloc: Global, fault: Option<ScenarioFault>) -> Result<String, AllocError> {
     match fault {
         None => Ok(String::new(alloc)),
@@ -18,12 +18,12 @@ pub(crate) fn told(alloc: Global, fault: Option<ScenarioFault>) -> Result<String
     }
 }
 
-/// What is told of a scenario.
+/// What is reported for a scenario.
 pub(crate) fn told_of(alloc: Global, text: &str, need_own: bool) -> Result<String, AllocError> {
     told(alloc, read(alloc, text.as_bytes(), need_own).err())
 }
 
-/// Compares what is told of a scenario in which one text stands in place of another.
+/// Compares the report of a scenario in which one text replaces another.
 fn is_changed(
     rt: &impl Abort,
     alloc: Global,
@@ -38,7 +38,7 @@ fn is_changed(
     Ok(())
 }
 
-/// Compares what is told of each of these cases, in these parts of a scenario, where own ship is needed or not.
+/// Compares the report of each of these cases, in these parts of a scenario, with own ship needed or not.
 fn are_told(
     rt: &impl Abort,
     alloc: Global,
@@ -252,7 +252,7 @@ static FORMULAS: [Case; 27] = [
     ("te = 620\n", "te = 620\n[[formula]]\nname = 'u'\ntext = 'ahead'\n", ""),
 ];
 
-/// Two formulas in place of the good ones: what is put for the name and the text of the second, and the fault of all.
+/// Two formulas instead of the good ones: the name and the text of the second, and the fault of all.
 #[rattlefmt::skip]
 static SECOND_FORMULA: [Case; 3] = [
     ("'r18'", "'u1'", "formula.name[1]: range"),
@@ -268,7 +268,7 @@ static WEIGHTS: [Case; 2] = [
     ("version = 1", "version = 1\nformula = [{ name = 'a', text = 'F[0,7200] F[0,7200] F[0,7200] F[0,7200] F[0,7200] F[0,7200] F[0,7200] F[0,7200] seen' }, { name = 'b', text = 'F[0,7200] F[0,7200] seen' }, { name = 'c', text = 'F[0,5450] seen' }, { name = 'd', text = '!seen' }]", "formulas: product"),
 ];
 
-/// Faults where ranks count: `r18` is a rule's name, and there are twelve rules to weigh. They weigh 592, and with the first three formulas
+/// Faults if ranks count: `r18` is a rule's name, and there are twelve rules to weigh. They weigh 592, and with the first three formulas
 /// 65,534.
 #[rattlefmt::skip]
 static RANKS: [Case; 11] = [
@@ -285,7 +285,7 @@ static RANKS: [Case; 11] = [
     ("version = 1", "version = 1\nformula = [{ name = 'a', text = 'F[0,7200] F[0,7200] F[0,7200] F[0,7200] F[0,7200] F[0,7200] F[0,7200] F[0,7200] seen' }, { name = 'b', text = 'F[0,7200] F[0,7200] seen' }, { name = 'c', text = 'F[0,5190] seen' }, { name = 'd', text = 'seen & seen' }]", "formulas: product"),
 ];
 
-/// The same where own ship is needed: ranks do not count, but their key is tested.
+/// The same if own ship is needed: ranks do not count, but their key is tested.
 #[rattlefmt::skip]
 static RANKS_WITH_OWN: [Case; 3] = [
     ("ranks = 1\n", "ranks = 2\n", "rules.ranks: range"),
@@ -293,7 +293,7 @@ static RANKS_WITH_OWN: [Case; 3] = [
     ("version = 1", "version = 1\nformula = [{ name = 'a', text = 'F[0,7200] F[0,7200] F[0,7200] F[0,7200] F[0,7200] F[0,7200] F[0,7200] F[0,7200] seen' }, { name = 'b', text = 'F[0,7200] F[0,7200] seen' }, { name = 'c', text = 'F[0,5190] seen' }, { name = 'd', text = 'seen & seen' }]", ""),
 ];
 
-/// The good scenario with a formula of one word and so many spaces.
+/// The good scenario with a formula of one word and this many spaces.
 fn with_spaces(alloc: Global, spaces: usize) -> Result<String, AllocError> {
     let good = FIRST.concat(alloc)?;
     let spaces = " ".repeat(alloc, spaces)?;
@@ -306,7 +306,7 @@ fn with_spaces(alloc: Global, spaces: usize) -> Result<String, AllocError> {
     .concat(alloc)
 }
 
-/// Numbers of spaces, and what is told.
+/// Numbers of spaces, and what is reported.
 static SPACES: [(usize, &str); 2] = [(1020, ""), (1021, "formula.text[0]: range")];
 
 #[test]
@@ -318,7 +318,7 @@ fn a_formula_has_at_most_1024_bytes(rt: HostRuntime) -> Result<(), AllocError> {
     Ok(())
 }
 
-/// Faults of two keys: the first in the order of the keys is told, wherever they stand.
+/// Faults of two keys: the first in the order of the keys is reported, wherever they stand.
 #[rattlefmt::skip]
 static ORDER: [Case; 4] = [
     ("tick = 10", "tick = 61", "window.tick: range"),
@@ -482,7 +482,7 @@ static PREDICT: [Case; 34] = [
     ("mmsi = 369190000", "mmsi = 477553000", "predict.mmsi[0]: range"),
 ];
 
-/// Other lists in place of the tables of `predict`.
+/// Other lists instead of the tables of `predict`.
 #[rattlefmt::skip]
 static NO_PREDICTIONS: [Case; 4] = [
     ("version = 1", "version = 1\npredict = 1", "predict: type"),
@@ -491,14 +491,14 @@ static NO_PREDICTIONS: [Case; 4] = [
     ("version = 1", "version = 1\npredict = []", ""),
 ];
 
-/// The good scenario with own ship and so many empty tables of `predict`.
+/// The good scenario with own ship and this many empty tables of `predict`.
 fn with_tables(alloc: Global, many: usize) -> Result<String, AllocError> {
     let good = WITH_OWN.concat(alloc)?;
     let tables = "[[predict]]\n".repeat(alloc, many)?;
     [good.as_str(), tables.as_str()].concat(alloc)
 }
 
-/// Numbers of tables, and what is told.
+/// Numbers of tables, and what is reported.
 static TABLES: [(usize, &str); 2] = [(64, "predict.mmsi[0]: missing"), (65, "predict: range")];
 
 #[test]
@@ -510,7 +510,7 @@ fn at_most_64_vessels_are_predicted(rt: HostRuntime) -> Result<(), AllocError> {
     Ok(())
 }
 
-/// Compares what is told of the keys of each scenario.
+/// Compares what is reported for the keys of each scenario.
 fn keys_are_told(rt: &impl Abort, alloc: Global) -> Result<(), AllocError> {
     are_told(rt, alloc, &FIRST, false, &FIRST_KEYS)?;
     are_told(rt, alloc, &FIRST, false, &DETECT)?;

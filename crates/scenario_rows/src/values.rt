@@ -192,7 +192,7 @@ fn version_two_has_a_safe_distance_for_each_kind(rt: HostRuntime) -> Result<(), 
     Ok(r8d?)
 }
 
-/// The two formulas are rules, behind the eleven.
+/// The two formulas are rules, after the eleven.
 fn are_behind_the_rules(rt: &impl Abort, alloc: Global, rules: &RuleSet) -> Result<(), Memory> {
     is(rt, rules.len(), 13);
     is_rule(rt, alloc, rules, 11, "u1", "(F[0,20] risk & !seen)")?;
@@ -262,7 +262,7 @@ fn the_greatest_values_are_read(rt: HostRuntime) -> Result<(), ScenarioFault> {
     Ok(())
 }
 
-/// The good scenario with a list of so many subjects, and then one of this text.
+/// The good scenario with a list of this many subjects, and then one of this text.
 fn with_subjects(alloc: Global, many: usize, last: &str) -> Result<String, AllocError> {
     let good = FIRST.concat(alloc)?;
     let others = "200000000, ".repeat(alloc, many)?;
@@ -285,7 +285,7 @@ fn a_list_may_have_its_length(rt: HostRuntime) -> Result<(), ScenarioFault> {
     Ok(())
 }
 
-/// How many subjects there are before the last, the last, and what is told.
+/// How many subjects there are before the last, the last, and what is reported.
 static LISTS: [(usize, &str, &str); 3] = [
     (64, "1", "subjects[0]: range"),
     (64, "true", "subjects[64]: type"),

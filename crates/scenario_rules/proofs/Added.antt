@@ -1,4 +1,4 @@
--- The formulas that stand behind the rules of the COLREGs 1972, table by table.
+-- The formulas that follow the rules of the COLREGs 1972, table by table.
 use Rattle.std.proofs.Common.{◌≡◌, ℕ, zero, suc, ◌+◌, ◌≤◌, ◌<◌, nat_le, Bool, true, not, ◌&&◌, ◌||◌, if◌then◌else◌, List, [], ◌∷◌, ◌++◌, map, length, take, drop, Option, Some, None, All, refl, ap, sym, ◌∙◌, subst, arith}
 use Rattle.std.specs.Prelude.{bytes_eq, codes, slice_index_or}
 use Rattle.std.specs.List.{list_any}

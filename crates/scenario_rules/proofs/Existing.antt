@@ -1,4 +1,4 @@
--- The tests of tables find something, and where they find no fault there are rules of these tables.
+-- The tests of tables find something, and if they find no fault there are rules of these tables.
 use Rattle.std.proofs.Common.{◌≡◌, ◌⊎◌, ◌≤◌, ◌<◌, inl, inr, ℕ, List, [], ◌∷◌, ◌++◌, length, Option, Some, None, All, refl, arith}
 use Rattle.std.specs.Prelude.{codes, get_or}
 use Rattle.toml.specs.Data.{Data, as_str}

@@ -13,7 +13,7 @@ use Rattle.scenario_keys.specs.declared.key.Key.{Key}
 use Rattle.scenario_keys.specs.declared.cause.Cause.{Cause}
 use Rattle.scenario_keys.specs.declared.cause.Cause.TheVariants as cause
 
--- the text that stands somewhere, empty where there is none
+-- the text that stands somewhere, empty if there is none
 
 abbrev pub string_of : Option (List ℕ) → List ℕ
 string_of None = []
@@ -59,7 +59,7 @@ rule_names Counted = eleven_names ++ codes "r18" ∷ []
 abbrev pub is_name_taken : Ranking → List Data → List ℕ → Bool
 is_name_taken ranks before name = list_any (λ taken. bytes_eq taken name) (rule_names ranks ++ map formula_name_in before)
 
--- the fault of a name, where these names are taken
+-- the fault of a name, if these names are taken
 
 abbrev pub new_name_cause : (List ℕ → Bool) → Option (List ℕ) → Option Cause
 new_name_cause taken None = Some cause.Type_
@@ -69,8 +69,8 @@ abbrev pub name_cause : (List ℕ → Bool) → Option Data → Option Cause
 name_cause taken None = Some cause.Missing
 name_cause taken (Some found) = new_name_cause taken (as_str found)
 
--- The fault of a text at a tick of so many seconds: the place of what is no formula, or of a number that is refused, or the text's
--- length, where the formula is too large.
+-- The fault of a text at a tick of this many seconds: the place of what is no formula, or of a number that is refused, or the
+-- text's length, if the formula is too large.
 
 abbrev pub formula_cause : ℕ → Meaning → Option Cause
 formula_cause length (tree t) = None
@@ -94,7 +94,7 @@ abbrev pub IsTextCause : ℕ → Option Data → Option Cause → Type 0
 IsTextCause tick None why = why ≡ Some cause.Missing
 IsTextCause tick (Some found) why = IsStringCause tick (as_str found) why
 
--- what the test of a table at an index finds: the fault of its name, or else that of its text
+-- what the test of a table at an index finds: the fault of its name, otherwise that of its text
 
 abbrev pub IsTextFault : ℕ → ℕ → Option Cause → Option Data → Option (Key × Cause) → Type 0
 IsTextFault tick item (Some why) text told = told ≡ fault_at 32 item why

@@ -1,4 +1,4 @@
--- The rules of a scenario: those of the COLREGs 1972, eleven or with ranks twelve, and behind them the formulas of its tables; and what
+-- The rules of a scenario: those of the COLREGs 1972, eleven or with ranks twelve, followed by the formulas of its tables; and what
 -- the test of their weight finds.
 use Rattle.std.specs.Prelude.{◌≡◌, ℕ, nat_le, if◌then◌else◌, List, [], ◌∷◌, ◌++◌, Option, Some, None}
 use Rattle.toml.specs.Data.{Data}

@@ -47,8 +47,10 @@ fn is_name(name: &[u8]) -> bool
 fn new_name(rules: &RuleSet, name: &[u8]) -> Result<Name, Cause>
     ensures name { IfOk result (λ n. n ≡ name.now) }
     ensures new { IfOk result (λ n. has_rule rules.now name.now ≡ false) }
-    ensures faultless { IfOk result (λ _. new_name_cause (has_rule rules.now) (Some name.now) ≡ None) }
-    ensures fault { IfErr result (λ why. new_name_cause (has_rule rules.now) (Some name.now) ≡ Some why) }
+    ensures faultless { IfOk result
+        (λ _. new_name_cause (has_rule rules.now) (Some name.now) ≡ None) }
+    ensures fault { IfErr result
+        (λ why. new_name_cause (has_rule rules.now) (Some name.now) ≡ Some why) }
 {
     if is_name(name) && !rules.holds(name) {
         Ok(Name::of(name))
@@ -61,8 +63,11 @@ fn new_name(rules: &RuleSet, name: &[u8]) -> Result<Name, Cause>
 pub(crate) fn name_in(rules: &RuleSet, found: Option<&Value>) -> Result<Name, Cause>
     ensures name { IfOk result (λ n. n ≡ string_in (option_map (λ v. view v.now) found.entry)) }
     ensures new { IfOk result (λ n. has_rule rules.now n ≡ false) }
-    ensures faultless { IfOk result (λ _. name_cause (has_rule rules.now) (option_map (λ v. view v.now) found.entry) ≡ None) }
-    ensures fault { IfErr result (λ why. name_cause (has_rule rules.now) (option_map (λ v. view v.now) found.entry) ≡ Some why) }
+    ensures faultless { IfOk result
+        (λ _. name_cause (has_rule rules.now) (option_map (λ v. view v.now) found.entry) ≡ None) }
+    ensures fault { IfErr result
+        (λ why. name_cause (has_rule rules.now) (option_map (λ v. view v.now) found.entry)
+        ≡ Some why) }
 {
     match found {
         Some(found) => match found.as_str() {

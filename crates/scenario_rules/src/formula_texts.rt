@@ -28,7 +28,8 @@ fn parsed(alloc: Global, tick: u32, text: &[u8], key: Key) -> Result<Formula, Sc
     ensures meaning { IfOk result (λ f. IsMeaning text.now tick (tree (tree_of f))) }
     ensures valid { IfOk result (λ f. IsValid (tree_of f)) }
     ensures faultless { IfOk result (λ _. HasCause tick text.now None) }
-    ensures fault { IfErr result (IfFault (λ told. (told.0 ≡ key) × HasCause tick text.now (Some told.1))) }
+    ensures fault { IfErr result
+        (IfFault (λ told. (told.0 ≡ key) × HasCause tick text.now (Some told.1))) }
 {
     match parse(alloc, text, tick) {
         Ok(formula) => Ok(formula),
@@ -45,7 +46,8 @@ fn formula_of(alloc: Global, tick: u32, text: &[u8], key: Key) -> Result<Formula
     ensures meaning { IfOk result (λ f. IsMeaning text.now tick (tree (tree_of f))) }
     ensures valid { IfOk result (λ f. IsValid (tree_of f)) }
     ensures faultless { IfOk result (λ _. IsBytesCause tick text.now None) }
-    ensures fault { IfErr result (IfFault (λ told. (told.0 ≡ key) × IsBytesCause tick text.now (Some told.1))) }
+    ensures fault { IfErr result
+        (IfFault (λ told. (told.0 ≡ key) × IsBytesCause tick text.now (Some told.1))) }
 {
     if text.len() > 1024 {
         return Err(ScenarioFault::Fault(key, Cause::Range));
@@ -61,10 +63,15 @@ pub(crate) fn formula_in(
     key: Key,
 ) -> Result<Formula, ScenarioFault>
     requires tick { IsTick tick }
-    ensures meaning { IfOk result (λ f. IsMeaning (string_in (option_map (λ v. view v.now) found.entry)) tick (tree (tree_of f))) }
+    ensures meaning { IfOk result
+        (λ f. IsMeaning (string_in (option_map (λ v. view v.now) found.entry)) tick
+        (tree (tree_of f))) }
     ensures valid { IfOk result (λ f. IsValid (tree_of f)) }
-    ensures faultless { IfOk result (λ _. IsTextCause tick (option_map (λ v. view v.now) found.entry) None) }
-    ensures fault { IfErr result (IfFault (λ told. (told.0 ≡ key) × IsTextCause tick (option_map (λ v. view v.now) found.entry) (Some told.1))) }
+    ensures faultless { IfOk result
+        (λ _. IsTextCause tick (option_map (λ v. view v.now) found.entry) None) }
+    ensures fault { IfErr result
+        (IfFault (λ told. (told.0 ≡ key)
+        × IsTextCause tick (option_map (λ v. view v.now) found.entry) (Some told.1))) }
 {
     match found {
         Some(found) => match found.as_str() {

@@ -1,7 +1,7 @@
-//! The rules of a scenario: those of the COLREGs 1972 with its numbers, eleven or with ranks twelve, and behind them the formulas of its
+//! The rules of a scenario: those of the COLREGs 1972 with its numbers, eleven or with ranks twelve, followed by the formulas of its
 //! tables; or the first fault of these.
 //!
-//! Of a scenario with ranks and two tables `formula` the list has fourteen rules: eleven, `r18`, and the two in their order.
+//! For a scenario with ranks and two tables `formula` the list has fourteen rules: eleven, `r18`, and the two in their order.
 #![tactic(auto)]
 
 mod formula_names;

@@ -22,7 +22,8 @@ use toml::Value;
 /// How much all rules may weigh together.
 const GREATEST_WEIGHT: u64 = 65_536;
 
-/// Adds the formula of a table of this index, or tells the fault of its name, or else that of its text.
+/// Adds the formula of the table with this index, or returns the fault of its name, otherwise that of
+/// its text.
 fn add_table(
     alloc: Global,
     rules: &mut RuleSet,
@@ -33,8 +34,10 @@ fn add_table(
     requires tick { IsTick tick }
     requires few { length rules.old < 17 }
     ensures added { OnOk result (Adds tick (view table.now) rules.old rules.new) }
-    ensures faultless { OnOk result (IsFaultBy (has_rule rules.old) tick item (view table.now) None) }
-    ensures fault { IfErr result (IfFault (λ told. IsFaultBy (has_rule rules.old) tick item (view table.now) (Some told))) }
+    ensures faultless { OnOk result
+        (IsFaultBy (has_rule rules.old) tick item (view table.now) None) }
+    ensures fault { IfErr result
+        (IfFault (λ told. IsFaultBy (has_rule rules.old) tick item (view table.now) (Some told))) }
 {
     let name = match name_in(rules, member(table, "name")) {
         Ok(name) => name,
@@ -63,7 +66,7 @@ fn rules_by(
     }
 }
 
-/// These rules, and behind them the formulas of these tables, or the first fault of a table.
+/// These rules, followed by the formulas of these tables, or the first fault of a table.
 fn all_rules(
     alloc: Global,
     ranks: Ranking,
@@ -75,7 +78,8 @@ fn all_rules(
     requires few { length tables.now ≤ 5 }
     ensures rules { IfOk result (AreScenarioRules ranks tick numbers.now (map view tables.now)) }
     ensures faultless { OnOk result (IsFormulaFault ranks tick (map view tables.now) None) }
-    ensures fault { IfErr result (IfFault (λ told. IsFormulaFault ranks tick (map view tables.now) (Some told))) }
+    ensures fault { IfErr result
+        (IfFault (λ told. IsFormulaFault ranks tick (map view tables.now) (Some told))) }
 {
     let mut rules = rules_by(alloc, ranks, numbers, tick)?;
     let mut item = 0;
@@ -102,9 +106,11 @@ fn are_light(rules: &RuleSet) -> bool
     true
 }
 
-/// The rules of a scenario: those of the COLREGs 1972 with these numbers, at a tick of so many seconds, eleven or with ranks twelve, and
-/// behind them the formulas of at most five tables, each with a `name` and a `text`. Or the first fault: table by table that of its
-/// name and then that of its text, and last that all rules weigh more than 65,536 together.
+/// Returns the rules of a scenario: those of the COLREGs 1972 with these numbers, at a tick of this many seconds, eleven or with ranks
+/// twelve,
+/// followed by the formulas of at most five tables, each with a `name` and a `text`. Or returns the first fault: table by table that of
+/// its
+/// name and then that of its text, and last that all rules together weigh more than 65,536.
 pub fn rules_with(
     alloc: Global,
     ranks: Ranking,
@@ -117,9 +123,12 @@ pub fn rules_with(
     ensures rules { IfOk result (AreScenarioRules ranks tick numbers.now (map view tables.now)) }
     ensures light { IfOk result AreLightRules }
     ensures faultless { OnOk result (IsFormulaFault ranks tick (map view tables.now) None) }
-    ensures weighed { OnOk result (IsWeightFault ranks tick numbers.now (map view tables.now) None) }
-    ensures fault { IfErr result (IfFault (λ told. IsFormulaFault ranks tick (map view tables.now) (Some told)
-        ⊎ (IsFormulaFault ranks tick (map view tables.now) None × IsWeightFault ranks tick numbers.now (map view tables.now) (Some told)))) }
+    ensures weighed { OnOk result
+        (IsWeightFault ranks tick numbers.now (map view tables.now) None) }
+    ensures fault { IfErr result
+        (IfFault (λ told. IsFormulaFault ranks tick (map view tables.now) (Some told)
+        ⊎ (IsFormulaFault ranks tick (map view tables.now) None
+        × IsWeightFault ranks tick numbers.now (map view tables.now) (Some told)))) }
 {
     let rules = all_rules(alloc, ranks, numbers, tick, tables)?;
     if !are_light(&rules) {

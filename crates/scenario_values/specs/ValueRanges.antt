@@ -12,7 +12,7 @@ use Rattle.scenario_values.specs.declared.values.Window.{Window}
 use Rattle.scenario_values.specs.declared.values.LogNumbers.{LogNumbers}
 use Rattle.scenario_values.specs.declared.values.Scenario.{Scenario}
 
--- the greatest length of a log, in bytes, where the scenario names none
+-- the greatest length of a log, in bytes, if the scenario names none
 abbrev pub greatest_log : ℕ
 greatest_log = 2 ^ 30
 

@@ -1,9 +1,9 @@
-//! Own ship, and the plans among which a manoeuvre is sought.
+//! Own ship, and the plans among which a manoeuvre is searched for.
 use hull_domains::Shape;
 use lattice::Lattice;
 use predictions::Predictions;
 
-/// Own ship, and the plans among which a manoeuvre is sought.
+/// Own ship, and the plans among which a manoeuvre is searched for.
 #[derive(Drop)]
 pub struct OwnPart {
     /// Her MMSI.
@@ -17,6 +17,6 @@ pub struct OwnPart {
     pub range: u32,
     /// What is predicted of other vessels; their courses and speeds of now hold until then.
     pub predict: Predictions,
-    /// The domain of a vessel that has a direction, with which it turns. `None` where the radius stands for it.
+    /// The domain of a vessel that has a direction, with which it turns. `None` if the radius stands for it.
     pub shape: Option<Shape>,
 }

@@ -1,7 +1,7 @@
 //! The vessels whose encounters are audited.
 use std::marker::Model;
 
-/// The MMSIs of the vessels whose encounters are audited, as the scenario lists them. Where there are none, all vessels' are.
+/// The MMSIs of the vessels whose encounters are audited, as the scenario lists them. If there are none, all vessels' are.
 #[derive(Drop)]
 pub struct Subjects {
     list: Vec<u32>,

@@ -21,7 +21,7 @@ impl Window {
     ghost use Rattle.scenario_values.specs.ValueRanges.{IsWindow};
     ghost use Rattle.scenario_values.specs.Ticks.{time_of_tick};
 
-    /// The time of a tick, in seconds since the Unix epoch, also of one behind the last.
+    /// The time of a tick, in seconds since the Unix epoch, also of one after the last.
     pub fn time(&self, tick: u32) -> u64
         requires { IsWindow self.now }
         ensures { result ≡ time_of_tick self.now tick }
@@ -54,12 +54,12 @@ pub struct Scenario {
     pub detect: Detect,
     /// What counts as keeping course and speed, and what as a readily apparent alteration.
     pub act: Act,
-    /// The rules: those of the COLREGs with the scenario's numbers, eleven or with ranks twelve, and at most five formulas behind them.
+    /// The rules: those of the COLREGs with the scenario's numbers, eleven or with ranks twelve, followed by at most five formulas.
     pub rules: RuleSet,
     /// Whether ranks count (Rule 18).
     pub ranks: bool,
     /// The vessels whose encounters are audited.
     pub subjects: Subjects,
-    /// Own ship, where she is needed.
+    /// Own ship, if she is needed.
     pub own: Option<OwnPart>,
 }

@@ -16,7 +16,7 @@ pub record Sight : Type 0 where
   pub alpha : ℕ
   pub off : ℕ
 
--- ---- where a vessel is seen
+-- ---- if a vessel is seen
 
 -- more than 22.5 degrees abaft the beam, or in doubt of it
 abbrev pub is_abaft : ℕ → ℕ → Bool
@@ -34,7 +34,7 @@ is_in_starboard_sector k = nat_le k 1125
 abbrev pub is_in_port_sector : ℕ → Bool
 is_in_port_sector k = nat_le 2475 k || (k == 0)
 
--- ---- the table, of which the first row that applies counts
+-- ---- the table; the first row that applies counts
 
 unfoldable pub class_seen : Angles → Sight → Class
 class_seen angles s =
@@ -54,7 +54,7 @@ opposite p = record { x = neg_ℤ p.x; y = neg_ℤ p.y }
 abbrev pub reverse_of : ℕ → ℕ
 reverse_of d = (d + 1800) % 3600
 
--- by the bearings of B from A and of A from B, which they have where they are not in one point
+-- by the bearings of B from A and of A from B, which they have if they are not in one point
 abbrev pub class_by_bearings : RelativeMove → ℕ → ℕ → Angles → Option ℕ → Option ℕ → Class
 class_by_bearings step a b angles (Some to_b) (Some to_a) = class_seen angles (record {
   closing = int_lt (dot_of step.p step.w) (pos 0);

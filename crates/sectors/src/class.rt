@@ -86,7 +86,8 @@ fn is_in_port_sector(k: u16) -> bool
 fn is_head_on(beta: u16, alpha: u16, off: u16, angles: &Angles) -> bool
     requires beta { beta < 3600 }
     requires alpha { alpha < 3600 }
-    ensures { result ≡ (is_ahead angles.now.ahead beta && is_ahead angles.now.ahead alpha && nat_le off angles.now.reciprocal) }
+    ensures { result ≡ (is_ahead angles.now.ahead beta && is_ahead angles.now.ahead alpha
+        && nat_le off angles.now.reciprocal) }
 {
     is_ahead(angles.ahead, beta) && is_ahead(angles.ahead, alpha) && off <= angles.reciprocal
 }
@@ -98,7 +99,8 @@ fn class_seen(closing: bool, beta: u16, alpha: u16, off: u16, angles: &Angles) -
     requires beta { beta < 3600 }
     requires alpha { alpha < 3600 }
     requires doubt { angles.now.doubt ≤ 1124 }
-    ensures { result ≡ class_seen angles.now (record { closing = closing; beta = beta; alpha = alpha; off = off }) }
+    ensures { result ≡ class_seen angles.now
+        (record { closing = closing; beta = beta; alpha = alpha; off = off }) }
 {
     if closing && is_abaft(angles.doubt, alpha) {
         Class::Overtaking
@@ -115,7 +117,7 @@ fn class_seen(closing: bool, beta: u16, alpha: u16, off: u16, angles: &Angles) -
     }
 }
 
-/// The class where both directions are known.
+/// The class if both directions are known.
 #[tactic(auto, unfolding(crate::specs::Class::class_between))]
 fn class_between(step: &Step, a: u16, b: u16, angles: &Angles) -> Class
     requires a { a < 3600 }

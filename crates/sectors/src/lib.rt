@@ -5,7 +5,7 @@
 //! 1125 from right ahead; the angles of doubt, of "nearly ahead" and of "nearly reciprocal" are the scenario's. Nothing here
 //! takes memory.
 //!
-//! Where both head north with no doubt and `w` is `(0, -1000)`: B at `p` `(-1000000, 414214)` sees A at 1125, and A stands on in a
+//! If both head north with no doubt and `w` is `(0, -1000)`: B at `p` `(-1000000, 414214)` sees A at 1125, and A stands on in a
 //! crossing; B at `(-1000000, 416300)` sees her at 1126, and A overtakes.
 #![tactic(auto)]
 

@@ -87,7 +87,7 @@ static STATIC_REPORTS: [(&[u8], Option<ToldStatic>); 4] = [
     (b"!AIVDM,1,1,,A,15P5TL0P2l00001wwHt000000000,0*5C\n", None),
 ];
 
-/// Whether these lines tell what stands beside them.
+/// Whether these lines have the outcomes that stand beside them.
 fn tell(
     rt: &impl Abort,
     lines: &mut StreamedLines,

@@ -1,6 +1,8 @@
 //! Words that are accepted and words that are not, as a user writes them.
 use crate::compared::{is, is_true};
-use command_line::{Request, Told, WindowOptions, WordsFault, request_of, told_text, told_word};
+use command_line::{
+    InfoRequest, Request, WindowOptions, WordsFault, info_request, info_text, request_of,
+};
 use out_of_memory::Memory;
 use outside::Word;
 use std::alloc::{AllocError, Global};
@@ -34,7 +36,7 @@ enum Wanted {
     Watch,
 }
 
-/// What stands in place of the scenario's own window.
+/// What replaces the scenario's own window.
 type Window = (Option<u64>, Option<u32>);
 
 const OWN: Window = (None, None);
@@ -199,17 +201,17 @@ fn words_that_are_no_command_line(rt: HostRuntime) {
     are_usage(&rt, rt.alloc(), &NO_COMMAND_LINES);
 }
 
-fn told(alloc: Global, texts: &[&str]) -> Result<Option<Told>, Memory> {
+fn told(alloc: Global, texts: &[&str]) -> Result<Option<InfoRequest>, Memory> {
     let words = words(alloc, texts)?;
-    Ok(told_word(words.as_slice()))
+    Ok(info_request(words.as_slice()))
 }
 
-/// Words, and what they ask the program to tell of itself.
-static TOLD: [(&[&str], Option<Told>); 7] = [
-    (&["--help"], Some(Told::Help)),
-    (&["-h"], Some(Told::Summary)),
-    (&["--version"], Some(Told::Version)),
-    (&["-V"], Some(Told::Version)),
+/// Words, and what they ask the program to say about itself.
+static TOLD: [(&[&str], Option<InfoRequest>); 7] = [
+    (&["--help"], Some(InfoRequest::Help)),
+    (&["-h"], Some(InfoRequest::Summary)),
+    (&["--version"], Some(InfoRequest::Version)),
+    (&["-V"], Some(InfoRequest::Version)),
     (&["audit"], None),
     (&["audit", "--help"], None),
     (&[], None),
@@ -230,22 +232,22 @@ fn holds(text: &Result<String, Memory>, part: &str) -> bool {
     }
 }
 
-/// What stands in the texts that the program tells of itself.
+/// What the texts have that the program writes about itself.
 #[rattlefmt::skip]
-static PARTS: [(Told, &str); 13] = [
-    (Told::Help, "- points: "),
-    (Told::Help, "- audit:  "),
-    (Told::Help, "- plan:   "),
-    (Told::Help, "- drill:  "),
-    (Told::Help, "- migrate:"),
-    (Told::Help, "0 to 9999999999"),
-    (Told::Help, "1 to 20000"),
-    (Told::Help, "0 to 999999"),
-    (Told::Help, "[default: 1]"),
-    (Told::Help, "  2  the words are no command line\n"),
-    (Told::Help, "colregs audit scenario.toml --ticks 60 < log.nmea\n"),
-    (Told::Summary, "Usage: colregs [OPTIONS] <MODE> <SCENARIO>\n"),
-    (Told::Version, "colregs 0.1.0\n"),
+static PARTS: [(InfoRequest, &str); 13] = [
+    (InfoRequest::Help, "- points: "),
+    (InfoRequest::Help, "- audit:  "),
+    (InfoRequest::Help, "- plan:   "),
+    (InfoRequest::Help, "- drill:  "),
+    (InfoRequest::Help, "- migrate:"),
+    (InfoRequest::Help, "0 to 9999999999"),
+    (InfoRequest::Help, "1 to 20000"),
+    (InfoRequest::Help, "0 to 999999"),
+    (InfoRequest::Help, "[default: 1]"),
+    (InfoRequest::Help, "  2  the words are no command line\n"),
+    (InfoRequest::Help, "colregs audit scenario.toml --ticks 60 < log.nmea\n"),
+    (InfoRequest::Summary, "Usage: colregs [OPTIONS] <MODE> <SCENARIO>\n"),
+    (InfoRequest::Version, "colregs 0.1.0\n"),
 ];
 
 #[test]
@@ -253,7 +255,7 @@ fn help_names_modes_options_statuses_and_an_example(rt: HostRuntime) {
     for (word, part) in &PARTS {
         is(
             &rt,
-            (*part, holds(&told_text(rt.alloc(), *word), part)),
+            (*part, holds(&info_text(rt.alloc(), *word), part)),
             (*part, true),
         );
     }

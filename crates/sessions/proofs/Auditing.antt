@@ -21,7 +21,7 @@ use Rattle.settled_ticks.specs.Sightings.{sighted}
 use Rattle.settling.specs.ScenarioAudit.{audit_numbers}
 use Rattle.report_parts.specs.StretchRows.{AreOfRules, IsOfRules, stretch_fields, stretch_rows}
 
--- ---- rows tell of rules that are there
+-- ---- rows name rules that exist
 
 of_topic : (numbers : AuditNumbers) (ticks : List Sighting) (topic : Topic) (first : ℕ) (marks : List Mark) (row : Row) → topic_of row ≡ topic
     → AreMarksOf numbers ticks topic first marks → IsOfRules numbers.rules row

@@ -32,7 +32,7 @@ use Rattle.sessions.specs.declared.work.Work.TheVariants as work
 use Rattle.sessions.proofs.Feeding.{follows_of}
 use Rattle.sessions.proofs.Meeting.{crowded_answer, pairs_answer}
 
--- what holds for each log that was fed, but for want of memory
+-- what holds for each log that was fed, unless memory ran out
 pub all_causes : (because : SessionFault) (self : Session) (P : List ℕ → Type 0) → ((fed given : List ℕ) → StandsFor self fed given → UnlessMemory because (P fed))
     → UnlessMemory because ((fed given : List ℕ) → StandsFor self fed given → P fed)
 all_causes why.Vessels self P each = each

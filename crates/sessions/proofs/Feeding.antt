@@ -199,7 +199,7 @@ module _ (old : Session) (piece front : List ℕ) where
           subst (HasManySettled (mode_by old.work) old.scenario) (sym lines.1) (many (ended_lines read) lines.0 (works_on read given follows room)),
         )
 
--- Work ends for too many traces, or for want of memory.
+-- Work ends for too many traces, or if memory runs out.
 pub refused_by : (r : Result (Unit {0}) SessionFault) (P : SessionFault → Type 0) → IfErr r (λ because. because ≢ why.Pairs → because ≡ why.Memory) → (r ≡ Err why.Pairs → P why.Pairs)
     → IfErr r (λ because. UnlessMemory because (P because))
 refused_by (Ok done) P alone pairs = tt
@@ -237,7 +237,7 @@ module _ (first old : Session) (done piece all : List ℕ) (is : all ≡ done ++
         );
   }
 
-  -- It is ready for the next piece, and what stands behind it.
+  -- It is ready for the next piece, and for the bytes after that.
   pub ready_behind : (front : List ℕ) (text : ReportText) → TookLines first old done front text → IsReadyToTake first all → IsReadyToTake old piece
   ready_behind front text so_far ready = record {
     read = ready.read ++ done;
@@ -246,7 +246,7 @@ module _ (first old : Session) (done piece all : List ℕ) (is : all ≡ done ++
     room = room_behind ready.read ready.room;
   }
 
--- A piece is a part of what stands behind the first ones.
+-- A piece is a part of the bytes after the first ones.
 pub ready_for_piece : (session : Session) (piece rest : List ℕ) → length piece ≤ length rest → IsReadyToTake session rest → IsReadyToTake session piece
 ready_for_piece session piece rest le ready = record {
   read = ready.read;

@@ -68,7 +68,7 @@ abbrev pub entry_fault : ℕ → Came
 entry_fault k = Err (fault.Entry k)
 
 module _ (m : Mode) (rows : List ℕ) (scenario : Scenario) (log : List ℕ) where
-  -- what comes behind each test
+  -- what follows each test
 
   abbrev pub behind_search : Came → Type 0
   behind_search = FirstOf (HasBadEntry m rows scenario log) entry_fault reported
@@ -123,7 +123,7 @@ module _ (scenario : Scenario) (log : List ℕ) (calm : is_crowded scenario (lin
   pub drill_done : ¬ HasManyTraces mode.Drill scenario log → IsAnswerOf mode.Drill [] scenario log (Ok false)
   drill_done few = inr (not_crowded scenario log calm, inr (few, inr (λ x. x, inr (λ x. x, no_entry mode.Drill [] scenario log (λ k x. x)))))
 
-  -- ---- where own ship is looked at
+  -- ---- if own ship is examined
 
   module _ (m : Mode) (rows : List ℕ) (on_own : focus_of m ≡ own_ship) where
     no_traces : ¬ HasManyTraces m scenario log

@@ -292,7 +292,7 @@ bytes_not_at_end m rows scenario log (inr (calm, inr (few, own))) = behind (unre
     behind None (inr (few, inr (some, inl (k, bad, same)))) = cc same
     behind None (inr (few, inr (some, inr (none, same)))) = cc same
 
--- ---- own ship is looked at alone
+-- ---- own ship alone is examined
 
 own_needed : (m : Mode) (rows : List ℕ) (scenario : Scenario) (log : List ℕ) (lack : Unready) → unready_of m scenario log ≡ None
     → IsAnswerOf m rows scenario log (Err (fault.Own lack)) → ⊥
@@ -334,7 +334,7 @@ entry_needed m rows scenario log k good (inr (calm, inr (traces, own))) = behind
     behind None (inr (not, inr (some, inl (l, bad, same)))) = told l bad same
     behind None (inr (not, inr (some, inr (none, same)))) = cc same
 
--- Where own ship is looked at, nothing is settled.
+-- If own ship is examined, nothing is settled.
 nothing_by : (focus : Focus) (early : Bool) (scenario : Scenario) (lines : List (List ℕ)) (log text : List ℕ) → IsDecidedBy (early_by focus early) scenario lines text
     → (lack_by focus scenario log ≡ None → ⊥) → text ≡ []
 nothing_by each_line early scenario lines log text settled own = absurd (own refl)

@@ -1,4 +1,4 @@
--- What was sought for own ship, and what is told of it.
+-- What a search for own ship found, and what the report says of it.
 use Rattle.std.proofs.Common.{ℕ, ◌≡◌, ◌∙◌, ◌++◌, ◌<◌, ◌≤◌, List, [], length, refl, ap, ap₂, sym, subst, subst₂, append_assoc, arith, Bool, true, false}
 use Rattle.std.specs.Prelude.{Option, None, Some, Result, Ok, Err, IfSome, IsSome, flat_map, is_none, is_some, not}
 use Rattle.audit_report.specs.ReportTexts.{HasText}

@@ -31,7 +31,7 @@ use Rattle.sessions.proofs.AtEnds.{judged_parts}
 use Rattle.sessions.proofs.Auditing.{all_of}
 use Rattle.sessions.proofs.Meeting.{pairs_answer}
 
--- ---- alarms tell of rules that are there
+-- ---- alarms name rules that exist
 
 abbrev pub AreOfRules : List NamedTree → List Alarm → Type 0
 AreOfRules rules early = All (λ (alarm : Alarm). alarm.rule < length rules) early

@@ -25,7 +25,7 @@ use Rattle.sessions.specs.declared.session_fault.SessionFault.TheVariants as fau
 use Rattle.traces.specs.declared.all_traces.TheConstants.{MOST_TRACES}
 use Rattle.settling.specs.ScenarioAudit.{audit_numbers}
 
--- The text is a mode's report, which says why every plan fails where that is asked for, or that there is no plan where these rows say so rightly.
+-- The text is a mode's report, which says why every plan fails if that is asked for, or that there is no plan if these rows say so rightly.
 abbrev pub IsReport : Mode → Bool → List ℕ → Scenario → List ℕ → List ℕ → Type 0
 IsReport mode.Points why rows scenario log text = text ≡ points_report scenario log
 IsReport mode.Audit why rows scenario log text = IsAuditReport scenario log text
@@ -38,7 +38,7 @@ IsReport mode.Watch why rows scenario log text = IsWatchReport scenario log text
 abbrev pub IsEnding : Task → Scenario → List ℕ → List ℕ → Type 0
 IsEnding task = IsReport task.mode task.why task.rows
 
--- ---- what stands in the way of a report
+-- ---- what prevents a report
 
 -- More traces begin at the ticks of the window.
 abbrev pub HasManyTraces : Mode → Scenario → List ℕ → Type 0
@@ -53,7 +53,7 @@ abbrev pub lack_where : Scenario → List ℕ → Option OwnPart → Option Unre
 lack_where scenario log None = None
 lack_where scenario log (Some own) = lack_of (own_readiness (numbers_of scenario) (log_messages scenario log) scenario own)
 
--- why own ship cannot be planned for, where she is to be
+-- why own ship cannot be planned for, if she is to be
 abbrev pub lack_by : Focus → Scenario → List ℕ → Option Unready
 lack_by own_ship scenario log = lack_where scenario log scenario.own
 lack_by _ scenario log = None
@@ -75,18 +75,18 @@ abbrev pub HasNoManoeuvre : Mode → Scenario → List ℕ → Type 0
 HasNoManoeuvre mode scenario log =
     OfOwnShip (focus_of mode) (WhereSought (needs_rows mode) (OfOwn scenario log (λ own ready. AllFail (situation_on scenario log own ready))))
 
--- Rows are checked, and they are not right: this is the least index at which one is not, or their number where together they leave out a plan.
+-- Rows are checked, and they are not right: this is the least index at which one is not, or their number if together they leave out a plan.
 abbrev pub HasBadEntry : Mode → List ℕ → Scenario → List ℕ → ℕ → Type 0
 HasBadEntry mode rows scenario log k =
     OfOwnShip (focus_of mode) (WhereChecked (needs_rows mode) (OfOwn scenario log (λ own ready. IsFirstBadRow (situation_on scenario log own ready) (why_rows rows) k)))
 
--- ---- what a log comes to
+-- ---- what a log results in
 
 -- Why there is no report; or that there is one, and whether it is one without a manoeuvre.
 abbrev pub Came : Type 0
 Came = Result Bool SessionFault
 
--- This is what it comes to where it stands; else what else is.
+-- The result is this if it holds, otherwise what follows.
 abbrev pub First : Type 0 → Came → (Came → Type 0) → Came → Type 0
 First Stands here Else came = (Stands × (came ≡ here)) ⊎ ((¬ Stands) × Else came)
 
@@ -97,7 +97,7 @@ abbrev pub Unless : Option Unready → (Came → Type 0) → Came → Type 0
 Unless None Else came = Else came
 Unless (Some why) Else came = came ≡ Err (fault.Own why)
 
--- What the lines of a log come to at its end: more vessels than are held, or else more traces than are kept; or else what own ship lacks,
+-- What the lines of a log result in at its end: more vessels than are held, or else more traces than are kept; or else what own ship lacks,
 -- or that she has more targets than are planned for, or that every plan of hers fails, or which of the rows that say so is not right; or else a report.
 abbrev pub IsAnswerOf : Mode → List ℕ → Scenario → List ℕ → Came → Type 0
 IsAnswerOf mode rows scenario log =

@@ -20,7 +20,7 @@ pub record Refuses (session : Session) (piece front : List ℕ) (text : ReportTe
   pub has : HasText text (front ++ more)
   pub stopped : (fed given : List ℕ) → StandsFor session fed given → IsStopped (mode_of session) (session_scenario session) (fed ++ piece) why (given ++ more)
 
--- P holds, but for want of memory.
+-- P holds, unless memory ran out.
 abbrev pub UnlessMemory : SessionFault → Type 0 → Type 0
 UnlessMemory fault.Vessels P = P
 UnlessMemory fault.Pairs P = P

@@ -12,7 +12,7 @@ use Rattle.sessions.specs.Tasks.{Task}
 use Rattle.sessions.specs.declared.session_fault.SessionFault.{SessionFault}
 use Rattle.sessions.specs.declared.session_fault.SessionFault.TheVariants as fault
 
--- More traces begin at ticks that the lines settle, where ticks are looked at.
+-- Ticks are examined, and more traces begin at those that the lines settle.
 abbrev pub HasManySettled : Mode → Scenario → List (List ℕ) → Type 0
 HasManySettled mode scenario lines = OfTicks (focus_of mode) (HaveManySettled scenario lines)
 
@@ -37,7 +37,7 @@ pub record IsRefusedAt (mode : Mode) (scenario : Scenario) (log : List ℕ) (pla
   pub before : (shorter : ℕ) → shorter < place → IsUnrefused mode scenario (take shorter log)
   pub here : IsLogRefused mode scenario (take place log) came
 
--- What a log comes to: the refusal at the earliest place, or else what its lines come to at its end.
+-- What a log results in: the refusal at the earliest place, or else what its lines result in at its end.
 abbrev pub IsMet : Task → Scenario → List ℕ → Came → Type 0
 IsMet task scenario log came =
     ((place : ℕ) × IsRefusedAt task.mode scenario log place came) ⊎ (IsUnrefused task.mode scenario log × IsAnswerTo task scenario log came)

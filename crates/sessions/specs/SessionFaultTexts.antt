@@ -1,4 +1,4 @@
--- How the end of a session without a report is told.
+-- The words that name why a session gives no report.
 use Rattle.std.specs.Prelude.{ℕ, List, codes, ◌++◌}
 use Rattle.std.specs.Fmt.{decimal}
 use Rattle.log_lines.specs.JudgedLines.{greatest_held}

@@ -47,7 +47,7 @@ keeping_by (work.Drill audit) = Tracks
 keeping_by work.Recheck = Tracks
 keeping_by (work.Watch watch) = Tracks
 
--- What is kept of each vessel is enough for the work: an audit, a drill and a watch look back no further than to the latest tick that they took.
+-- What is stored of each vessel is enough for the work: an audit, a drill and a watch look back no further than the latest tick that they took.
 abbrev pub KeepsEnough : Work → Scenario → Keeping → Type 0
 KeepsEnough work.Points scenario keeping = keeping ≡ Latest
 KeepsEnough (work.Audit audit) scenario keeping = RemembersTicks keeping scenario (audited_ticks audit)
@@ -56,8 +56,8 @@ KeepsEnough (work.Drill audit) scenario keeping = RemembersTicks keeping scenari
 KeepsEnough work.Recheck scenario keeping = keeping ≡ Tracks
 KeepsEnough (work.Watch watch) scenario keeping = RemembersTicks keeping scenario (watched_ticks watch)
 
--- An audit has audited the ticks that the lines settle, and given the rows of which the text is; a watch has watched them, and given the alarms.
--- A drill has audited them, and its rows are not told.
+-- An audit has audited the ticks that the lines settle, and the text has the rows that it has given; a watch has watched them, and the text has
+-- its alarms. A drill has audited them, and the text has no rows.
 abbrev pub HasAudited : (work : Work) (scenario : Scenario) (lines : List (List ℕ)) (given : List ℕ) → IsDecidedText (mode_by work) scenario lines given → Type 0
 HasAudited work.Points scenario lines given decided = Unit {0}
 HasAudited (work.Audit audit) scenario lines given decided = AuditStandsFor audit scenario lines decided.0
@@ -66,7 +66,7 @@ HasAudited (work.Drill audit) scenario lines given decided = (rows : List Row) �
 HasAudited work.Recheck scenario lines given decided = Unit {0}
 HasAudited (work.Watch watch) scenario lines given decided = WatchStandsFor watch scenario lines decided.0
 
--- The session was fed these bytes of a log, none of which is refused, and has given what they settle.
+-- The session was fed these bytes of a log, no front of them is refused, and it has given what they settle.
 pub record StandsFor (session : Session) (fed given : List ℕ) : Type 0 where
   pub in_range : IsInRange session.scenario
   pub own : IsTrue (needs_own (mode_by session.work)) → IsSome session.scenario.own

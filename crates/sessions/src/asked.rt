@@ -1,10 +1,10 @@
 //! What the end of a log is asked.
 
-/// What the end of a log is asked beside the report of a mode. Each counts in the mode that uses it.
+/// The options of a report at the end of a log. Each has an effect only in the mode that uses it.
 #[derive(Clone, Copy)]
 pub struct Asked<'a> {
-    /// The report of a plan is to say why every plan fails, if every plan does.
+    /// Whether the report of a plan says why every plan fails, if every plan does.
     pub why: bool,
-    /// The text whose rows `why` a recheck checks.
+    /// The text with the rows `why` that a recheck checks.
     pub rows: &'a [u8],
 }

@@ -25,7 +25,7 @@ use report_parts::{write_counts, write_stretches, write_totals, write_vessels};
 use scenario_values::Scenario;
 use settling::SettledAudit;
 
-/// The rest of the report, behind the rows in the text, from what the audit ends with.
+/// Returns the rest of the report after the rows in the text, from what the audit ends with.
 fn rest_of_audit(
     mut text: ReportText,
     scenario: &Scenario,
@@ -35,8 +35,12 @@ fn rest_of_audit(
     requires keeping { keeping_of judge.now ≢ Latest }
     requires rows { AreOfRules scenario.now.rules end.now.rows.items }
     requires totals { length end.now.totals.items ≡ length scenario.now.rules }
-    ensures { IfOk result (λ rest. (log front : List ℕ) → HasText text front → JudgeStandsFor judge.now scenario.now (lines_of log)
-        → rest.items ≡ front ++ (stretch_rows scenario.now.rules end.now.rows.items ++ rows_behind scenario.now log end.now.totals.items)) }
+    ensures { IfOk result
+        (λ rest. (log front : List ℕ) → HasText text front
+        → JudgeStandsFor judge.now scenario.now (lines_of log)
+        → rest.items ≡ front
+        ++ (stretch_rows scenario.now.rules end.now.rows.items
+        ++ rows_behind scenario.now log end.now.totals.items)) }
 {
     write_stretches(&mut text, &scenario.rules, end.rows.as_slice())?;
     write_vessels(&mut text, judge.book())?;
@@ -45,7 +49,7 @@ fn rest_of_audit(
     Ok(text.into_bytes()?)
 }
 
-/// Ends the audit, and gives the rest of the report, behind the last rows that the audit has given, which stand in the text.
+/// Ends the audit, and returns the rest of the report after the rows that the audit gave last, which are in the text.
 pub(crate) fn end_audit(
     text: ReportText,
     scenario: &Scenario,
@@ -55,11 +59,17 @@ pub(crate) fn end_audit(
     requires in_range { IsInRange scenario.now }
     requires remembers { RemembersTicks (keeping_of judge.now) scenario.now (audited_ticks audit) }
     requires at_end { IsAuditAtEnd audit judge.now scenario.now }
-    ensures report { IfOk result (λ ending. (log before front : List ℕ) (given : List Row) → IsAuditOf audit judge.now scenario.now log given
-        → HasText text front → before ++ front ≡ stretch_rows scenario.now.rules given → IsAuditReport scenario.now log (before ++ ending.bytes.items)) }
-    ensures answer { IfOk result (λ ending. (log : List ℕ) (given : List Row) → IsAuditOf audit judge.now scenario.now log given
+    ensures report { IfOk result
+        (λ ending. (log before front : List ℕ) (given : List Row)
+        → IsAuditOf audit judge.now scenario.now log given → HasText text front
+        → before ++ front ≡ stretch_rows scenario.now.rules given
+        → IsAuditReport scenario.now log (before ++ ending.bytes.items)) }
+    ensures answer { IfOk result
+        (λ ending. (log : List ℕ) (given : List Row)
+        → IsAuditOf audit judge.now scenario.now log given
         → IsAnswerOf Audit [] scenario.now log (Ok ending.none)) }
-    ensures cause { IfErr result (λ why. (log : List ℕ) (given : List Row) → IsAuditOf audit judge.now scenario.now log given
+    ensures cause { IfErr result
+        (λ why. (log : List ℕ) (given : List Row) → IsAuditOf audit judge.now scenario.now log given
         → EndCause Audit [] scenario.now log why) }
 {
     let end = audit.end(scenario, judge)?;

@@ -23,7 +23,7 @@ use scenario_values::Scenario;
 use settling::SettledAudit;
 use std::alloc::Global;
 
-/// The report, from what the audit ends with. Its rows are not told.
+/// Returns the report, from what the audit ends with. It has no rows of stretches.
 fn drill_report(
     alloc: Global,
     scenario: &Scenario,
@@ -31,7 +31,8 @@ fn drill_report(
     judge: &Judge,
 ) -> Result<Vec<u8>, Memory>
     requires { length end.now.totals.items ≡ length scenario.now.rules }
-    ensures { IfOk result (λ text. (log : List ℕ) → JudgeStandsFor judge.now scenario.now (lines_of log)
+    ensures { IfOk result
+        (λ text. (log : List ℕ) → JudgeStandsFor judge.now scenario.now (lines_of log)
         → text.items ≡ drill_text scenario.now log end.now.totals.items) }
 {
     let mut text = ReportText::new(alloc);
@@ -40,7 +41,7 @@ fn drill_report(
     Ok(text.into_bytes()?)
 }
 
-/// Ends the audit, and gives the report, of which nothing was given before.
+/// Ends the audit, and returns the whole report.
 pub(crate) fn end_drill(
     alloc: Global,
     scenario: &Scenario,
@@ -50,11 +51,17 @@ pub(crate) fn end_drill(
     requires in_range { IsInRange scenario.now }
     requires remembers { RemembersTicks (keeping_of judge.now) scenario.now (audited_ticks audit) }
     requires at_end { IsAuditAtEnd audit judge.now scenario.now }
-    ensures report { IfOk result (λ ending. (log : List ℕ) (rows : List Row) → IsAuditOf audit judge.now scenario.now log rows
+    ensures report { IfOk result
+        (λ ending. (log : List ℕ) (rows : List Row)
+        → IsAuditOf audit judge.now scenario.now log rows
         → IsDrillReport scenario.now log ending.bytes.items) }
-    ensures answer { IfOk result (λ ending. (log : List ℕ) (rows : List Row) → IsAuditOf audit judge.now scenario.now log rows
+    ensures answer { IfOk result
+        (λ ending. (log : List ℕ) (rows : List Row)
+        → IsAuditOf audit judge.now scenario.now log rows
         → IsAnswerOf Drill [] scenario.now log (Ok ending.none)) }
-    ensures cause { IfErr result (λ why. (log : List ℕ) (rows : List Row) → IsAuditOf audit judge.now scenario.now log rows → EndCause Drill [] scenario.now log why) }
+    ensures cause { IfErr result
+        (λ why. (log : List ℕ) (rows : List Row) → IsAuditOf audit judge.now scenario.now log rows
+        → EndCause Drill [] scenario.now log why) }
 {
     let end = audit.end(scenario, judge)?;
     Ok(Ending::without_search(drill_report(alloc, scenario, &end, judge)?))

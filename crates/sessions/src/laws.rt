@@ -8,7 +8,7 @@ ghost use Rattle.sessions.specs.Refusals.{IsMet};
 use log_lines::laws::ended_lines_stay;
 use settling::laws::many_settled_stay;
 
-/// A log comes to one thing at most.
+/// A log has one result at most.
 pub fn one_answer()
     ensures { (task : Task) (scenario : Scenario) (log : List ℕ) (came other : Came) →
         IsMet task scenario log came → IsMet task scenario log other → came ≡ other }

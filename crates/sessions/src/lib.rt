@@ -1,13 +1,14 @@
 //! Reports on a log of AIS sentences that comes in pieces.
 //!
-//! A [`Session`] is fed a log piece by piece, however it is cut, and gives what the bytes so far decide of the report of its mode: with
+//! A [`Session`] takes a log in pieces, however it is cut, and returns the part of its mode's report that the bytes so far decide: with
 //! `points` the rows of the accepted reports, with `audit` those of the stretches that no later line can change, with `watch` those of
-//! the alarms. At the log's end it gives the rest of the report, or why there is none. `specs/Endings.antt` defines the reports, `specs/SettledText.antt` what a front of a log
-//! decides of them, and `specs/Refusals.antt` what ends a session before the log's end.
+//! the alarms. At the log's end it returns the rest of the report, or why there is none. `specs/Endings.antt` defines the reports,
+//! `specs/SettledText.antt` what a front of a log decides of them, and `specs/Refusals.antt` what ends a session before the log's end.
 //!
-//! A session `points` is given a log of two reports in pieces that end within the second line. The first piece gives the row of the first
-//! report, the second piece that of the second, and the end gives the 21 counts. In a session `plan` no piece gives anything.
-//! Where a log comes from and where a report goes has no place here: that is `colregs_program`.
+//! For example, a session `points` takes a log of two reports in two pieces; the first ends within the second line. The first piece results
+//! in the row of the first report, the second piece in that of the second, and the end in the 21 counts. In a session `plan` no piece results
+//! in anything.
+//! Out of scope: where a log comes from and where a report goes. That is `colregs_program`.
 #![tactic(auto)]
 
 mod asked;

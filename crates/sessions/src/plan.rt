@@ -41,7 +41,7 @@ use scenario_values::Scenario;
 use std::alloc::Global;
 use tracks::Book;
 
-/// Seeks a plan in a situation. The search keeps the situation.
+/// Searches for a plan in a situation. The search keeps the situation.
 fn sought(alloc: Global, situation: Situation) -> Result<(Search, Option<Plan>), Memory>
     requires { IsSituation situation }
     ensures situation { IfOk result (λ found. searched_situation found.0 ≡ situation) }
@@ -65,12 +65,17 @@ fn write_sought(
     requires begin { legs.now.begin ≤ 20000 }
     requires course { legs.now.ready.course < 3600 }
     requires speed { legs.now.ready.speed ≤ 1022 }
-    requires plan { IfSome (option_copied plan) (IsPlan (choices_of legs.now.lattice.now) legs.now.lattice.now.legs) }
-    ensures { OnOk result ((numbers : JudgingNumbers) (messages : List Sent) (front : List ℕ) → length messages < 2 ^ 64
-        → BookStandsFor book.now numbers messages
-        → All (λ (vessel : Near). is_held numbers messages vessel.mmsi ≡ true) near.now → HasText text.old front
-        → HasText text.new ((front ++ near_rows numbers messages near.now)
-        ++ manoeuvre_rows legs.now.begin legs.now.lattice.now legs.now.ready (option_copied plan.entry))) }
+    requires plan { IfSome (option_copied plan)
+        (IsPlan (choices_of legs.now.lattice.now) legs.now.lattice.now.legs) }
+    ensures { OnOk result
+        ((numbers : JudgingNumbers) (messages : List Sent) (front : List ℕ)
+        → length messages < 2 ^ 64 → BookStandsFor book.now numbers messages
+        → All (λ (vessel : Near). is_held numbers messages vessel.mmsi ≡ true) near.now
+        → HasText text.old front
+        → HasText text.new
+        ((front ++ near_rows numbers messages near.now)
+        ++ manoeuvre_rows legs.now.begin legs.now.lattice.now legs.now.ready
+        (option_copied plan.entry))) }
 {
     write_near(text, book, near)?;
     legs.write(text, plan)
@@ -95,12 +100,18 @@ fn write_search(
     requires in_range { IsInRange scenario }
     requires own { IsSome scenario.own }
     requires keeping { book.now.keeping ≡ Tracks }
-    requires stands { (messages : List Sent) × BookStandsFor book.now (numbers_of scenario) messages }
+    requires stands { (messages : List Sent)
+        × BookStandsFor book.now (numbers_of scenario) messages }
     ensures situation { IfOk result (λ found. IsSituation (searched_situation found.search)) }
-    ensures fail { IfOk result (λ found. found.none ≡ true → AllFail (searched_situation found.search)) }
-    ensures sought { IfOk result (λ found. (messages : List Sent) (front : List ℕ) → length messages < 2 ^ 64
-        → BookStandsFor book.now (numbers_of scenario) messages → HasText text.old front → IsSought scenario messages text.new front (searched_situation found.search) found.none) }
-    ensures cause { IfErr result (λ fault. (messages : List Sent) → BookStandsFor book.now (numbers_of scenario) messages → SoughtCause scenario messages fault) }
+    ensures fail { IfOk result
+        (λ found. found.none ≡ true → AllFail (searched_situation found.search)) }
+    ensures sought { IfOk result
+        (λ found. (messages : List Sent) (front : List ℕ) → length messages < 2 ^ 64
+        → BookStandsFor book.now (numbers_of scenario) messages → HasText text.old front
+        → IsSought scenario messages text.new front (searched_situation found.search) found.none) }
+    ensures cause { IfErr result
+        (λ fault. (messages : List Sent) → BookStandsFor book.now (numbers_of scenario) messages
+        → SoughtCause scenario messages fault) }
 {
     let begin = scenario.window.ticks;
     let prepared = prepare(alloc, scenario, book)?;
@@ -133,8 +144,11 @@ fn plan_report(
 ) -> Result<Ending, SessionFault>
     requires situation { IsSituation (searched_situation found.now.search) }
     requires fail { found.now.none ≡ true → AllFail (searched_situation found.now.search) }
-    ensures report { IfOk result (λ ending. (scenario : Scenario) (lines : List (List ℕ)) (front : List ℕ) → JudgeStandsFor judge.now scenario lines → HasText text front
-        → (reasons : List ℕ) × AreReasonsWhere why found.now.none (searched_situation found.now.search) reasons
+    ensures report { IfOk result
+        (λ ending. (scenario : Scenario) (lines : List (List ℕ)) (front : List ℕ)
+        → JudgeStandsFor judge.now scenario lines → HasText text front
+        → (reasons : List ℕ)
+        × AreReasonsWhere why found.now.none (searched_situation found.now.search) reasons
         × (ending.bytes.items ≡ (front ++ count_rows (judged_lines scenario lines)) ++ reasons)) }
     ensures none { IfOk result (λ ending. ending.none ≡ found.now.none) }
     ensures memory { IfErr result (λ why. why ≡ fault.Memory) }
@@ -148,7 +162,7 @@ fn plan_report(
     })
 }
 
-/// Seeks a plan, and gives the report, of which nothing was given before. With `why` it says why every plan fails, if every plan does.
+/// Seeks a plan, and returns the whole report. With `why` it says why every plan fails, if every plan does.
 pub(crate) fn end_plan(
     alloc: Global,
     scenario: Scenario,
@@ -159,10 +173,15 @@ pub(crate) fn end_plan(
     requires own { IsSome scenario.own }
     requires keeping { keeping_of judge.now ≡ Tracks }
     requires at_end { (log : List ℕ) × JudgeStandsFor judge.now scenario (lines_of log) }
-    ensures report { IfOk result (λ ending. (log : List ℕ) → JudgeStandsFor judge.now scenario (lines_of log) → IsPlanReport why scenario log ending.bytes.items) }
-    ensures answer { IfOk result (λ ending. (log : List ℕ) → JudgeStandsFor judge.now scenario (lines_of log)
+    ensures report { IfOk result
+        (λ ending. (log : List ℕ) → JudgeStandsFor judge.now scenario (lines_of log)
+        → IsPlanReport why scenario log ending.bytes.items) }
+    ensures answer { IfOk result
+        (λ ending. (log : List ℕ) → JudgeStandsFor judge.now scenario (lines_of log)
         → IsAnswerOf mode.Plan [] scenario log (Ok ending.none)) }
-    ensures cause { IfErr result (λ why. (log : List ℕ) → JudgeStandsFor judge.now scenario (lines_of log) → EndCause mode.Plan [] scenario log why) }
+    ensures cause { IfErr result
+        (λ why. (log : List ℕ) → JudgeStandsFor judge.now scenario (lines_of log)
+        → EndCause mode.Plan [] scenario log why) }
 {
     let mut text = ReportText::new(alloc);
     match write_search(alloc, scenario, judge.book(), &mut text) {

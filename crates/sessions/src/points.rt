@@ -14,9 +14,11 @@ use audit_report::ReportText;
 use log_lines::Judge;
 use report_parts::write_counts;
 
-/// The rest of the report, behind the rows of the last lines in the text.
+/// Returns the rest of the report after the rows of the last lines, which are in the text.
 pub(crate) fn end_points(mut text: ReportText, judge: &Judge) -> Result<Ending, SessionFault>
-    ensures report { IfOk result (λ ending. (scenario : Scenario) (log front : List ℕ) → HasText text front → JudgeStandsFor judge.now scenario (lines_of log)
+    ensures report { IfOk result
+        (λ ending. (scenario : Scenario) (log front : List ℕ) → HasText text front
+        → JudgeStandsFor judge.now scenario (lines_of log)
         → ending.bytes.items ≡ front ++ count_rows (judged_lines scenario (lines_of log))) }
     ensures search { IfOk result (λ ending. ending.none ≡ false) }
     ensures memory { IfErr result (λ why. why ≡ fault.Memory) }

@@ -13,7 +13,7 @@ use refutation_search::explain;
 use refutations::{WhyEntry, entry_bytes};
 use std::alloc::Global;
 
-/// Adds the rows of entries to the bytes of a report.
+/// Appends the rows of entries to the bytes of a report.
 fn add_entries(
     alloc: Global,
     situation: &Situation,
@@ -21,7 +21,8 @@ fn add_entries(
     bytes: &mut Vec<u8>,
 ) -> Result<(), Memory>
     requires { All (IsEntry situation.now) entries.now }
-    ensures { OnOk result (bytes.new.items ≡ bytes.old.items ++ flat_map (entry_text situation.now) entries.now) }
+    ensures { OnOk result
+        (bytes.new.items ≡ bytes.old.items ++ flat_map (entry_text situation.now) entries.now) }
 {
     for entry in entries {
         let row = entry_bytes(alloc, situation, entry)?;
@@ -30,7 +31,7 @@ fn add_entries(
     Ok(())
 }
 
-/// Adds the rows that say why every plan fails to the bytes of a report, where that is asked for and none was found.
+/// Appends the rows that say why every plan fails to the bytes of a report, if they are asked for and no plan was found.
 pub(crate) fn add_reasons(
     alloc: Global,
     situation: &Situation,
@@ -40,7 +41,9 @@ pub(crate) fn add_reasons(
 ) -> Result<(), Memory>
     requires situation { IsSituation situation.now }
     requires fail { none ≡ true → AllFail situation.now }
-    ensures { OnOk result ((reasons : List ℕ) × AreReasonsWhere why none situation.now reasons × (bytes.new.items ≡ bytes.old.items ++ reasons)) }
+    ensures { OnOk result
+        ((reasons : List ℕ) × AreReasonsWhere why none situation.now reasons
+        × (bytes.new.items ≡ bytes.old.items ++ reasons)) }
 {
     if !why {
         return Ok(());

@@ -28,7 +28,7 @@ use refutations::Checked;
 use scenario_values::Scenario;
 use std::alloc::Global;
 
-/// The situation in which own ship's plan is sought.
+/// Returns the situation in which own ship's plan is sought.
 pub(crate) fn situation_at_end(
     alloc: Global,
     scenario: Scenario,
@@ -39,15 +39,19 @@ pub(crate) fn situation_at_end(
     requires keeping { keeping_of judge.now ≡ Tracks }
     requires at_end { (log : List ℕ) × JudgeStandsFor judge.now scenario (lines_of log) }
     ensures sound { IfOk result IsSituation }
-    ensures situation { IfOk result (λ situation. (log : List ℕ) → JudgeStandsFor judge.now scenario (lines_of log) → IsSituationOn scenario log situation) }
-    ensures cause { IfErr result (λ why. (log : List ℕ) → JudgeStandsFor judge.now scenario (lines_of log)
-        → (mode : Mode) (rows : List ℕ) → focus_of mode ≡ own_ship → EndCause mode rows scenario log why) }
+    ensures situation { IfOk result
+        (λ situation. (log : List ℕ) → JudgeStandsFor judge.now scenario (lines_of log)
+        → IsSituationOn scenario log situation) }
+    ensures cause { IfErr result
+        (λ why. (log : List ℕ) → JudgeStandsFor judge.now scenario (lines_of log)
+        → (mode : Mode) (rows : List ℕ) → focus_of mode ≡ own_ship
+        → EndCause mode rows scenario log why) }
 {
     let prepared = prepare(alloc, scenario, judge.book())?;
     Ok(prepared.situation)
 }
 
-/// The row that says that there is none of so many plans.
+/// Returns the row that says that each of this number of plans fails.
 fn no_plan(alloc: Global, plans: u32) -> Result<Vec<u8>, Memory>
     ensures { IfOk result (λ text. text.items ≡ row_of (no_plan_fields plans)) }
 {
@@ -56,7 +60,7 @@ fn no_plan(alloc: Global, plans: u32) -> Result<Vec<u8>, Memory>
     Ok(text.into_bytes()?)
 }
 
-/// The report of a situation in which these rows are checked.
+/// Checks these rows in a situation, and returns the report.
 fn checked_report(alloc: Global, situation: &Situation, rows: &[u8]) -> Result<Ending, SessionFault>
     requires sound { IsSituation situation.now }
     requires few { length rows.now ≤ GREATEST_TEXT }
@@ -69,7 +73,7 @@ fn checked_report(alloc: Global, situation: &Situation, rows: &[u8]) -> Result<E
     }
 }
 
-/// The report, of which nothing was given before: that there is no plan, where the rows `why` of a text say rightly why.
+/// Returns the whole report: that there is no plan, if the rows `why` of a text say rightly why.
 pub(crate) fn end_recheck(
     alloc: Global,
     scenario: Scenario,
@@ -81,9 +85,15 @@ pub(crate) fn end_recheck(
     requires keeping { keeping_of judge.now ≡ Tracks }
     requires at_end { (log : List ℕ) × JudgeStandsFor judge.now scenario (lines_of log) }
     requires few { length rows.now ≤ GREATEST_TEXT }
-    ensures report { IfOk result (λ ending. (log : List ℕ) → JudgeStandsFor judge.now scenario (lines_of log) → IsRecheckReport rows.now scenario log ending.bytes.items) }
-    ensures answer { IfOk result (λ ending. (log : List ℕ) → JudgeStandsFor judge.now scenario (lines_of log) → IsAnswerOf mode.Recheck rows.now scenario log (Ok ending.none)) }
-    ensures cause { IfErr result (λ why. (log : List ℕ) → JudgeStandsFor judge.now scenario (lines_of log) → EndCause mode.Recheck rows.now scenario log why) }
+    ensures report { IfOk result
+        (λ ending. (log : List ℕ) → JudgeStandsFor judge.now scenario (lines_of log)
+        → IsRecheckReport rows.now scenario log ending.bytes.items) }
+    ensures answer { IfOk result
+        (λ ending. (log : List ℕ) → JudgeStandsFor judge.now scenario (lines_of log)
+        → IsAnswerOf mode.Recheck rows.now scenario log (Ok ending.none)) }
+    ensures cause { IfErr result
+        (λ why. (log : List ℕ) → JudgeStandsFor judge.now scenario (lines_of log)
+        → EndCause mode.Recheck rows.now scenario log why) }
 {
     let situation = situation_at_end(alloc, scenario, judge)?;
     checked_report(alloc, &situation, rows)

@@ -31,10 +31,10 @@ use settling::laws::many_settled_stay;
 use std::alloc::Global;
 use tasks::{Mode, needs_own};
 
-/// So many ticks are taken at least before what lies before them is forgotten.
+/// The least number of ticks that are taken before what lies before them is forgotten.
 const TICKS_AT_LEAST: u32 = 64;
 
-/// So many of the first bytes of a piece as there is room for.
+/// Returns the prefix of `piece` that fits in `room`.
 fn fitting(piece: &[u8], room: u64) -> &[u8]
     ensures { result.now ≡ take room piece.now }
 {
@@ -45,12 +45,13 @@ fn fitting(piece: &[u8], room: u64) -> &[u8]
     }
 }
 
-/// The values that a mode looks at: own ship's where it needs her alone.
+/// Returns the values that a mode uses: own ship's only if it needs her.
 fn scenario_for(mut scenario: Scenario, mode: Mode) -> Scenario
     requires { IsInRange scenario }
     ensures value { result ≡ scenario_for mode scenario }
     ensures in_range { IsInRange result }
-    ensures own { (IsTrue (needs_own mode) → IsSome scenario.own) → IsTrue (needs_own mode) → IsSome result.own }
+    ensures own { (IsTrue (needs_own mode) → IsSome scenario.own) → IsTrue (needs_own mode)
+        → IsSome result.own }
 {
     if !needs_own(mode) {
         scenario.own = None;
@@ -58,7 +59,7 @@ fn scenario_for(mut scenario: Scenario, mode: Mode) -> Scenario
     scenario
 }
 
-/// How many ticks pass before what lies before them is forgotten: as many as the time that no tick settles lasts, and some more.
+/// Returns how many ticks pass before what lies before them is forgotten: those of the time that lines leave unsettled, and some more.
 fn ticks_remembered(scenario: &Scenario) -> u32
     requires { IsInRange scenario.now }
 {
@@ -66,8 +67,8 @@ fn ticks_remembered(scenario: &Scenario) -> u32
     unsettled / scenario.window.tick + TICKS_AT_LEAST
 }
 
-/// The report of a mode on a log that comes in pieces. It is fed the log however it is cut, gives what is decided by the bytes so far, and
-/// at the log's end the rest.
+/// The report of a mode on a log that comes in pieces, however it is cut. Each piece results in what the bytes so far decide, and the log's
+/// end in the rest.
 #[derive(Drop)]
 pub struct Session {
     alloc: Global,
@@ -76,18 +77,19 @@ pub struct Session {
     lines: StreamedLines,
     /// How many bytes were fed.
     taken: u64,
-    /// Once so many ticks were taken, what lies before them is forgotten.
+    /// Once this number of ticks is taken, what lies before them is forgotten.
     forgets_at: u32,
 }
 
 impl Session {
-    /// The session of a mode on a scenario, before the first byte. Own ship is needed where she is planned for; any other mode leaves her out,
-    /// so that its window of lines ends a gap behind the last tick.
+    /// Returns the session of a mode on a scenario, before the first byte. A mode that plans for own ship needs her; any other mode leaves her
+    /// out, and its window of lines ends one gap after the last tick.
     pub fn new(alloc: Global, scenario: Scenario, mode: Mode) -> Result<Session, Memory>
         requires in_range { IsInRange scenario }
         requires own { IsTrue (needs_own mode) → IsSome scenario.own }
         ensures mode { IfOk result (λ session. mode_of session ≡ mode) }
-        ensures scenario { IfOk result (λ session. session_scenario session ≡ scenario_for mode scenario) }
+        ensures scenario { IfOk result
+            (λ session. session_scenario session ≡ scenario_for mode scenario) }
         ensures stands { IfOk result (λ session. StandsFor session [] []) }
     {
         let scenario = scenario_for(scenario, mode);
@@ -104,23 +106,28 @@ impl Session {
         })
     }
 
-    /// How many bytes may still come.
+    /// Returns how many bytes may still come.
     pub fn room(&self) -> u64
         requires { IsInUse self.now }
-        ensures { (fed given : List ℕ) → StandsFor self.now fed given → result ≡ (session_scenario self.now).log.max_bytes - length fed }
+        ensures { (fed given : List ℕ) → StandsFor self.now fed given
+            → result ≡ (session_scenario self.now).log.max_bytes - length fed }
     {
         self.scenario.log.max_bytes - self.taken
     }
 
-    /// Takes the bytes before a line feed and the line feed, and writes what is decided by the line that it ends.
+    /// Takes the bytes before a line feed and the line feed, and writes what the line decides.
     fn take_line(&mut self, part: &[u8], text: &mut ReportText) -> Result<(), SessionFault>
         requires ready { IsReadyToTake self.old (part.now ++ 10 ∷ []) }
         requires part { All (λ byte. is_line_feed byte ≡ false) part.now }
         ensures mode { mode_of self.new ≡ mode_of self.old }
         ensures scenario { session_scenario self.new ≡ session_scenario self.old }
         ensures count { taken_of self.new ≡ taken_of self.old }
-        ensures taken { OnOk result ((front : List ℕ) → HasText text.old front → TookLines self.old self.new (part.now ++ 10 ∷ []) front text.new) }
-        ensures refused { IfErr result (λ why. UnlessMemory why ((text.new ≡ text.old) × RefusesPiece self.old (part.now ++ 10 ∷ []) why)) }
+        ensures taken { OnOk result
+            ((front : List ℕ) → HasText text.old front
+            → TookLines self.old self.new (part.now ++ 10 ∷ []) front text.new) }
+        ensures refused { IfErr result
+            (λ why. UnlessMemory why
+            ((text.new ≡ text.old) × RefusesPiece self.old (part.now ++ 10 ∷ []) why)) }
     {
         ended_lines_stay();
         let judged = self.lines.end_line(part)?;
@@ -128,16 +135,21 @@ impl Session {
             .go_on(&self.scenario, self.lines.judge(), &judged, text)
     }
 
-    /// Takes the next bytes line by line, and writes what is decided by them. Every byte that is read of a log goes through this one loop,
-    /// and the line feed that ends an open line at its end: what is called for a line has one caller, and is put in line.
+    /// Takes the next bytes line by line, and writes what they decide. Every byte of a log goes through this one loop, and so does the line
+    /// feed that ends an open line at the log's end: what is called for a line has one caller, and is inlined.
     fn take_lines(&mut self, bytes: &[u8], text: &mut ReportText) -> Result<(), SessionFault>
         requires ready { IsReadyToTake self.old bytes.now }
         requires text { (front : List ℕ) × HasText text.old front }
         ensures mode { mode_of self.new ≡ mode_of self.old }
         ensures scenario { session_scenario self.new ≡ session_scenario self.old }
         ensures count { taken_of self.new ≡ taken_of self.old }
-        ensures taken { OnOk result ((front : List ℕ) → HasText text.old front → TookLines self.old self.new bytes.now front text.new) }
-        ensures refused { IfErr result (λ why. UnlessMemory why ((front : List ℕ) → HasText text.old front → RefusesLine self.old bytes.now front text.new why)) }
+        ensures taken { OnOk result
+            ((front : List ℕ) → HasText text.old front
+            → TookLines self.old self.new bytes.now front text.new) }
+        ensures refused { IfErr result
+            (λ why. UnlessMemory why
+            ((front : List ℕ) → HasText text.old front
+            → RefusesLine self.old bytes.now front text.new why)) }
     {
         a_part_goes_on();
         let mut at = 0;
@@ -153,14 +165,15 @@ impl Session {
         Ok(())
     }
 
-    /// Forgets where vessels were before the latest tick that was taken, each time that as many have been taken as are remembered. So what is kept does
-    /// not grow with the log, and to forget a report costs no more than to keep it.
+    /// Forgets where vessels were before the latest tick that was taken, each time that as many ticks are taken as are remembered. So the
+    /// stored data does not grow with the log, and forgetting a report costs no more than storing it.
     fn forget(&mut self)
         requires { IsInUse self.old }
         ensures mode { mode_of self.new ≡ mode_of self.old }
         ensures scenario { session_scenario self.new ≡ session_scenario self.old }
         ensures count { taken_of self.new ≡ taken_of self.old }
-        ensures stands { (fed given : List ℕ) → StandsFor self.old fed given → StandsFor self.new fed given }
+        ensures stands { (fed given : List ℕ) → StandsFor self.old fed given
+            → StandsFor self.new fed given }
     {
         if let Some(time) = self.work.looks_back_to(&self.scenario, self.forgets_at) {
             self.lines.forget(time);
@@ -170,9 +183,8 @@ impl Session {
         }
     }
 
-    /// Feeds it the next bytes of a log, and writes what is decided by them behind the rows of the text. Where it is refused, what the
-    /// bytes before the refusal's place decide is written. After an `Err` the session may only be dropped, and for want of memory the
-    /// text too.
+    /// Takes the next bytes of a log, and writes what they decide after the rows of the text. If the log is refused, it writes what the
+    /// bytes before the refusal's place decide. After an `Err` the session may only be dropped, and so may the text if memory ran out.
     pub fn feed_into(&mut self, piece: &[u8], text: &mut ReportText) -> Result<(), SessionFault>
         requires in_use { IsInUse self.old }
         requires text { (front : List ℕ) × HasText text.old front }
@@ -180,8 +192,13 @@ impl Session {
         ensures scenario { session_scenario self.new ≡ session_scenario self.old }
         ensures in_use { OnOk result (IsInUse self.new) }
         ensures count { OnOk result (taken_of self.new ≡ taken_of self.old + length piece.now) }
-        ensures taken { OnOk result ((front : List ℕ) → HasText text.old front → TookPiece self.old self.new piece.now front text.new) }
-        ensures refused { IfErr result (λ why. UnlessMemory why ((front : List ℕ) → HasText text.old front → Refuses self.old piece.now front text.new why)) }
+        ensures taken { OnOk result
+            ((front : List ℕ) → HasText text.old front
+            → TookPiece self.old self.new piece.now front text.new) }
+        ensures refused { IfErr result
+            (λ why. UnlessMemory why
+            ((front : List ℕ) → HasText text.old front
+            → Refuses self.old piece.now front text.new why)) }
     {
         ended_lines_stay();
         a_part_goes_on();
@@ -196,30 +213,39 @@ impl Session {
         Ok(())
     }
 
-    /// Feeds it the next bytes of a log, and gives what is decided by them behind what was given before. After an `Err` the session may
-    /// only be dropped: a caller who wants what earlier lines of the piece decided feeds no more than one line feed, or calls `feed_into`.
+    /// Takes the next bytes of a log, and returns what they decide. After an `Err` the session may only be dropped: a caller who wants what
+    /// earlier lines of the piece decided feeds no more than one line feed, or calls `feed_into`.
     pub fn feed(&mut self, piece: &[u8]) -> Result<Vec<u8>, SessionFault>
         requires in_use { IsInUse self.old }
         ensures mode { mode_of self.new ≡ mode_of self.old }
         ensures scenario { session_scenario self.new ≡ session_scenario self.old }
         ensures in_use { OnOk result (IsInUse self.new) }
-        ensures given { IfOk result (λ bytes. (fed given : List ℕ) → StandsFor self.old fed given → StandsFor self.new (fed ++ piece.now) (given ++ bytes.items)) }
-        ensures refused { IfErr result (λ why. UnlessMemory why ((fed given : List ℕ) → StandsFor self.old fed given → (decided : List ℕ)
-            × IsStopped (mode_of self.old) (session_scenario self.old) (fed ++ piece.now) why (given ++ decided))) }
+        ensures given { IfOk result
+            (λ bytes. (fed given : List ℕ) → StandsFor self.old fed given
+            → StandsFor self.new (fed ++ piece.now) (given ++ bytes.items)) }
+        ensures refused { IfErr result
+            (λ why. UnlessMemory why
+            ((fed given : List ℕ) → StandsFor self.old fed given
+            → (decided : List ℕ)
+            × IsStopped (mode_of self.old) (session_scenario self.old) (fed ++ piece.now) why
+            (given ++ decided))) }
     {
         let mut text = ReportText::new(self.alloc);
         self.feed_into(piece, &mut text)?;
         Ok(text.into_bytes()?)
     }
 
-    /// Ends the line that is open, if one is, as a line feed does, and gives the text of what is decided by it.
+    /// Ends the line that is open, if one is, as a line feed does, and returns the text of what it decides.
     fn end_line(&mut self) -> Result<ReportText, SessionFault>
         requires { IsInUse self.old }
         ensures mode { mode_of self.new ≡ mode_of self.old }
         ensures scenario { session_scenario self.new ≡ session_scenario self.old }
         ensures ended { IfOk result (EndedLine self.old self.new []) }
-        ensures refused { IfErr result (λ why. UnlessMemory why ((fed given : List ℕ) → StandsFor self.old fed given
-            → (task : Task) → task.mode ≡ mode_of self.old → IsAnswerTo task (session_scenario self.old) fed (Err why))) }
+        ensures refused { IfErr result
+            (λ why. UnlessMemory why
+            ((fed given : List ℕ) → StandsFor self.old fed given → (task : Task)
+            → task.mode ≡ mode_of self.old
+            → IsAnswerTo task (session_scenario self.old) fed (Err why))) }
     {
         let mut text = ReportText::new(self.alloc);
         if !self.lines.is_open() {
@@ -229,15 +255,22 @@ impl Session {
         Ok(text)
     }
 
-    /// Ends the log, and gives the rest of the report, which does not say why every plan fails. Of a recheck it checks no rows.
+    /// Ends the log, and returns the rest of the report, which does not say why every plan fails. A recheck checks no rows.
     pub fn end(self) -> Result<Ending, SessionFault>
         requires in_use { IsInUse self }
-        ensures report { IfOk result (λ ending. (fed given : List ℕ) → StandsFor self fed given
-            → IsEnding (record { mode = mode_of self; why = false; rows = [] }) (session_scenario self) fed (given ++ ending.bytes.items)) }
-        ensures answer { IfOk result (λ ending. (fed given : List ℕ) → StandsFor self fed given
-            → IsAnswerTo (record { mode = mode_of self; why = false; rows = [] }) (session_scenario self) fed (Ok ending.none)) }
-        ensures refused { IfErr result (λ why. UnlessMemory why ((fed given : List ℕ) → StandsFor self fed given
-            → IsAnswerTo (record { mode = mode_of self; why = false; rows = [] }) (session_scenario self) fed (Err why))) }
+        ensures report { IfOk result
+            (λ ending. (fed given : List ℕ) → StandsFor self fed given
+            → IsEnding (record { mode = mode_of self; why = false; rows = [] })
+            (session_scenario self) fed (given ++ ending.bytes.items)) }
+        ensures answer { IfOk result
+            (λ ending. (fed given : List ℕ) → StandsFor self fed given
+            → IsAnswerTo (record { mode = mode_of self; why = false; rows = [] })
+            (session_scenario self) fed (Ok ending.none)) }
+        ensures refused { IfErr result
+            (λ why. UnlessMemory why
+            ((fed given : List ℕ) → StandsFor self fed given
+            → IsAnswerTo (record { mode = mode_of self; why = false; rows = [] })
+            (session_scenario self) fed (Err why))) }
     {
         self.finish(&Asked {
             why: false,
@@ -245,16 +278,23 @@ impl Session {
         })
     }
 
-    /// Ends the log, and gives the rest of the report that is asked for. Rows that a recheck checks have at most 2^24 bytes.
+    /// Ends the log, and returns the rest of the report that is asked for. Rows that a recheck checks have at most 2^24 bytes.
     pub fn finish(mut self, asked: &Asked<'_>) -> Result<Ending, SessionFault>
         requires in_use { IsInUse self }
         requires rows { length asked.now.rows.now ≤ GREATEST_TEXT }
-        ensures report { IfOk result (λ ending. (fed given : List ℕ) → StandsFor self fed given
-            → IsEnding (task_by (mode_of self) asked.now) (session_scenario self) fed (given ++ ending.bytes.items)) }
-        ensures answer { IfOk result (λ ending. (fed given : List ℕ) → StandsFor self fed given
-            → IsAnswerTo (task_by (mode_of self) asked.now) (session_scenario self) fed (Ok ending.none)) }
-        ensures refused { IfErr result (λ why. UnlessMemory why ((fed given : List ℕ) → StandsFor self fed given
-            → IsAnswerTo (task_by (mode_of self) asked.now) (session_scenario self) fed (Err why))) }
+        ensures report { IfOk result
+            (λ ending. (fed given : List ℕ) → StandsFor self fed given
+            → IsEnding (task_by (mode_of self) asked.now) (session_scenario self) fed
+            (given ++ ending.bytes.items)) }
+        ensures answer { IfOk result
+            (λ ending. (fed given : List ℕ) → StandsFor self fed given
+            → IsAnswerTo (task_by (mode_of self) asked.now) (session_scenario self) fed
+            (Ok ending.none)) }
+        ensures refused { IfErr result
+            (λ why. UnlessMemory why
+            ((fed given : List ℕ) → StandsFor self fed given
+            → IsAnswerTo (task_by (mode_of self) asked.now) (session_scenario self) fed
+            (Err why))) }
     {
         match self.end_line() {
             Ok(text) => {
@@ -276,18 +316,21 @@ impl Session {
         }
     }
 
-    /// Ends the log, and gives the situation in which own ship's plan is sought, of a mode that looks at her.
+    /// Ends the log, and returns the situation in which own ship's plan is sought. The mode must need her.
     pub fn situation(mut self) -> Result<Situation, SessionFault>
         requires in_use { IsInUse self }
         requires own { IsTrue (needs_own (mode_of self)) }
         ensures sound { IfOk result IsSituation }
-        ensures situation { IfOk result (λ situation. (fed given : List ℕ) → StandsFor self fed given
+        ensures situation { IfOk result
+            (λ situation. (fed given : List ℕ) → StandsFor self fed given
             → IsSituationOn (session_scenario self) fed situation) }
-        // No 4097th vessel is held, also by a last line that no line feed ended.
+        // No 4097th vessel is held, even if the last line has no line feed.
         ensures calm { IfOk result (λ _. (fed given : List ℕ) → StandsFor self fed given
             → is_crowded (session_scenario self) (lines_of fed) ≡ false) }
-        ensures refused { IfErr result (λ why. UnlessMemory why ((fed given : List ℕ) → StandsFor self fed given
-            → (task : Task) → task.mode ≡ mode_of self → IsAnswerTo task (session_scenario self) fed (Err why))) }
+        ensures refused { IfErr result
+            (λ why. UnlessMemory why
+            ((fed given : List ℕ) → StandsFor self fed given → (task : Task)
+            → task.mode ≡ mode_of self → IsAnswerTo task (session_scenario self) fed (Err why))) }
     {
         match self.end_line() {
             Ok(text) => {

@@ -6,7 +6,7 @@ use std::error::Error;
 use std::fmt;
 use tracks::{BookFault, MOST_VESSELS};
 
-/// Why a session gives no report. It is printed as the program's line of it begins: `limit: vessels 4096`, `own: no point`, `memory`.
+/// Why a session gives no report. It prints as the beginning of the program's line for it: `limit: vessels 4096`, `own: no point`, `memory`.
 #[derive(Clone, Copy, Debug, PartialEq, Eq)]
 pub enum SessionFault {
     /// A line makes a 4097th vessel held.

@@ -21,7 +21,7 @@ use report_parts::{write_alarms, write_counts};
 use scenario_values::Scenario;
 use settling::SettledWatch;
 
-/// Ends the watch, and gives the rest of the report, behind the last alarms that the watch has given, which stand in the text.
+/// Ends the watch, and returns the rest of the report after the alarms that the watch gave last, which are in the text.
 pub(crate) fn end_watch(
     mut text: ReportText,
     scenario: &Scenario,
@@ -31,11 +31,18 @@ pub(crate) fn end_watch(
     requires in_range { IsInRange scenario.now }
     requires remembers { RemembersTicks (keeping_of judge.now) scenario.now (watched_ticks watch) }
     requires at_end { IsWatchAtEnd watch judge.now scenario.now }
-    ensures report { IfOk result (λ ending. (log before front : List ℕ) (given : List Alarm) → IsWatchOf watch judge.now scenario.now log given
-        → HasText text front → before ++ front ≡ alarm_rows scenario.now.rules given → IsWatchReport scenario.now log (before ++ ending.bytes.items)) }
-    ensures answer { IfOk result (λ ending. (log : List ℕ) (given : List Alarm) → IsWatchOf watch judge.now scenario.now log given
+    ensures report { IfOk result
+        (λ ending. (log before front : List ℕ) (given : List Alarm)
+        → IsWatchOf watch judge.now scenario.now log given → HasText text front
+        → before ++ front ≡ alarm_rows scenario.now.rules given
+        → IsWatchReport scenario.now log (before ++ ending.bytes.items)) }
+    ensures answer { IfOk result
+        (λ ending. (log : List ℕ) (given : List Alarm)
+        → IsWatchOf watch judge.now scenario.now log given
         → IsAnswerOf Watch [] scenario.now log (Ok ending.none)) }
-    ensures cause { IfErr result (λ why. (log : List ℕ) (given : List Alarm) → IsWatchOf watch judge.now scenario.now log given
+    ensures cause { IfErr result
+        (λ why. (log : List ℕ) (given : List Alarm)
+        → IsWatchOf watch judge.now scenario.now log given
         → EndCause Watch [] scenario.now log why) }
 {
     let alarms = watch.end(scenario, judge)?;

@@ -32,7 +32,7 @@ use std::alloc::Global;
 use tasks::Mode;
 use tracks::Keeping;
 
-/// What a mode does, and what it keeps beside the lines.
+/// What a mode does, and what it stores beside the lines.
 #[derive(Drop)]
 pub(crate) enum Work {
     Points,
@@ -44,7 +44,7 @@ pub(crate) enum Work {
 }
 
 impl Work {
-    /// The work of a mode, before the first line.
+    /// Returns the work of a mode, before the first line.
     pub(crate) fn of(alloc: Global, scenario: &Scenario, mode: Mode) -> Result<Work, Memory>
         requires { IsInRange scenario.now }
         ensures mode { IfOk result (λ work. mode_by work ≡ mode) }
@@ -60,7 +60,7 @@ impl Work {
         }
     }
 
-    /// How much it needs kept of each vessel.
+    /// Returns how much it needs stored of each vessel.
     pub(crate) fn keeping(&self) -> Keeping
         ensures { result ≡ keeping_by self.now }
     {
@@ -71,10 +71,11 @@ impl Work {
         }
     }
 
-    /// The time before which the work does not look back any more, where it has taken at least so many ticks of the window.
+    /// Returns the time before which the work no longer looks back, if it has taken at least `ticks` ticks of the window.
     pub(crate) fn looks_back_to(&self, scenario: &Scenario, ticks: u32) -> Option<u64>
         requires { IsInRange scenario.now }
-        ensures { IfSome result (λ time. (keeping : Keeping) → KeepsEnough self.now scenario.now keeping
+        ensures { IfSome result
+            (λ time. (keeping : Keeping) → KeepsEnough self.now scenario.now keeping
             → KeepsEnough self.now scenario.now (forgetting keeping time)) }
     {
         match self {
@@ -86,7 +87,7 @@ impl Work {
         }
     }
 
-    /// Does the work on a line that the judge has taken, and writes what is decided by it.
+    /// Does the work on a line that the judge has taken, and writes what the line decides.
     pub(crate) fn go_on(
         &mut self,
         scenario: &Scenario,
@@ -98,10 +99,14 @@ impl Work {
         requires keeping { KeepsEnough self.old scenario.now (keeping_of judge.now) }
         requires ready { IsReadyFor self.old scenario.now judge.now }
         ensures mode { mode_by self.new ≡ mode_by self.old }
-        ensures goes_on { OnOk result ((front : List ℕ) → HasText text.old front → GoesOn self.old self.new scenario.now judge.now judged.now front text.new) }
-        ensures few { OnOk result ((lines more : List (List ℕ)) → Works self.old scenario.now judge.now lines more
+        ensures goes_on { OnOk result
+            ((front : List ℕ) → HasText text.old front
+            → GoesOn self.old self.new scenario.now judge.now judged.now front text.new) }
+        ensures few { OnOk result
+            ((lines more : List (List ℕ)) → Works self.old scenario.now judge.now lines more
             → HasManySettled (mode_by self.old) scenario.now (lines ++ more) → ⊥) }
-        ensures many { result ≡ Err fault.Pairs → (lines more : List (List ℕ)) → Works self.old scenario.now judge.now lines more
+        ensures many { result ≡ Err fault.Pairs → (lines more : List (List ℕ))
+            → Works self.old scenario.now judge.now lines more
             → HasManySettled (mode_by self.old) scenario.now (lines ++ more) }
         ensures unwritten { result ≡ Err fault.Pairs → text.new ≡ text.old }
         ensures alone { IfErr result (λ why. why ≢ fault.Pairs → why ≡ fault.Memory) }
@@ -124,8 +129,8 @@ impl Work {
         }
     }
 
-    /// Ends the work at a log's end, when it was done on all lines, and gives the rest of the report that is asked for, behind the rows in the
-    /// text, which are what the last lines decided.
+    /// Ends the work after the last line of a log, and returns the rest of the report that is asked for, after the rows in the text, which are
+    /// what the last lines decided.
     pub(crate) fn end(
         self,
         alloc: Global,
@@ -138,7 +143,8 @@ impl Work {
         requires own { IsTrue (needs_own (mode_by self)) → IsSome scenario.own }
         requires keeping { KeepsEnough self scenario (keeping_of judge.now) }
         requires rows { length asked.now.rows.now ≤ GREATEST_TEXT }
-        requires at_end { (log : List ℕ) × (given : List ℕ) × IsAtEnd self judge.now scenario log given }
+        requires at_end { (log : List ℕ) × (given : List ℕ)
+            × IsAtEnd self judge.now scenario log given }
         ensures report { IfOk result (EndsWithReport self judge.now scenario asked.now text) }
         ensures answer { IfOk result (EndsWithAnswer self judge.now scenario asked.now) }
         ensures cause { IfErr result (EndsWithCause self judge.now scenario asked.now) }

@@ -59,7 +59,7 @@ each_has_reported judge vessels time k vessel seen within =
       reported = seen_has_reported numbers messages (get_or vessels k vessel).0 time (get_or vessels k vessel).1 (all k vessel within);
     }
 
--- Where a time is remembered, the reports that are kept tell which was the last by then.
+-- If a time is remembered, the reports that are kept show which was the last by then.
 pub kept_report : (keeping : Keeping) (numbers : JudgingNumbers) (messages : List Sent) (mmsi : ℕ) (kept : List Accepted) (time : ℕ) → Remembers keeping time
     → kept ≡ kept_points keeping (accepted_of numbers messages mmsi) → report_at kept time ≡ report_at (accepted_of numbers messages mmsi) time
 kept_report keeping numbers messages mmsi kept time remembers is =

@@ -32,7 +32,7 @@ pub record HasJudged (judge : Judge) (scenario : Scenario) : Type 0 where
 abbrev pub latest_time : Scenario → ℕ → ℕ
 latest_time scenario count = time_of_tick scenario.window (count - 1)
 
--- What is kept tells who was seen at the latest of so many ticks.
+-- What is kept shows who was seen at the latest of this number of ticks.
 abbrev pub RemembersTicks : Keeping → Scenario → ℕ → Type 0
 RemembersTicks keeping scenario count = Remembers keeping (latest_time scenario count)
 

@@ -35,7 +35,8 @@ fn walk(points: &[Accepted], time: u64, guess: usize) -> usize {
 fn count_by(points: &[Accepted], time: u64) -> usize
     requires { IsNonDecreasingBy (λ point. point.time) points.now }
     ensures bound { result ≤ length points.now }
-    ensures parts { IsPartitionPoint (λ (point : Accepted). point.time ≤ time) (λ (point : Accepted). time < point.time) points.now result }
+    ensures parts { IsPartitionPoint (λ (point : Accepted). point.time ≤ time)
+        (λ (point : Accepted). time < point.time) points.now result }
 {
     points.partition_point(|point| point.time <= time)
 }

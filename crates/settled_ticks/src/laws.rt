@@ -7,16 +7,20 @@ ghost use Rattle.settled_ticks.specs.Sightings.{sighting_by};
 
 /// A tick that is settled stays so, whatever lines follow.
 pub fn settled_ticks_stay()
-    ensures { (scenario : Scenario) (lines more : List (List ℕ)) (i : ℕ) → IsSettled scenario lines i → IsSettled scenario (lines ++ more) i }
+    ensures { (scenario : Scenario) (lines more : List (List ℕ)) (i : ℕ)
+        → IsSettled scenario lines i → IsSettled scenario (lines ++ more) i }
 {}
 
 /// The settled ticks are the first ones: with a tick each earlier one is settled.
 pub fn settled_ticks_are_first()
-    ensures { (scenario : Scenario) (lines : List (List ℕ)) (i j : ℕ) → IsSettled scenario lines i → j ≤ i → IsSettled scenario lines j }
+    ensures { (scenario : Scenario) (lines : List (List ℕ)) (i j : ℕ) → IsSettled scenario lines i
+        → j ≤ i → IsSettled scenario lines j }
 {}
 
 /// The vessels that are seen at a settled tick, their states there and their ranks are the same whatever lines follow.
 pub fn what_is_settled_stays()
-    ensures { (scenario : Scenario) (lines more : List (List ℕ)) (i : ℕ) → IsSettled scenario lines i →
-        sighting_by scenario (sent scenario (lines ++ more)) i ≡ sighting_by scenario (sent scenario lines) i }
+    ensures { (scenario : Scenario) (lines more : List (List ℕ)) (i : ℕ)
+        → IsSettled scenario lines i
+        → sighting_by scenario (sent scenario (lines ++ more)) i
+        ≡ sighting_by scenario (sent scenario lines) i }
 {}

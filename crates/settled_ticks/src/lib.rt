@@ -5,7 +5,7 @@
 //!
 //! With a gap of 60 seconds, a slack of 30 and ticks of 10 seconds from second 1700000000 on, a clock of 1700000101 has settled the ticks 0 and 1,
 //! and not the tick 2 at second 1700000020.
-//! What is made of a tick has no place here: it is handed out as the vessels seen, with their states.
+//! What is made of a tick is out of scope: it is handed out as the vessels seen, with their states.
 #![tactic(auto)]
 
 mod guesses;

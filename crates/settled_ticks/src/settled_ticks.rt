@@ -75,7 +75,7 @@ impl SettledTicks {
         self.next
     }
 
-    /// The time of the tick that was handed out last, or of the first one where none was: what lies before is not looked at again.
+    /// Returns the time of the tick that was handed out last, or of the first one if none was. What lies before is not needed again.
     pub fn latest_time(&self, scenario: &Scenario) -> u64
         requires { IsInRange scenario.now }
         ensures { result ≡ latest_time scenario.now (handed_out self.now) }
@@ -87,9 +87,11 @@ impl SettledTicks {
     fn is_settled(&self, scenario: &Scenario, judge: &Judge) -> bool
         requires { IsInRange scenario.now }
         ensures within { result ≡ true → self.now.next ≤ scenario.now.window.ticks }
-        ensures settled { result ≡ true → (lines : List (List ℕ)) → JudgeStandsFor judge.now scenario.now lines
+        ensures settled { result ≡ true → (lines : List (List ℕ))
+            → JudgeStandsFor judge.now scenario.now lines
             → IsSettled scenario.now lines self.now.next }
-        ensures open { result ≡ false → (lines : List (List ℕ)) → JudgeStandsFor judge.now scenario.now lines
+        ensures open { result ≡ false → (lines : List (List ℕ))
+            → JudgeStandsFor judge.now scenario.now lines
             → IsSettled scenario.now lines self.now.next → ⊥ }
     {
         let window = &scenario.window;
@@ -97,19 +99,25 @@ impl SettledTicks {
         self.next <= window.ticks && is_past(judge.clock(), window.time(self.next) + behind)
     }
 
-    /// Hands out the next tick, by what the judge's lines tell.
+    /// Hands out the next tick, as the judge's lines show it.
     fn hand_out(&mut self, scenario: &Scenario, judge: &Judge) -> Result<(), Memory>
         requires in_range { IsInRange scenario.now }
-        requires remembers { RemembersTicks (keeping_of judge.now) scenario.now (handed_out self.old) }
+        requires remembers { RemembersTicks (keeping_of judge.now) scenario.now
+            (handed_out self.old) }
         requires judged { HasJudged judge.now scenario.now }
         requires within { self.old.next ≤ scenario.now.window.ticks }
         ensures next { OnOk result (self.new.next ≡ self.old.next + 1) }
         ensures ascending { OnOk result (AreAscending (latest_sighting self.new).vessels) }
         ensures placed { OnOk result (ArePlaced (latest_sighting self.new).vessels) }
-        ensures seen { OnOk result ((lines : List (List ℕ)) → JudgeStandsFor judge.now scenario.now lines → latest_sighting self.new
+        ensures seen { OnOk result
+            ((lines : List (List ℕ)) → JudgeStandsFor judge.now scenario.now lines
+            → latest_sighting self.new
             ≡ sighting_by scenario.now (sent scenario.now lines) self.old.next) }
-        ensures moves { OnOk result ((lines : List (List ℕ)) → JudgeStandsFor judge.now scenario.now lines
-            → MoveLittle (last_sighting (seen_first scenario.now (sent scenario.now lines) self.old.next)).vessels (latest_sighting self.new).vessels) }
+        ensures moves { OnOk result
+            ((lines : List (List ℕ)) → JudgeStandsFor judge.now scenario.now lines
+            → MoveLittle (last_sighting
+            (seen_first scenario.now (sent scenario.now lines) self.old.next)).vessels
+            (latest_sighting self.new).vessels) }
     {
         let book = judge.book();
         book.moves_little();
@@ -120,16 +128,22 @@ impl SettledTicks {
         Ok(())
     }
 
-    /// Hands out the next tick if the judge's lines settle it, and tells whether they do. Where they do not, this takes no memory.
+    /// Hands out the next tick if the judge's lines settle it, and returns whether they do. If they do not, this takes no memory.
     pub fn next(&mut self, scenario: &Scenario, judge: &Judge) -> Result<bool, Memory>
         requires in_range { IsInRange scenario.now }
-        requires remembers { RemembersTicks (keeping_of judge.now) scenario.now (handed_out self.old) }
+        requires remembers { RemembersTicks (keeping_of judge.now) scenario.now
+            (handed_out self.old) }
         requires judged { HasJudged judge.now scenario.now }
-        ensures handed { IfOk result (λ more. more ≡ true → IsHandedOut self.old self.new scenario.now judge.now) }
-        ensures settled { IfOk result (λ more. more ≡ true → (lines : List (List ℕ)) → JudgeStandsFor judge.now scenario.now lines
+        ensures handed { IfOk result
+            (λ more. more ≡ true → IsHandedOut self.old self.new scenario.now judge.now) }
+        ensures settled { IfOk result
+            (λ more. more ≡ true → (lines : List (List ℕ))
+            → JudgeStandsFor judge.now scenario.now lines
             → IsSettled scenario.now lines (handed_out self.old)) }
         ensures same { IfOk result (λ more. more ≡ false → self.new ≡ self.old) }
-        ensures open { IfOk result (λ more. more ≡ false → (lines : List (List ℕ)) → JudgeStandsFor judge.now scenario.now lines
+        ensures open { IfOk result
+            (λ more. more ≡ false → (lines : List (List ℕ))
+            → JudgeStandsFor judge.now scenario.now lines
             → IsSettled scenario.now lines (handed_out self.old) → ⊥) }
     {
         if !self.is_settled(scenario, judge) {
@@ -139,14 +153,17 @@ impl SettledTicks {
         Ok(true)
     }
 
-    /// Hands out the next tick by what the lines of the whole log tell, settled or not, and tells whether one was left.
+    /// Hands out the next tick as the lines of the whole log show it, settled or not, and returns whether one was left.
     pub fn next_at_end(&mut self, scenario: &Scenario, judge: &Judge) -> Result<bool, Memory>
         requires in_range { IsInRange scenario.now }
-        requires remembers { RemembersTicks (keeping_of judge.now) scenario.now (handed_out self.old) }
+        requires remembers { RemembersTicks (keeping_of judge.now) scenario.now
+            (handed_out self.old) }
         requires judged { HasJudged judge.now scenario.now }
-        ensures handed { IfOk result (λ more. more ≡ true → IsHandedOut self.old self.new scenario.now judge.now) }
+        ensures handed { IfOk result
+            (λ more. more ≡ true → IsHandedOut self.old self.new scenario.now judge.now) }
         ensures same { IfOk result (λ more. more ≡ false → self.new ≡ self.old) }
-        ensures all { IfOk result (λ more. more ≡ false → scenario.now.window.ticks < handed_out self.old) }
+        ensures all { IfOk result
+            (λ more. more ≡ false → scenario.now.window.ticks < handed_out self.old) }
     {
         if scenario.window.ticks < self.next {
             return Ok(false);

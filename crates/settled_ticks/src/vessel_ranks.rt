@@ -32,8 +32,10 @@ fn place_from(book: &Book, from: usize, mmsi: u32) -> usize {
 
 /// The accepted reports of a vessel that are kept, which are found without a search where she is held at this index.
 fn points_near(judge: &Judge, place: usize, mmsi: u32) -> &[Accepted]
-    ensures { (scenario : Scenario) (lines : List (List ℕ)) → JudgeStandsFor judge.now scenario lines
-        → result.now ≡ kept_points (keeping_of judge.now) (accepted_of (numbers_of scenario) (sent scenario lines) mmsi) }
+    ensures { (scenario : Scenario) (lines : List (List ℕ))
+        → JudgeStandsFor judge.now scenario lines
+        → result.now ≡ kept_points (keeping_of judge.now)
+        (accepted_of (numbers_of scenario) (sent scenario lines) mmsi) }
 {
     let book = judge.book();
     if place < book.vessels() {
@@ -57,8 +59,10 @@ fn rank_of(
 ) -> Rank
     requires remembers { Remembers (keeping_of judge.now) time }
     requires reported { HasReported judge.now vessel.now.0 time }
-    ensures { (scenario : Scenario) (lines : List (List ℕ)) → JudgeStandsFor judge.now scenario lines
-        → RanksStandFor types.now (noted (sent scenario lines)) → result ≡ vessel_rank scenario (sent scenario lines) time vessel.now }
+    ensures { (scenario : Scenario) (lines : List (List ℕ))
+        → JudgeStandsFor judge.now scenario lines
+        → RanksStandFor types.now (noted (sent scenario lines))
+        → result ≡ vessel_rank scenario (sent scenario lines) time vessel.now }
 {
     let points = points_near(judge, place, vessel.0);
     let last = last_near(points, time, guesses.at(place));
@@ -76,7 +80,8 @@ pub(crate) fn rank_all(
 ) -> Result<(), Memory>
     requires remembers { Remembers (keeping_of judge.now) time }
     requires seen { AreSeen judge.now seen.now time }
-    ensures { OnOk result ((scenario : Scenario) (lines : List (List ℕ)) → JudgeStandsFor judge.now scenario lines
+    ensures { OnOk result
+        ((scenario : Scenario) (lines : List (List ℕ)) → JudgeStandsFor judge.now scenario lines
         → ranks.new.items ≡ ranks_of scenario (sent scenario lines) time seen.now) }
 {
     ranks.clear();

@@ -71,6 +71,6 @@ pub given_are_decided : (scenario : Scenario) (audit : Audit) (ticks : SettledTi
 given_are_decided scenario audit ticks lines given up =
     let numbers = audit_numbers scenario in
     let seen = seen_first scenario (sent scenario lines) (handed_out ticks) in
-    let count : length seen ≡ handed_out ticks = sym up.taken.stands.stands.traces.count ∙ up.taken.next in
+    let count : length seen ≡ handed_out ticks = sym up.taken.stands.stands.window.stands.count ∙ up.taken.next in
     rows_by_settled_ticks scenario lines (handed_out ticks) given up.settled
     (subst (λ (n : ℕ). AreAuditRowsBelow numbers seen (settled_by numbers (n - 1)) given) count up.taken.stands.rows)

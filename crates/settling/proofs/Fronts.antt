@@ -1,4 +1,4 @@
--- Lists in order, of which one is a front of another: what stands in the longer one before one of the shorter one's is among the shorter one's.
+-- Lists in order, one a front of another: what stands in the longer one before one of the shorter one's is among the shorter one's.
 use Rattle.std.proofs.Common.{◌≡◌, ℕ, ◌<◌, ◌≤◌, ◌⊎◌, inl, inr, List, [], ◌∷◌, ◌++◌, map, refl, sym, ap, ap₂, subst, ◌∙◌, arith}
 use Rattle.std.specs.List.{Contains}
 use Rattle.std.specs.List.Sorted.{IsStrictlySortedBy}

@@ -48,7 +48,7 @@ reach_within [] rule lt = absurd (omega arith)
 reach_within (r ∷ rs) zero lt = omega arith
 reach_within (r ∷ rs) (suc rule) lt = let rest = reach_within rs rule (omega arith) in omega arith
 
--- ---- what is known at a step of a front, whatever steps come behind it
+-- ---- what is known at a step of a front, whatever steps come after
 
 agreed_mark : (detect : Detect) (steps others : List (Option PairStep)) (i : ℕ) (mark : Mark) → Agree steps others i → seen_at steps i ≡ seen_at others i
     → IsMeetingMark detect steps i mark → IsMeetingMark detect others i mark
@@ -94,7 +94,7 @@ module _ (numbers : AuditNumbers) (ticks others : List Sighting) (until : ℕ) (
       };
     }
 
-    -- the steps up to the tick, and those behind it
+    -- the steps up to the tick, and those after
     front_of : List Sighting → List (Option PairStep)
     front_of seen = steps_from (seen_state_at seen pair.subject) (seen_state_at seen pair.other) start (until - start)
 

@@ -205,7 +205,7 @@ module _ (scenario : Scenario) where
         settled = settled_below lines (handed_out ticks) (handed_out after) handed.next up.settled settled;
       }
 
-    -- ---- behind the last tick
+    -- ---- after the last tick
 
     all_handed_out : (lines : List (List ℕ)) (given : List Item) → HasTaken taker ticks scenario lines given
         → scenario.window.ticks < handed_out ticks → handed_out ticks ≡ scenario.window.ticks + 1

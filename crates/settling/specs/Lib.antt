@@ -6,6 +6,7 @@ pub use Rattle.settled_ticks.specs.Settled
 pub use Rattle.settled_ticks.specs.Sightings
 pub mod ScenarioAudit
 pub mod ManySettled
+pub mod Further
 pub mod DecidedRows
 pub mod DecidedAlarms
 pub mod Standing

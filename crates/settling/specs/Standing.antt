@@ -8,7 +8,7 @@ use Rattle.settling.specs.Inner.AuditedTicks.{audit_taker}
 use Rattle.settling.specs.Inner.TakenTicks.{HasTakenOneLog, HasTakenSettled}
 use Rattle.settling.specs.declared.settled_audit.SettledAudit.{SettledAudit}
 
--- The settled ticks are those that were audited, by what these lines tell, and these rows were given.
+-- The settled ticks are those that were audited, as these lines show them, and these rows were given.
 abbrev pub StandsFor : SettledAudit → Scenario → List (List ℕ) → List Row → Type 0
 StandsFor audit scenario lines given =
     HasTakenSettled (audit_taker audit.settled.taker) audit.settled.ticks scenario lines given

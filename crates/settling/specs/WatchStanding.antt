@@ -8,7 +8,7 @@ use Rattle.settling.specs.Inner.TakenTicks.{HasTakenOneLog, HasTakenSettled}
 use Rattle.settling.specs.Inner.WatchedTicks.{watch_taker}
 use Rattle.settling.specs.declared.settled_watch.SettledWatch.{SettledWatch}
 
--- The settled ticks are those that were watched, by what these lines tell, and these alarms were given.
+-- The settled ticks are those that were watched, as these lines show them, and these alarms were given.
 abbrev pub StandsFor : SettledWatch → Scenario → List (List ℕ) → List Alarm → Type 0
 StandsFor watch scenario lines given =
     HasTakenSettled (watch_taker watch.settled.taker) watch.settled.ticks scenario lines given

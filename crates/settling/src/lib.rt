@@ -5,8 +5,8 @@
 //! front of the report's. A `SettledAudit` audits the ticks as they are settled, and gives the rows as they are decided. An alarm is
 //! decided once the tick is settled at which its deciding step ends; a `SettledWatch` watches the ticks, and gives the alarms.
 //!
-//! With a gap of 60 seconds and a slack of 30, the tick at second 1700000000 is settled by the first line of which the stamp is past 1700000090.
-//! What a row's text is has no place here: rows and alarms are given as values.
+//! With a gap of 60 seconds and a slack of 30, the tick at second 1700000000 is settled by the first line with a stamp past 1700000090.
+//! The text of a row is out of scope: rows and alarms are values.
 #![tactic(auto)]
 
 pub mod laws;

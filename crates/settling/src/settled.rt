@@ -49,12 +49,13 @@ pub struct Settled<T: TickTaker> {
 impl<T: TickTaker> Settled<T> {
     ghost use Rattle.std.specs.Prelude.{ℕ, ◌≡◌, ◌++◌, [], List, Err, IfOk, OnOk};
     ghost use Rattle.log_lines.specs.SentLines.{sent};
-    ghost use Rattle.log_lines.specs.Standing.{StandsFor as JudgeStandsFor, keeping_of};
+    ghost use Rattle.log_lines.specs.Standing.{keeping_of};
     ghost use Rattle.scenario_values.specs.ValueRanges.{IsInRange};
     ghost use Rattle.scenario_values.specs.declared.values.Scenario.{Scenario};
     ghost use Rattle.settled_ticks.specs.Sightings.{sighted};
     ghost use Rattle.settled_ticks.specs.Standing.{RemembersTicks, handed_out, latest_time};
     ghost use Rattle.settling.specs.Inner.TakenTicks.{HasTakenAll, HasTakenOneLog, HasTakenSettled, IsBeforeAll};
+    ghost use Rattle.settling.specs.Further.{Then};
     ghost use Rattle.settling.specs.ManySettled.{HaveManySettled};
     ghost use Rattle.settling.specs.ScenarioAudit.{audit_numbers};
     ghost use Rattle.traces.specs.ManyTraces.{HaveMoreThan};
@@ -80,8 +81,8 @@ impl<T: TickTaker> Settled<T> {
         self.ticks.count()
     }
 
-    /// The time of the tick that was taken last, or of the first one where none was: where vessels were before is not looked at again, and
-    /// may be forgotten.
+    /// Returns the time of the tick that was taken last, or of the first one if none was. Where vessels were before is not needed again,
+    /// and may be forgotten.
     pub fn latest_time(&self, scenario: &Scenario) -> u64
         requires { IsInRange scenario.now }
         ensures { result ≡ latest_time scenario.now (handed_out self.now.ticks) }
@@ -97,18 +98,16 @@ impl<T: TickTaker> Settled<T> {
             (handed_out self.old.ticks) }
         requires one_log { HasTakenOneLog (T.taker self.old.taker) self.old.ticks scenario.now
             judge.now }
-        ensures stands { IfOk result (λ items. (lines more : List (List ℕ)) (given : List T.Item)
-            → HasTakenSettled (T.taker self.old.taker) self.old.ticks scenario.now lines given
-            → JudgeStandsFor judge.now scenario.now (lines ++ more)
-            → HasTakenSettled (T.taker self.new.taker) self.new.ticks scenario.now (lines ++ more)
-            (given ++ items.items)) }
+        ensures stands { IfOk result
+            (λ items. Then (HasTakenSettled (T.taker self.old.taker) self.old.ticks scenario.now)
+            scenario.now judge.now
+            (λ lines given. HasTakenSettled
+            (T.taker self.new.taker) self.new.ticks scenario.now lines (given ++ items.items))) }
         ensures remembers { OnOk result
             (RemembersTicks (keeping_of judge.now) scenario.now (handed_out self.new.ticks)) }
         ensures many { result ≡ Err TooManyPairs
-            → (lines more : List (List ℕ)) (given : List T.Item)
-            → HasTakenSettled (T.taker self.old.taker) self.old.ticks scenario.now lines given
-            → JudgeStandsFor judge.now scenario.now (lines ++ more)
-            → HaveManySettled scenario.now (lines ++ more) }
+            → Then (HasTakenSettled (T.taker self.old.taker) self.old.ticks scenario.now)
+            scenario.now judge.now (λ lines given. HaveManySettled scenario.now lines) }
     {
         let mut items = Vec::new(self.alloc);
         while self.ticks.next(scenario, judge)? {
@@ -118,24 +117,23 @@ impl<T: TickTaker> Settled<T> {
         Ok(items)
     }
 
-    /// Gives the taker the ticks that are left, by what the lines of the whole log tell, and gives the items that they bring.
+    /// Gives the taker the ticks that are left, as the lines of the whole log show them, and returns the items that they bring.
     pub fn finish(&mut self, scenario: &Scenario, judge: &Judge) -> Result<Vec<T::Item>, TickFault>
         requires in_range { IsInRange scenario.now }
         requires remembers { RemembersTicks (keeping_of judge.now) scenario.now
             (handed_out self.old.ticks) }
         requires one_log { HasTakenOneLog (T.taker self.old.taker) self.old.ticks scenario.now
             judge.now }
-        ensures all { IfOk result (λ rest. (lines more : List (List ℕ)) (given : List T.Item)
-            → HasTakenSettled (T.taker self.old.taker) self.old.ticks scenario.now lines given
-            → JudgeStandsFor judge.now scenario.now (lines ++ more)
-            → HasTakenAll (T.taker self.new.taker) scenario.now (lines ++ more)
-            (given ++ rest.items)) }
+        ensures all { IfOk result
+            (λ rest. Then (HasTakenSettled (T.taker self.old.taker) self.old.ticks scenario.now)
+            scenario.now judge.now
+            (λ lines given. HasTakenAll (T.taker self.new.taker) scenario.now lines
+            (given ++ rest.items))) }
         ensures many { result ≡ Err TooManyPairs
-            → (lines more : List (List ℕ)) (given : List T.Item)
-            → HasTakenSettled (T.taker self.old.taker) self.old.ticks scenario.now lines given
-            → JudgeStandsFor judge.now scenario.now (lines ++ more)
-            → HaveMoreThan MOST_TRACES (audit_numbers scenario.now)
-            (sighted scenario.now (sent scenario.now (lines ++ more))) }
+            → Then (HasTakenSettled (T.taker self.old.taker) self.old.ticks scenario.now)
+            scenario.now judge.now
+            (λ lines given. HaveMoreThan MOST_TRACES (audit_numbers scenario.now)
+            (sighted scenario.now (sent scenario.now lines))) }
     {
         let mut rest = Vec::new(self.alloc);
         while self.ticks.next_at_end(scenario, judge)? {

@@ -6,9 +6,10 @@ ghost use Rattle.auditor.specs.AuditTotals.{AreTotals};
 ghost use Rattle.traces.specs.ManyTraces.{HaveMoreThan};
 ghost use Rattle.traces.specs.declared.fault.TickFault.TheVariants.{TooManyPairs};
 ghost use Rattle.log_lines.specs.SentLines.{sent};
-ghost use Rattle.log_lines.specs.Standing.{StandsFor as JudgeStandsFor, keeping_of};
+ghost use Rattle.log_lines.specs.Standing.{keeping_of};
 ghost use Rattle.scenario_values.specs.ValueRanges.{IsInRange};
 ghost use Rattle.settling.specs.DecidedRows.{AreDecided};
+ghost use Rattle.settling.specs.Further.{Then};
 ghost use Rattle.settling.specs.ManySettled.{HaveManySettled};
 ghost use Rattle.traces.specs.declared.all_traces.TheConstants.{MOST_TRACES};
 ghost use Rattle.settled_ticks.specs.Standing.{RemembersTicks, latest_time};
@@ -41,7 +42,7 @@ impl TickTaker for Audit {
     }
 }
 
-/// The audit of a window's ticks, of which each is taken once the lines of a log settle it.
+/// The audit of a window's ticks. It takes each tick once the lines of a log settle it.
 #[derive(Drop)]
 pub struct SettledAudit {
     settled: Settled<Audit>,
@@ -73,8 +74,8 @@ impl SettledAudit {
         self.settled.count()
     }
 
-    /// The time of the tick that was taken last, or of the first one where none was: where vessels were before is not looked at again, and
-    /// may be forgotten.
+    /// Returns the time of the tick that was taken last, or of the first one if none was. Where vessels were before is not needed again,
+    /// and may be forgotten.
     pub fn latest_time(&self, scenario: &Scenario) -> u64
         requires { IsInRange scenario.now }
         ensures { result ≡ latest_time scenario.now (audited_ticks self.now) }
@@ -89,59 +90,48 @@ impl SettledAudit {
         requires remembers { RemembersTicks (keeping_of judge.now) scenario.now
             (audited_ticks self.old) }
         requires one_log { AreOfOneLog self.old scenario.now judge.now }
-        ensures stands { IfOk result (λ rows. (lines more : List (List ℕ)) (given : List Row)
-            → StandsFor self.old scenario.now lines given
-            → JudgeStandsFor judge.now scenario.now (lines ++ more)
-            → StandsFor self.new scenario.now (lines ++ more) (given ++ rows.items)) }
+        ensures stands { IfOk result
+            (λ rows. Then (StandsFor self.old scenario.now) scenario.now judge.now
+            (λ lines given. StandsFor self.new scenario.now lines (given ++ rows.items))) }
         ensures remembers { OnOk result
             (RemembersTicks (keeping_of judge.now) scenario.now (audited_ticks self.new)) }
-        ensures decided { IfOk result (λ rows. (lines more : List (List ℕ)) (given : List Row)
-            → StandsFor self.old scenario.now lines given
-            → JudgeStandsFor judge.now scenario.now (lines ++ more)
-            → AreDecided scenario.now (lines ++ more) (given ++ rows.items)) }
+        ensures decided { IfOk result
+            (λ rows. Then (StandsFor self.old scenario.now) scenario.now judge.now
+            (λ lines given. AreDecided scenario.now lines (given ++ rows.items))) }
         // The limit is met exactly where a 4097th trace begins at a settled tick; memory may run out before.
-        ensures many { result ≡ Err TooManyPairs → (lines more : List (List ℕ)) (given : List Row)
-            → StandsFor self.old scenario.now lines given
-            → JudgeStandsFor judge.now scenario.now (lines ++ more)
-            → HaveManySettled scenario.now (lines ++ more) }
-        ensures few { OnOk result ((lines more : List (List ℕ)) (given : List Row)
-            → StandsFor self.old scenario.now lines given
-            → JudgeStandsFor judge.now scenario.now (lines ++ more)
-            → HaveManySettled scenario.now (lines ++ more) → ⊥) }
+        ensures many { result ≡ Err TooManyPairs
+            → Then (StandsFor self.old scenario.now) scenario.now judge.now
+            (λ lines given. HaveManySettled scenario.now lines) }
+        ensures few { OnOk result (Then (StandsFor self.old scenario.now) scenario.now judge.now
+            (λ lines given. HaveManySettled scenario.now lines → ⊥)) }
     {
         self.settled.settle(scenario, judge)
     }
 
-    /// Audits the ticks that are left by what the lines of the whole log tell, and ends the audit: the rows behind those that were
-    /// given, and one total for each rule.
+    /// Audits the ticks that are left, as the lines of the whole log show them, and ends the audit. Returns the rows after those that
+    /// were given, and one total for each rule.
     pub fn end(self, scenario: &Scenario, judge: &Judge) -> Result<AuditEnd, AuditFault>
         requires in_range { IsInRange scenario.now }
         requires remembers { RemembersTicks (keeping_of judge.now) scenario.now
             (audited_ticks self) }
         requires one_log { AreOfOneLog self scenario.now judge.now }
-        ensures rows { IfOk result (λ end. (lines more : List (List ℕ)) (given : List Row)
-            → StandsFor self scenario.now lines given
-            → JudgeStandsFor judge.now scenario.now (lines ++ more)
-            → AreAuditRows (audit_numbers scenario.now)
-            (sighted scenario.now (sent scenario.now (lines ++ more)))
-            (given ++ end.rows.items)) }
-        ensures totals { IfOk result (λ end. (lines more : List (List ℕ)) (given : List Row)
-            → StandsFor self scenario.now lines given
-            → JudgeStandsFor judge.now scenario.now (lines ++ more)
-            → AreTotals (audit_numbers scenario.now)
-            (sighted scenario.now (sent scenario.now (lines ++ more)))
-            (given ++ end.rows.items) end.totals.items) }
+        ensures rows { IfOk result (λ end. Then (StandsFor self scenario.now) scenario.now judge.now
+            (λ lines given. AreAuditRows (audit_numbers scenario.now)
+            (sighted scenario.now (sent scenario.now lines))
+            (given ++ end.rows.items))) }
+        ensures totals { IfOk result
+            (λ end. Then (StandsFor self scenario.now) scenario.now judge.now
+            (λ lines given. AreTotals (audit_numbers scenario.now)
+            (sighted scenario.now (sent scenario.now lines))
+            (given ++ end.rows.items) end.totals.items)) }
         // The limit is met exactly where a 4097th trace begins; memory may run out before.
-        ensures many { result ≡ Err TooManyPairs → (lines more : List (List ℕ)) (given : List Row)
-            → StandsFor self scenario.now lines given
-            → JudgeStandsFor judge.now scenario.now (lines ++ more)
-            → HaveMoreThan MOST_TRACES (audit_numbers scenario.now)
-            (sighted scenario.now (sent scenario.now (lines ++ more))) }
-        ensures few { OnOk result ((lines more : List (List ℕ)) (given : List Row)
-            → StandsFor self scenario.now lines given
-            → JudgeStandsFor judge.now scenario.now (lines ++ more)
-            → HaveMoreThan MOST_TRACES (audit_numbers scenario.now)
-            (sighted scenario.now (sent scenario.now (lines ++ more))) → ⊥) }
+        ensures many { result ≡ Err TooManyPairs
+            → Then (StandsFor self scenario.now) scenario.now judge.now
+            (λ lines given. HaveMoreThan MOST_TRACES (audit_numbers scenario.now)
+            (sighted scenario.now (sent scenario.now lines))) }
+        ensures few { OnOk result (Then (StandsFor self scenario.now) scenario.now judge.now
+            (λ lines given. HaveMoreThan MOST_TRACES (audit_numbers scenario.now)
+            (sighted scenario.now (sent scenario.now lines)) → ⊥)) }
     {
         let SettledAudit { mut settled } = self;
         let mut rows = settled.finish(scenario, judge)?;

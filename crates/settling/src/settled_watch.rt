@@ -3,11 +3,12 @@ ghost use Rattle.std.specs.Prelude.{◌≡◌, ◌++◌, [], ℕ, List, IfOk, On
 ghost use Rattle.early_monitor.specs.Alarms.{AreAlarms};
 ghost use Rattle.early_monitor.specs.declared.alarm.Alarm.{Alarm};
 ghost use Rattle.log_lines.specs.SentLines.{sent};
-ghost use Rattle.log_lines.specs.Standing.{StandsFor as JudgeStandsFor, keeping_of};
+ghost use Rattle.log_lines.specs.Standing.{keeping_of};
 ghost use Rattle.scenario_values.specs.ValueRanges.{IsInRange};
 ghost use Rattle.settled_ticks.specs.Sightings.{sighted};
 ghost use Rattle.settled_ticks.specs.Standing.{RemembersTicks, latest_time};
 ghost use Rattle.settling.specs.DecidedAlarms.{AreDecidedAlarms};
+ghost use Rattle.settling.specs.Further.{Then};
 ghost use Rattle.settling.specs.ManySettled.{HaveManySettled};
 ghost use Rattle.settling.specs.ScenarioAudit.{audit_numbers};
 ghost use Rattle.settling.specs.WatchStanding.{AreOfOneLog, StandsFor, watched_ticks};
@@ -40,7 +41,7 @@ impl TickTaker for Watch {
     }
 }
 
-/// The watch over a window's ticks, of which each is taken once the lines of a log settle it.
+/// The watch over a window's ticks. It takes each tick once the lines of a log settle it.
 #[derive(Drop)]
 pub struct SettledWatch {
     settled: Settled<Watch>,
@@ -72,8 +73,8 @@ impl SettledWatch {
         self.settled.count()
     }
 
-    /// The time of the tick that was taken last, or of the first one where none was: where vessels were before is not looked at again, and
-    /// may be forgotten.
+    /// Returns the time of the tick that was taken last, or of the first one if none was. Where vessels were before is not needed again,
+    /// and may be forgotten.
     pub fn latest_time(&self, scenario: &Scenario) -> u64
         requires { IsInRange scenario.now }
         ensures { result ≡ latest_time scenario.now (watched_ticks self.now) }
@@ -88,54 +89,43 @@ impl SettledWatch {
         requires remembers { RemembersTicks (keeping_of judge.now) scenario.now
             (watched_ticks self.old) }
         requires one_log { AreOfOneLog self.old scenario.now judge.now }
-        ensures stands { IfOk result (λ alarms. (lines more : List (List ℕ)) (given : List Alarm)
-            → StandsFor self.old scenario.now lines given
-            → JudgeStandsFor judge.now scenario.now (lines ++ more)
-            → StandsFor self.new scenario.now (lines ++ more) (given ++ alarms.items)) }
+        ensures stands { IfOk result
+            (λ alarms. Then (StandsFor self.old scenario.now) scenario.now judge.now
+            (λ lines given. StandsFor self.new scenario.now lines (given ++ alarms.items))) }
         ensures remembers { OnOk result
             (RemembersTicks (keeping_of judge.now) scenario.now (watched_ticks self.new)) }
-        ensures decided { IfOk result (λ alarms. (lines more : List (List ℕ)) (given : List Alarm)
-            → StandsFor self.old scenario.now lines given
-            → JudgeStandsFor judge.now scenario.now (lines ++ more)
-            → AreDecidedAlarms scenario.now (lines ++ more) (given ++ alarms.items)) }
+        ensures decided { IfOk result
+            (λ alarms. Then (StandsFor self.old scenario.now) scenario.now judge.now
+            (λ lines given. AreDecidedAlarms scenario.now lines (given ++ alarms.items))) }
         // The limit is met exactly where a 4097th trace begins at a settled tick; memory may run out before.
         ensures many { result ≡ Err TooManyPairs
-            → (lines more : List (List ℕ)) (given : List Alarm)
-            → StandsFor self.old scenario.now lines given
-            → JudgeStandsFor judge.now scenario.now (lines ++ more)
-            → HaveManySettled scenario.now (lines ++ more) }
-        ensures few { OnOk result ((lines more : List (List ℕ)) (given : List Alarm)
-            → StandsFor self.old scenario.now lines given
-            → JudgeStandsFor judge.now scenario.now (lines ++ more)
-            → HaveManySettled scenario.now (lines ++ more) → ⊥) }
+            → Then (StandsFor self.old scenario.now) scenario.now judge.now
+            (λ lines given. HaveManySettled scenario.now lines) }
+        ensures few { OnOk result (Then (StandsFor self.old scenario.now) scenario.now judge.now
+            (λ lines given. HaveManySettled scenario.now lines → ⊥)) }
     {
         self.settled.settle(scenario, judge)
     }
 
-    /// Watches the ticks that are left by what the lines of the whole log tell, and ends the watch: the alarms behind those that were
-    /// given.
+    /// Watches the ticks that are left, as the lines of the whole log show them, and ends the watch. Returns the alarms after those that
+    /// were given.
     pub fn end(mut self, scenario: &Scenario, judge: &Judge) -> Result<Vec<Alarm>, WatchFault>
         requires in_range { IsInRange scenario.now }
         requires remembers { RemembersTicks (keeping_of judge.now) scenario.now
             (watched_ticks self) }
         requires one_log { AreOfOneLog self scenario.now judge.now }
-        ensures alarms { IfOk result (λ rest. (lines more : List (List ℕ)) (given : List Alarm)
-            → StandsFor self scenario.now lines given
-            → JudgeStandsFor judge.now scenario.now (lines ++ more)
-            → AreAlarms (audit_numbers scenario.now)
-            (sighted scenario.now (sent scenario.now (lines ++ more))) (given ++ rest.items)) }
+        ensures alarms { IfOk result
+            (λ rest. Then (StandsFor self scenario.now) scenario.now judge.now
+            (λ lines given. AreAlarms (audit_numbers scenario.now)
+            (sighted scenario.now (sent scenario.now lines)) (given ++ rest.items))) }
         // The limit is met exactly where a 4097th trace begins; memory may run out before.
         ensures many { result ≡ Err TooManyPairs
-            → (lines more : List (List ℕ)) (given : List Alarm)
-            → StandsFor self scenario.now lines given
-            → JudgeStandsFor judge.now scenario.now (lines ++ more)
-            → HaveMoreThan MOST_TRACES (audit_numbers scenario.now)
-            (sighted scenario.now (sent scenario.now (lines ++ more))) }
-        ensures few { OnOk result ((lines more : List (List ℕ)) (given : List Alarm)
-            → StandsFor self scenario.now lines given
-            → JudgeStandsFor judge.now scenario.now (lines ++ more)
-            → HaveMoreThan MOST_TRACES (audit_numbers scenario.now)
-            (sighted scenario.now (sent scenario.now (lines ++ more))) → ⊥) }
+            → Then (StandsFor self scenario.now) scenario.now judge.now
+            (λ lines given. HaveMoreThan MOST_TRACES (audit_numbers scenario.now)
+            (sighted scenario.now (sent scenario.now lines))) }
+        ensures few { OnOk result (Then (StandsFor self scenario.now) scenario.now judge.now
+            (λ lines given. HaveMoreThan MOST_TRACES (audit_numbers scenario.now)
+            (sighted scenario.now (sent scenario.now lines)) → ⊥)) }
     {
         self.settled.finish(scenario, judge)
     }

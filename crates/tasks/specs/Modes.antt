@@ -68,7 +68,7 @@ needs_rows mode = (needs_of mode).checks
 abbrev pub reads_log : Mode → Bool
 reads_log mode = is_given (needs_of mode).log
 
--- ---- what is said of one focus alone, or of one way to treat own ship
+-- ---- what holds for one focus alone, or for one way to treat own ship
 
 abbrev pub OfTicks : Focus → Type 0 → Type 0
 OfTicks (each_tick findings) P = P

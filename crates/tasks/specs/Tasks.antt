@@ -5,6 +5,15 @@ use Rattle.tasks.specs.declared.mode.Mode.TheVariants as mode
 use Rattle.tasks.specs.declared.task.Task.{Task}
 use Rattle.tasks.specs.declared.task.Task.TheVariants as task
 
+-- the task of a mode, with the options that it needs: the seed of a drill, whether a plan says why every plan fails, and the rows of a recheck
+abbrev pub task_by : Mode → ℕ → Bool → List ℕ → Task
+task_by mode.Points seed why rows = task.Points
+task_by mode.Audit seed why rows = task.Audit
+task_by mode.Plan seed why rows = task.Plan why
+task_by mode.Drill seed why rows = task.Drill seed
+task_by mode.Recheck seed why rows = task.Recheck rows
+task_by mode.Watch seed why rows = task.Watch
+
 -- its kind
 abbrev pub task_mode : Task → Mode
 task_mode task.Points = mode.Points

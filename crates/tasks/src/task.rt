@@ -1,7 +1,7 @@
 //! What is asked of a log.
 ghost use Rattle.std.specs.Prelude.{◌≡◌, MatchOption, false, true};
 ghost use Rattle.tasks.specs.Modes.{needs_rows, reads_log};
-ghost use Rattle.tasks.specs.Tasks.{task_mode, task_rows, task_seed, says_why};
+ghost use Rattle.tasks.specs.Tasks.{says_why, task_by, task_mode, task_rows, task_seed};
 
 use crate::mode::Mode;
 use outside::Word;
@@ -33,6 +33,35 @@ pub enum Task {
 }
 
 impl Task {
+    /// Returns the task of a mode, with the options that it needs. The others have no effect.
+    pub fn of(mode: Mode, seed: u32, why: bool, rows: Word) -> Task
+        ensures { result ≡ task_by mode seed why rows }
+    {
+        match mode {
+            Mode::Points => {
+                drop(rows);
+                Task::Points
+            }
+            Mode::Audit => {
+                drop(rows);
+                Task::Audit
+            }
+            Mode::Plan => {
+                drop(rows);
+                Task::Plan { why }
+            }
+            Mode::Drill => {
+                drop(rows);
+                Task::Drill { seed }
+            }
+            Mode::Recheck => Task::Recheck { rows },
+            Mode::Watch => {
+                drop(rows);
+                Task::Watch
+            }
+        }
+    }
+
     /// Returns its kind.
     pub fn mode(&self) -> Mode
         ensures { result ≡ task_mode self.now }
@@ -59,7 +88,8 @@ impl Task {
 
     /// Returns the seed of the log that the task makes, or nothing if it reads the log that it is given.
     pub fn seed(&self) -> Option<u32>
-        ensures { MatchOption result (reads_log (task_mode self.now) ≡ true) (λ seed. (reads_log (task_mode self.now) ≡ false) × (seed ≡ task_seed self.now)) }
+        ensures { MatchOption result (reads_log (task_mode self.now) ≡ true)
+            (λ seed. (reads_log (task_mode self.now) ≡ false) × (seed ≡ task_seed self.now)) }
     {
         match self {
             Task::Drill { seed } => Some(*seed),
@@ -69,7 +99,9 @@ impl Task {
 
     /// Returns the name of the file with the rows that the task checks, or nothing if it checks none.
     pub fn rows(&self) -> Option<&Word>
-        ensures { MatchOption result (needs_rows (task_mode self.now) ≡ false) (λ rows. (needs_rows (task_mode self.now) ≡ true) × (rows.now ≡ task_rows self.now)) }
+        ensures { MatchOption result (needs_rows (task_mode self.now) ≡ false)
+            (λ rows. (needs_rows (task_mode self.now) ≡ true)
+            × (rows.now ≡ task_rows self.now)) }
     {
         match self {
             Task::Recheck { rows } => Some(rows),

@@ -1,5 +1,5 @@
 //! What a test compares, in one place: a test that calls this is proved in a fraction of the time that the macros take in it. What fails is
-//! told with both values, by the name of its test.
+//! reported with both values, by the name of its test.
 #![tactic(auto)]
 
 ghost use Rattle.std.specs.Prelude.{◌≡◌, ◌↔◌, IsOk, true};

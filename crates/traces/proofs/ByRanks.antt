@@ -25,7 +25,7 @@ equivalence = record {
   congr = λ a b d. nat_eq_equiv.congr (rank_index a) (rank_index b) (rank_index d);
 }
 
--- ---- truths that are told alike are the same
+-- ---- two values that hold in the same case are the same
 
 same_truth : (P : Type 0) (x y : Bool) → (IsTrue x ↔ P) → (IsTrue y ↔ P) → x ≡ y
 same_truth P true true f g = refl

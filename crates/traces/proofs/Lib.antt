@@ -13,4 +13,6 @@ mod SightingFacts
 mod AddedPairs
 mod FoundPairs
 mod Reach
+mod Keeping
+mod UnderWay
 mod ByRanks

@@ -162,7 +162,7 @@ present_rank m (u ∷ seen) (r ∷ ranks) (suc k) v up lt is e =
     let same : (get_or seen k v).0 ≡ v.0 = ap (λ (w : ℕ × TickState). w.0) is in
     rank-later m u seen r ranks (omega arith) ∙ present_rank m seen ranks k v (rising_rest u seen up) (omega arith) is e
 
--- Whoever is seen has the rank that is told beside her.
+-- Every vessel that is seen has the rank that is given beside her.
 pub rank_present : (m : ℕ) (seen : SeenVessels) (ranks : List Rank) (k : ℕ) (v : ℕ × TickState) → AreAscending seen → k < length seen → get_or seen k v ≡ v → v.0 ≡ m
     → rank_in m (record { vessels = seen; ranks = ranks }) ≡ get_or ranks k Power
 rank_present m seen ranks k v h lt is e = present_rank m seen ranks k v (rising seen h) lt is e

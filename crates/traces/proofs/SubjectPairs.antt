@@ -60,7 +60,7 @@ all_vessels watch subjects vessels others k now le way =
     ended [] (HasSubjectPair watch subjects vessels others) now (HasSubjectPair watch subjects (drop k vessels) others) way
     (λ pair h. subst (λ (xs : SeenVessels). HasSubjectPair watch subjects xs others pair) (drop_all k vessels le) h)
 
--- ---- two vessels, of which one is a subject
+-- ---- two vessels, one of them a subject
 
 record FindsOne (watch : ℕ) (subjects : List ℕ) (vessels others : SeenVessels) (pair : Pair) : Type 0 where
   one : ℕ × TickState

@@ -133,7 +133,7 @@ module _ (ticks : List Sighting) (seen : Sighting) where
         before_or_at : (k n : ℕ) → k < n + 1 → (k < n) ⊎ (k ≡ n)
         before_or_at k n lt = grind arith
 
-    -- A pair in contact now, of which no trace began before, begins one now.
+    -- A pair in contact now that had no trace before begins one now.
     module _ (audited : IsAudited numbers.subjects pair) (more : length ticks < numbers.last_tick) (new : (start : ℕ) → Begins numbers ticks pair start → ⊥) where
       none_before : (m : ℕ) → m ≤ length ticks → (i : ℕ) → i < m → ¬ IsContactAt (seen_state_at ticks pair.subject) (seen_state_at ticks pair.other) numbers.detect.watch i
       none_before zero le i lt near = absurd (omega arith)

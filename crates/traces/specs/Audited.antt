@@ -28,7 +28,7 @@ pub record AuditNumbers : Type 0 where
   pub subjects : List ℕ
   pub rules : List NamedTree
 
--- by what the meetings of two vessels are told
+-- the numbers that the meetings of two vessels depend on
 abbrev pub terms_of : AuditNumbers → Terms
 terms_of numbers = record { detect = numbers.detect; act = numbers.act; tick = numbers.tick }
 
@@ -38,7 +38,7 @@ terms_of numbers = record { detect = numbers.detect; act = numbers.act; tick = n
 abbrev pub SeenVessels : Type 0
 SeenVessels = List (ℕ × TickState)
 
--- The vessels that are seen at a tick, and their ranks in the same order. Where ranks do not count, none is told.
+-- The vessels that are seen at a tick, and their ranks in the same order. If ranks do not count, there are none.
 pub record Sighting : Type 0 where
   pub vessels : SeenVessels
   pub ranks : List Rank
@@ -84,7 +84,7 @@ step_of pair before seen = step_between (state_in pair.subject before) (state_in
 
 -- ---- the ranks there
 
--- her rank: the one told beside her, and `Power` where none is
+-- her rank: the one given beside her, and `Power` if there is none
 abbrev pub rank_in : ℕ → Sighting → Rank
 rank_in mmsi seen = unwrap_or (lookup (λ m. m == mmsi) (zip (map (λ (vessel : ℕ × TickState). vessel.0) seen.vessels) seen.ranks)) Power
 
@@ -94,7 +94,7 @@ by_rank_in pair seen = by_rank_of (rank_in pair.subject seen) (rank_in pair.othe
 
 -- ---- the traces
 
--- Two vessels, of which one is a subject; where there are no subjects, any two.
+-- Two vessels, one of them a subject; if there are no subjects, any two.
 pub record IsAudited (subjects : List ℕ) (pair : Pair) : Type 0 where
   pub two : pair.subject ≢ pair.other
   pub chosen : (subjects ≡ []) ⊎ Contains subjects pair.subject ⊎ Contains subjects pair.other

@@ -8,6 +8,8 @@ pub mod Audited
 pub mod Contacts
 pub mod FaultTexts
 pub mod Known
+pub mod Keeping
 pub mod ManyTraces
 pub mod Standing
+pub mod Window
 pub mod Inner

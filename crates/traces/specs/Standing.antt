@@ -40,7 +40,7 @@ pub record IsSound (kept : AllTraces) : Type 0 where
 
 -- ---- what they stand for
 
--- Of these ticks, traces of which this is known.
+-- Traces of these ticks, with this known of each.
 pub record StandsFor (kept : AllTraces) (numbers : AuditNumbers) (ticks : List Sighting) (knowns : List Known) : Type 0 where
   pub last_tick : kept.last_tick ≡ numbers.last_tick
   pub subjects : kept.subjects.items ≡ numbers.subjects

@@ -28,10 +28,10 @@ use ranks::Rank;
 use std::alloc::Global;
 use std::collections::BTreeSet;
 
-/// So many traces are followed at most.
+/// The greatest number of traces that are followed.
 pub const MOST_TRACES: usize = 4096;
 
-/// All traces of a window, of the pairs of which one vessel is a subject; where there are no subjects, of all pairs. They stand for
+/// All traces of a window, of the pairs in which one vessel is a subject, or of all pairs if there are no subjects. They stand for
 /// the vessels seen at the ticks that were given, and for what is known of each trace. After an `Err` they may only be dropped.
 #[derive(Drop)]
 pub struct AllTraces {
@@ -68,8 +68,10 @@ impl AllTraces {
         ensures given { IfOk result (λ traces. given_of traces ≡ 0) }
         ensures last_tick { IfOk result (λ traces. last_tick_of traces ≡ last_tick) }
         ensures latest { IfOk result (λ traces. latest_vessels traces ≡ []) }
-        ensures stands { IfOk result (λ traces. (numbers : AuditNumbers) → numbers.detect ≡ detect → numbers.act ≡ act → numbers.tick ≡ tick
-            → numbers.last_tick ≡ last_tick → numbers.subjects ≡ subjects.now → StandsFor traces numbers [] []) }
+        ensures stands { IfOk result
+            (λ traces. (numbers : AuditNumbers) → numbers.detect ≡ detect → numbers.act ≡ act
+            → numbers.tick ≡ tick → numbers.last_tick ≡ last_tick → numbers.subjects ≡ subjects.now
+            → StandsFor traces numbers [] []) }
     {
         Ok(AllTraces {
             alloc,
@@ -110,8 +112,10 @@ impl AllTraces {
     /// The pair of the trace with this index.
     pub fn pair(&self, index: usize) -> Pair
         requires { index < traces_of self.now }
-        ensures { (numbers : AuditNumbers) (ticks : List Sighting) (front : List Known) (known : Known) (back : List Known)
-            → StandsFor self.now numbers ticks (front ++ known ∷ back) → index ≡ length front → result ≡ known.pair }
+        ensures { (numbers : AuditNumbers) (ticks : List Sighting) (front : List Known)
+            (known : Known) (back : List Known)
+            → StandsFor self.now numbers ticks (front ++ known ∷ back) → index ≡ length front
+            → result ≡ known.pair }
     {
         self.traces[index].pair
     }
@@ -131,10 +135,12 @@ impl AllTraces {
         ensures latest { latest_vessels self.new ≡ latest_vessels self.old }
         ensures as_many { traces_of self.new ≡ traces_of self.old }
         ensures directions { IfSome result HaveDirections }
-        ensures step { (numbers : AuditNumbers) (ticks : List Sighting) (front : List Known) (known : Known) (back : List Known)
+        ensures step { (numbers : AuditNumbers) (ticks : List Sighting) (front : List Known)
+            (known : Known) (back : List Known)
             → StandsFor self.old numbers ticks (front ++ known ∷ back) → index ≡ length front
             → result ≡ step_of known.pair (latest_vessels self.old) seen.now }
-        ensures stands { (numbers : AuditNumbers) (ticks : List Sighting) (front : List Known) (known : Known) (back : List Known)
+        ensures stands { (numbers : AuditNumbers) (ticks : List Sighting) (front : List Known)
+            (known : Known) (back : List Known)
             → StandsFor self.old numbers ticks (front ++ known ∷ back) → index ≡ length front
             → StandsFor self.new numbers ticks (front ++ known ∷ back) }
     {
@@ -153,12 +159,18 @@ impl AllTraces {
         ensures last_tick { last_tick_of self.new ≡ last_tick_of self.old }
         ensures latest { latest_vessels self.new ≡ latest_vessels self.old }
         ensures as_many { traces_of self.new ≡ traces_of self.old }
-        ensures row { (numbers : AuditNumbers) (ticks : List Sighting) (front : List Known) (known : Known) (back : List Known)
-            → StandsFor self.old numbers ticks (front ++ known ∷ back) → index ≡ length front → length known.steps < 2 ^ 31 → IsUpTo ticks known
-            → IsRankedRow (terms_of numbers) (trace_ranks ticks known.pair known.start) (known.steps ++ option_copied step.entry ∷ []) (length known.steps) (answer_of result) }
-        ensures stands { (numbers : AuditNumbers) (ticks : List Sighting) (front : List Known) (known : Known) (back : List Known)
-            → StandsFor self.old numbers ticks (front ++ known ∷ back) → index ≡ length front → length known.steps < 2 ^ 31 → IsUpTo ticks known
-            → StandsFor self.new numbers ticks (front ++ watched known (option_copied step.entry) (answer_of result) ∷ back) }
+        ensures row { (numbers : AuditNumbers) (ticks : List Sighting) (front : List Known)
+            (known : Known) (back : List Known)
+            → StandsFor self.old numbers ticks (front ++ known ∷ back) → index ≡ length front
+            → length known.steps < 2 ^ 31 → IsUpTo ticks known
+            → IsRankedRow (terms_of numbers) (trace_ranks ticks known.pair known.start)
+            (known.steps ++ option_copied step.entry ∷ []) (length known.steps) (answer_of result) }
+        ensures stands { (numbers : AuditNumbers) (ticks : List Sighting) (front : List Known)
+            (known : Known) (back : List Known)
+            → StandsFor self.old numbers ticks (front ++ known ∷ back) → index ≡ length front
+            → length known.steps < 2 ^ 31 → IsUpTo ticks known
+            → StandsFor self.new numbers ticks
+            (front ++ watched known (option_copied step.entry) (answer_of result) ∷ back) }
     {
         self.traces[index].take_step(step, &self.latest, &self.ranks)
     }
@@ -167,8 +179,10 @@ impl AllTraces {
     #[inline(always)]
     pub fn state(&self, index: usize) -> EngagementState
         requires { index < traces_of self.now }
-        ensures { (numbers : AuditNumbers) (ticks : List Sighting) (front : List Known) (known : Known) (back : List Known)
-            → StandsFor self.now numbers ticks (front ++ known ∷ back) → index ≡ length front → IsStateAfter numbers.detect known.steps result }
+        ensures { (numbers : AuditNumbers) (ticks : List Sighting) (front : List Known)
+            (known : Known) (back : List Known)
+            → StandsFor self.now numbers ticks (front ++ known ∷ back) → index ≡ length front
+            → IsStateAfter numbers.detect known.steps result }
     {
         self.traces[index].state()
     }
@@ -186,16 +200,28 @@ impl AllTraces {
         ensures last_tick { OnOk result (last_tick_of self.new ≡ last_tick_of self.old) }
         ensures latest { OnOk result (latest_vessels self.new ≡ seen.now) }
         ensures more { OnOk result (traces_of self.old ≤ traces_of self.new) }
-        ensures stands { OnOk result ((numbers : AuditNumbers) (ticks : List Sighting) (knowns after : List Known) → AreKnown numbers ticks knowns
-            → AllZip (IsFollowed numbers ticks seen.now) knowns after → StandsFor self.old numbers ticks after
-            → HaveBegun self.new numbers (ticks ++ record { vessels = seen.now; ranks = ranks.now } ∷ []) (length ticks) after) }
+        ensures stands { OnOk result
+            ((numbers : AuditNumbers) (ticks : List Sighting) (knowns after : List Known)
+            → AreKnown numbers ticks knowns
+            → AllZip (IsFollowed numbers ticks seen.now) knowns after
+            → StandsFor self.old numbers ticks after
+            → HaveBegun self.new numbers
+            (ticks ++ record { vessels = seen.now; ranks = ranks.now } ∷ []) (length ticks) after) }
         // The limit is met exactly where the tick begins a 4097th trace; memory may run out before.
-        ensures many { result ≡ Err TooManyPairs → (numbers : AuditNumbers) (ticks : List Sighting) (knowns after : List Known) → AreKnown numbers ticks knowns
-            → AllZip (IsFollowed numbers ticks seen.now) knowns after → StandsFor self.old numbers ticks after
-            → HaveMoreThan MOST_TRACES numbers (ticks ++ record { vessels = seen.now; ranks = ranks.now } ∷ []) }
-        ensures few { OnOk result ((numbers : AuditNumbers) (ticks : List Sighting) (knowns after : List Known) → AreKnown numbers ticks knowns
-            → AllZip (IsFollowed numbers ticks seen.now) knowns after → StandsFor self.old numbers ticks after
-            → HaveMoreThan MOST_TRACES numbers (ticks ++ record { vessels = seen.now; ranks = ranks.now } ∷ []) → ⊥) }
+        ensures many { result ≡ Err TooManyPairs
+            → (numbers : AuditNumbers) (ticks : List Sighting) (knowns after : List Known)
+            → AreKnown numbers ticks knowns
+            → AllZip (IsFollowed numbers ticks seen.now) knowns after
+            → StandsFor self.old numbers ticks after
+            → HaveMoreThan MOST_TRACES numbers
+            (ticks ++ record { vessels = seen.now; ranks = ranks.now } ∷ []) }
+        ensures few { OnOk result
+            ((numbers : AuditNumbers) (ticks : List Sighting) (knowns after : List Known)
+            → AreKnown numbers ticks knowns
+            → AllZip (IsFollowed numbers ticks seen.now) knowns after
+            → StandsFor self.old numbers ticks after
+            → HaveMoreThan MOST_TRACES numbers
+            (ticks ++ record { vessels = seen.now; ranks = ranks.now } ∷ []) → ⊥) }
     {
         self.begin(seen)?;
         replace(&mut self.latest, seen)?;
@@ -211,14 +237,22 @@ impl AllTraces {
         requires placed { ArePlaced seen.now }
         ensures sound { OnOk result (IsSound self.new) }
         ensures same { OnOk result (IsBeginning self.old self.new) }
-        ensures begun { OnOk result ((numbers : AuditNumbers) (ticks : List Sighting) (ranks : List Rank) (knowns : List Known) → IsNextTick self.old numbers ticks
+        ensures begun { OnOk result
+            ((numbers : AuditNumbers) (ticks : List Sighting) (ranks : List Rank)
+            (knowns : List Known) → IsNextTick self.old numbers ticks
             → AreKnownOn numbers ticks (record { vessels = seen.now; ranks = ranks }) knowns
-            → Holds self.old numbers (ticks ++ record { vessels = seen.now; ranks = ranks } ∷ []) knowns
-            → HaveBegunNow self.new numbers (ticks ++ record { vessels = seen.now; ranks = ranks } ∷ []) (length ticks) knowns) }
-        ensures many { result ≡ Err TooManyPairs → (numbers : AuditNumbers) (ticks : List Sighting) (ranks : List Rank) (knowns : List Known) → IsNextTick self.old numbers ticks
+            → Holds self.old numbers
+            (ticks ++ record { vessels = seen.now; ranks = ranks } ∷ []) knowns
+            → HaveBegunNow self.new numbers
+            (ticks ++ record { vessels = seen.now; ranks = ranks } ∷ []) (length ticks) knowns) }
+        ensures many { result ≡ Err TooManyPairs
+            → (numbers : AuditNumbers) (ticks : List Sighting) (ranks : List Rank)
+            (knowns : List Known) → IsNextTick self.old numbers ticks
             → AreKnownOn numbers ticks (record { vessels = seen.now; ranks = ranks }) knowns
-            → Holds self.old numbers (ticks ++ record { vessels = seen.now; ranks = ranks } ∷ []) knowns
-            → HaveMoreThan MOST_TRACES numbers (ticks ++ record { vessels = seen.now; ranks = ranks } ∷ []) }
+            → Holds self.old numbers
+            (ticks ++ record { vessels = seen.now; ranks = ranks } ∷ []) knowns
+            → HaveMoreThan MOST_TRACES numbers
+            (ticks ++ record { vessels = seen.now; ranks = ranks } ∷ []) }
     {
         if self.last_tick <= self.given {
             return Ok(());
@@ -233,10 +267,14 @@ impl AllTraces {
         requires placed { ArePlaced seen.now }
         ensures sound { OnOk result (IsSound self.new) }
         ensures same { OnOk result (IsBeginning self.old self.new) }
-        ensures begun { OnOk result ((numbers : AuditNumbers) (ticks : List Sighting) (knowns : List Known) → Holds self.old numbers ticks knowns
-            → MayBegin self.old numbers knowns → AreBegun self.new numbers ticks seen.now self.old.given knowns) }
-        ensures many { result ≡ Err TooManyPairs → (numbers : AuditNumbers) (ticks : List Sighting) (knowns : List Known) → Holds self.old numbers ticks knowns
-            → MayBegin self.old numbers knowns → AreTooMany numbers seen.now (pairs_of knowns) self.old.given knowns }
+        ensures begun { OnOk result
+            ((numbers : AuditNumbers) (ticks : List Sighting) (knowns : List Known)
+            → Holds self.old numbers ticks knowns → MayBegin self.old numbers knowns
+            → AreBegun self.new numbers ticks seen.now self.old.given knowns) }
+        ensures many { result ≡ Err TooManyPairs
+            → (numbers : AuditNumbers) (ticks : List Sighting) (knowns : List Known)
+            → Holds self.old numbers ticks knowns → MayBegin self.old numbers knowns
+            → AreTooMany numbers seen.now (pairs_of knowns) self.old.given knowns }
     {
         let pairs = contacts(self.alloc, &self.subjects, seen, self.detect.watch)?;
         for pair in pairs.as_slice() {
@@ -250,10 +288,16 @@ impl AllTraces {
         requires sound { IsSound self.old }
         ensures sound { OnOk result (IsSound self.new) }
         ensures same { OnOk result (IsBeginning self.old self.new) }
-        ensures begun { OnOk result ((numbers : AuditNumbers) (ticks : List Sighting) (seen : SeenVessels) (old : List Pair) (knowns : List Known)
-            → Holds self.old numbers ticks knowns → MayTake self.old numbers seen old knowns pair → IsTaken self.new numbers ticks seen old self.old.given knowns pair) }
-        ensures many { result ≡ Err TooManyPairs → (numbers : AuditNumbers) (ticks : List Sighting) (seen : SeenVessels) (old : List Pair) (knowns : List Known)
-            → Holds self.old numbers ticks knowns → MayTake self.old numbers seen old knowns pair → AreTooMany numbers seen old self.old.given knowns }
+        ensures begun { OnOk result
+            ((numbers : AuditNumbers) (ticks : List Sighting) (seen : SeenVessels) (old : List Pair)
+            (knowns : List Known) → Holds self.old numbers ticks knowns
+            → MayTake self.old numbers seen old knowns pair
+            → IsTaken self.new numbers ticks seen old self.old.given knowns pair) }
+        ensures many { result ≡ Err TooManyPairs
+            → (numbers : AuditNumbers) (ticks : List Sighting) (seen : SeenVessels)
+            (old : List Pair) (knowns : List Known) → Holds self.old numbers ticks knowns
+            → MayTake self.old numbers seen old knowns pair
+            → AreTooMany numbers seen old self.old.given knowns }
     {
         if !is_chosen(&self.subjects, pair) {
             return Ok(());
@@ -273,7 +317,9 @@ impl AllTraces {
         requires sound { IsSound self.old }
         ensures sound { OnOk result (IsSound self.new) }
         ensures same { OnOk result (IsBeginning self.old self.new) }
-        ensures begun { OnOk result ((numbers : AuditNumbers) (ticks : List Sighting) (knowns : List Known) → Holds self.old numbers ticks knowns
+        ensures begun { OnOk result
+            ((numbers : AuditNumbers) (ticks : List Sighting) (knowns : List Known)
+            → Holds self.old numbers ticks knowns
             → Holds self.new numbers ticks (knowns ++ opened pair self.old.given ∷ [])) }
         ensures many { result ≡ Err TooManyPairs → traces_of self.old ≡ MOST_TRACES }
     {
@@ -290,7 +336,9 @@ impl AllTraces {
         requires few { traces_of self.old < MOST_TRACES }
         ensures sound { OnOk result (IsSound self.new) }
         ensures same { OnOk result (IsBeginning self.old self.new) }
-        ensures begun { OnOk result ((numbers : AuditNumbers) (ticks : List Sighting) (knowns : List Known) → Holds self.old numbers ticks knowns
+        ensures begun { OnOk result
+            ((numbers : AuditNumbers) (ticks : List Sighting) (knowns : List Known)
+            → Holds self.old numbers ticks knowns
             → Holds self.new numbers ticks (knowns ++ opened pair self.old.given ∷ [])) }
     {
         self.traces.push(FollowedTrace::new(pair, self.given, self.detect, self.act, self.tick))?;

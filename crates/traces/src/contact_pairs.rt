@@ -13,14 +13,15 @@ use motion::TickState;
 use out_of_memory::Memory;
 use std::alloc::Global;
 
-/// The pair of two vessels, the first of which has the lesser MMSI, where they are in contact.
+/// Returns the pair of two vessels if they are in contact. The first one has the lesser MMSI.
 fn joined(first: &(u32, TickState), second: &(u32, TickState), watch: u64) -> Option<Pair>
     requires first { IsBelow (2 ^ 33) first.now.1.point }
     requires second { IsBelow (2 ^ 33) second.now.1.point }
     requires order { first.now.0 < second.now.0 }
     requires watch { watch ≤ 1000000000 }
     ensures sound { IfSome result (AreJoined watch first.now second.now) }
-    ensures complete { (pair : Pair) → AreJoined watch first.now second.now pair → result ≡ Some pair }
+    ensures complete { (pair : Pair) → AreJoined watch first.now second.now pair
+        → result ≡ Some pair }
 {
     if contact(&first.1, &second.1, watch) {
         Some(Pair {
@@ -59,7 +60,8 @@ fn add_pair(
     requires a { IsBelow (2 ^ 33) a.now.1.point }
     requires b { IsBelow (2 ^ 33) b.now.1.point }
     requires watch { watch ≤ 1000000000 }
-    ensures { IfOk result (λ _. AreAdded pairs.old.items (MakePair watch a.now b.now) pairs.new.items) }
+    ensures { IfOk result
+        (λ _. AreAdded pairs.old.items (MakePair watch a.now b.now) pairs.new.items) }
 {
     if let Some(pair) = pair_of(a, b, watch) {
         pairs.push(pair)?;
@@ -77,7 +79,7 @@ fn is_in_reach(vessel: &(u32, TickState), other: &(u32, TickState), watch: u64) 
     other.1.point.x - vessel.1.point.x <= watch as i64
 }
 
-/// Adds the pairs of a vessel with the others, of which none is tested past the first that lies too far to the east.
+/// Adds the pairs of a vessel with the others. None is tested past the first that lies too far to the east.
 fn add_pairs(
     pairs: &mut Vec<Pair>,
     vessel: &(u32, TickState),
@@ -88,7 +90,8 @@ fn add_pairs(
     requires others { ArePlaced others.now }
     requires order { AreWestToEast others.now }
     requires watch { watch ≤ 1000000000 }
-    ensures { IfOk result (λ _. AreAdded pairs.old.items (HasPairWith watch vessel.now others.now) pairs.new.items) }
+    ensures { IfOk result
+        (λ _. AreAdded pairs.old.items (HasPairWith watch vessel.now others.now) pairs.new.items) }
 {
     for other in others {
         if !is_in_reach(vessel, other, watch) {
@@ -132,7 +135,9 @@ fn add_pairs_of(
     requires vessels { ArePlaced vessels.now }
     requires order { AreWestToEast vessels.now }
     requires watch { watch ≤ 1000000000 }
-    ensures { IfOk result (λ _. AreAdded pairs.old.items (HasPairOf watch subjects.now vessel.now vessels.now) pairs.new.items) }
+    ensures { IfOk result
+        (λ _. AreAdded pairs.old.items
+        (HasPairOf watch subjects.now vessel.now vessels.now) pairs.new.items) }
 {
     if !is_one_of(subjects, vessel) {
         return Ok(());
@@ -150,7 +155,9 @@ fn pairs_with(
     requires placed { ArePlaced vessels.now }
     requires order { AreWestToEast vessels.now }
     requires watch { watch ≤ 1000000000 }
-    ensures { IfOk result (λ pairs. AreAdded [] (HasSubjectPair watch subjects.now vessels.now vessels.now) pairs.items) }
+    ensures { IfOk result
+        (λ pairs. AreAdded []
+        (HasSubjectPair watch subjects.now vessels.now vessels.now) pairs.items) }
 {
     let mut pairs = Vec::new(alloc);
     for vessel in vessels {
@@ -169,9 +176,9 @@ fn west_to_east(alloc: Global, seen: &[(u32, TickState)]) -> Result<Vec<(u32, Ti
     Ok(vessels)
 }
 
-/// The pairs of vessels that are at most `watch` apart, the one with the lesser MMSI first, in no certain order: those of which
-/// one is a subject, or all where there are no subjects. `watch` is tenths of a millimetre, at most 10^9. The vessels ascend by their MMSIs, and their components are below 2^33 in size. The only error
-/// is want of memory.
+/// Returns the pairs of vessels that are at most `watch` apart, the one with the lesser MMSI first, in no certain order: those with
+/// a subject, or all if there are no subjects. `watch` is tenths of a millimetre, at most 10^9. The vessels ascend by their MMSIs, and their components are below 2^33 in size. The only error
+/// is out of memory.
 pub fn contacts(
     alloc: Global,
     subjects: &[u32],

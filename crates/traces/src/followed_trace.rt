@@ -51,10 +51,11 @@ fn by_rank_near(
 }
 
 impl FollowedTrace {
-    /// The trace of a pair that begins at a step, of which there are none yet.
+    /// Returns the trace of a pair that begins at a step, before its first step.
     pub(crate) fn new(pair: Pair, start: u32, detect: Detect, act: Act, tick: u32) -> FollowedTrace
         requires detect { IsDetect detect }
-        ensures { (numbers : AuditNumbers) (ticks : List Sighting) → numbers.detect ≡ detect → numbers.act ≡ act → numbers.tick ≡ tick
+        ensures { (numbers : AuditNumbers) (ticks : List Sighting) → numbers.detect ≡ detect
+            → numbers.act ≡ act → numbers.tick ≡ tick
             → Follows numbers ticks result (opened pair start) }
     {
         FollowedTrace {
@@ -79,11 +80,12 @@ impl FollowedTrace {
         requires ascending { AreAscending seen.now }
         requires placed { ArePlaced seen.now }
         requires moves { MoveLittle before.now seen.now }
-        ensures step { (numbers : AuditNumbers) (ticks : List Sighting) (known : Known) → Follows numbers ticks self.old known
+        ensures step { (numbers : AuditNumbers) (ticks : List Sighting) (known : Known)
+            → Follows numbers ticks self.old known
             → result ≡ step_of known.pair before.now seen.now }
         ensures directions { IfSome result HaveDirections }
-        ensures follows { (numbers : AuditNumbers) (ticks : List Sighting) (known : Known) → Follows numbers ticks self.old known
-            → Follows numbers ticks self.new known }
+        ensures follows { (numbers : AuditNumbers) (ticks : List Sighting) (known : Known)
+            → Follows numbers ticks self.old known → Follows numbers ticks self.new known }
     {
         let Pair { subject, other } = self.pair;
         let a0 = state_near(before, subject, &mut self.subject_place);
@@ -107,12 +109,16 @@ impl FollowedTrace {
     ) -> AtomRow
         requires directions { IfSome (option_copied step) HaveDirections }
         requires ascending { AreAscending seen.now }
-        ensures row { (numbers : AuditNumbers) (ticks : List Sighting) (known : Known) → Follows numbers ticks self.old known → length known.steps < 2 ^ 31
+        ensures row { (numbers : AuditNumbers) (ticks : List Sighting) (known : Known)
+            → Follows numbers ticks self.old known → length known.steps < 2 ^ 31
             → IsTakenFrom ticks known seen.now ranks.now
-            → IsRankedRow (terms_of numbers) (trace_ranks ticks known.pair known.start) (known.steps ++ option_copied step.entry ∷ []) (length known.steps) (answer_of result) }
-        ensures follows { (numbers : AuditNumbers) (ticks : List Sighting) (known : Known) → Follows numbers ticks self.old known → length known.steps < 2 ^ 31
+            → IsRankedRow (terms_of numbers) (trace_ranks ticks known.pair known.start)
+            (known.steps ++ option_copied step.entry ∷ []) (length known.steps) (answer_of result) }
+        ensures follows { (numbers : AuditNumbers) (ticks : List Sighting) (known : Known)
+            → Follows numbers ticks self.old known → length known.steps < 2 ^ 31
             → IsTakenFrom ticks known seen.now ranks.now
-            → Follows numbers ticks self.new (watched known (option_copied step.entry) (answer_of result)) }
+            → Follows numbers ticks self.new
+            (watched known (option_copied step.entry) (answer_of result)) }
     {
         self.follower.step_ranked(step, || {
             by_rank_near(seen, ranks, self.pair, self.subject_place, self.other_place)
@@ -122,7 +128,8 @@ impl FollowedTrace {
     /// The state of the engagement at its latest step; apart before the first.
     #[inline(always)]
     pub(crate) fn state(&self) -> EngagementState
-        ensures { (numbers : AuditNumbers) (ticks : List Sighting) (known : Known) → Follows numbers ticks self.now known
+        ensures { (numbers : AuditNumbers) (ticks : List Sighting) (known : Known)
+            → Follows numbers ticks self.now known
             → IsStateAfter numbers.detect known.steps result }
     {
         self.follower.state()

@@ -16,7 +16,9 @@ pub fn is_among(pairs: &BTreeSet<Pair>, pair: Pair) -> bool
 
 /// Adds a pair to these.
 pub fn add(pairs: &mut BTreeSet<Pair>, pair: Pair) -> Result<(), Memory>
-    ensures { OnOk result ((other : Pair) → Contains pairs.new.keys other ↔ (Contains pairs.old.keys other ⊎ (pair ≡ other))) }
+    ensures { OnOk result
+        ((other : Pair) → Contains pairs.new.keys other
+        ↔ (Contains pairs.old.keys other ⊎ (pair ≡ other))) }
 {
     pairs.insert(pair)?;
     Ok(())
@@ -24,14 +26,17 @@ pub fn add(pairs: &mut BTreeSet<Pair>, pair: Pair) -> Result<(), Memory>
 
 /// Whether a pair is audited, whichever of the two is the subject: where there are no subjects, any is.
 pub fn is_chosen(subjects: &[u32], pair: Pair) -> bool
-    ensures { IsTrue result ↔ ((subjects.now ≡ []) ⊎ Contains subjects.now pair.subject ⊎ Contains subjects.now pair.other) }
+    ensures { IsTrue result
+        ↔ ((subjects.now ≡ []) ⊎ Contains subjects.now pair.subject
+        ⊎ Contains subjects.now pair.other) }
 {
     subjects.is_empty() || has_one(subjects, pair)
 }
 
 /// Whether one of a pair is among these. They are few, so that each is compared in line.
 fn has_one(subjects: &[u32], pair: Pair) -> bool
-    ensures { IsTrue result ↔ (Contains subjects.now pair.subject ⊎ Contains subjects.now pair.other) }
+    ensures { IsTrue result
+        ↔ (Contains subjects.now pair.subject ⊎ Contains subjects.now pair.other) }
 {
     for mmsi in subjects {
         if is_one(pair, *mmsi) {

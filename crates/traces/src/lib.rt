@@ -7,20 +7,28 @@
 //!
 //! Two vessels that are in contact at tick 5 for the first time have two traces from step 5 on, one for each order of them. When tick 8 was taken,
 //! each has had three rows: those of the steps 5, 6 and 7.
-//! Marks, rules and rows of reports have no place here: audit and watch are built over these traces.
+//! `TraceWindow` does this for a keeper of traces, which says what is done as a trace begins, takes a row and ends.
+//! Marks, rules and rows of reports are out of scope: an audit and a watch are keepers of these traces.
 #![tactic(auto)]
 
 mod all_traces;
 mod contact_pairs;
+mod each_trace;
 mod fault;
 mod followed_trace;
 mod known_pairs;
 pub mod laws;
+mod next_row;
 mod pair_ranks;
 mod sightings;
+mod trace_keeper;
+mod trace_window;
 
 pub use all_traces::{AllTraces, MOST_TRACES};
 pub use contact_pairs::contacts;
 pub use fault::TickFault;
+pub use next_row::NextRow;
 pub use pair_ranks::by_rank;
 pub use sightings::state_of;
+pub use trace_keeper::TraceKeeper;
+pub use trace_window::TraceWindow;

@@ -13,16 +13,18 @@ use ranks::Rank;
 fn count_below(seen: &[(u32, TickState)], mmsi: u32) -> usize
     requires { AreAscending seen.now }
     ensures bound { result ≤ length seen.now }
-    ensures parts { IsPartitionPoint (λ vessel. vessel.0 < mmsi) (λ vessel. mmsi ≤ vessel.0) seen.now result }
+    ensures parts { IsPartitionPoint (λ vessel. vessel.0 < mmsi)
+        (λ vessel. mmsi ≤ vessel.0) seen.now result }
 {
     seen.partition_point(|vessel| vessel.0 < mmsi)
 }
 
-/// Whether so many of the vessels have a lesser MMSI, told by the two that stand there.
+/// Whether this number of the vessels have a lesser MMSI, which the two at that place show.
 #[inline(always)]
 fn is_count_below(seen: &[(u32, TickState)], count: usize, mmsi: u32) -> bool
     requires { AreAscending seen.now }
-    ensures { result ≡ true → IsPartitionPoint (λ vessel. vessel.0 < mmsi) (λ vessel. mmsi ≤ vessel.0) seen.now count }
+    ensures { result ≡ true
+        → IsPartitionPoint (λ vessel. vessel.0 < mmsi) (λ vessel. mmsi ≤ vessel.0) seen.now count }
 {
     if seen.len() < count || (count > 0 && mmsi <= seen[count - 1].0) {
         return false;
@@ -33,7 +35,8 @@ fn is_count_below(seen: &[(u32, TickState)], count: usize, mmsi: u32) -> bool
 /// The state of a vessel where so many of those seen have lesser MMSIs.
 fn state_behind(seen: &[(u32, TickState)], below: usize, mmsi: u32) -> Option<&TickState>
     requires ascending { AreAscending seen.now }
-    requires parts { IsPartitionPoint (λ vessel. vessel.0 < mmsi) (λ vessel. mmsi ≤ vessel.0) seen.now below }
+    requires parts { IsPartitionPoint (λ vessel. vessel.0 < mmsi)
+        (λ vessel. mmsi ≤ vessel.0) seen.now below }
     ensures { option_copied result ≡ state_in mmsi seen.now }
 {
     let vessel = seen.get(below)?;
@@ -87,7 +90,7 @@ fn place_near(seen: &[(u32, TickState)], mmsi: u32, place: usize) -> usize
     count_below(seen, mmsi)
 }
 
-/// The rank at a place; a vessel of which none is told is power-driven.
+/// Returns the rank at a place; a vessel without one is power-driven.
 fn rank_at(ranks: &[Rank], place: usize) -> Rank
     ensures { result ≡ get_or ranks.now place Power }
 {

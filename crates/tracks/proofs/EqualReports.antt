@@ -1,4 +1,4 @@
--- The test of reports tells which are equal.
+-- The test of two reports returns whether they are equal.
 use Rattle.std.proofs.Common.{◌≡◌, ℕ, ◌==◌, ◌&&◌, nat_eq, Bool, true, Some, None, ℤ, refl, ap, subst, arith}
 use Rattle.std.specs.Prelude.{Option}
 use Rattle.std.specs.Option.{option_eq}

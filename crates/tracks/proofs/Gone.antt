@@ -31,7 +31,7 @@ from_next (x ∷ xs) (suc r) d lt = from_next xs r d (omega arith)
 from_index : (xs : List Accepted) (r : ℕ) (d : Accepted) → r < length xs → drop r xs ≡ get_or xs r d ∷ drop (r + 1) xs
 from_index xs r d lt = from_next xs r d lt ∙ ap (λ (n : ℕ). get_or xs r d ∷ drop n xs) (one_more r)
 
--- the reports from an index on, of which the next two are these
+-- the reports from an index on, which begin with these two
 two_from : (xs : List Accepted) (r : ℕ) (d e : Accepted) → r + 1 < length xs → drop r xs ≡ get_or xs r d ∷ get_or xs (r + 1) e ∷ drop (r + 1 + 1) xs
 two_from xs r d e lt = from_index xs r d (omega arith) ∙ ap (λ (ys : List Accepted). get_or xs r d ∷ ys) (from_index xs (r + 1) e lt)
 
@@ -148,7 +148,7 @@ are_kept gap t (x ∷ y ∷ ys) h =
       | inr not ↦ subst (AreKept gap) (sym (stopped t x y ys not)) h
     ]
 
--- A vessel of whom what lies before a time is forgotten.
+-- A vessel whose reports before a time are forgotten.
 pub vessel_since_kept : (keeping : Keeping) (gap t : ℕ) (vessel : VesselValue) → IsKept keeping gap vessel → IsKept (Since t) gap (vessel_since gap t vessel)
 vessel_since_kept keeping gap t vessel h =
     let legs : vessel.legs ≡ legs_between gap vessel.points = h.legs in

@@ -183,7 +183,7 @@ takes_apart gap old inside new now same h is follows e points legs counts static
     let all-counts = counts ∙ ap (λ (o : Option Leg). counts_more inside.counts (is_some o)) (sym e) in
     subst (λ (v : VesselValue). HasTaken Tracks gap v new now) same (has_taken Tracks gap inside new now new-kept points all-counts statics)
 
--- ---- a vessel of whom the latest report alone is kept
+-- ---- a vessel whose latest report alone is kept
 
 kept_latest : (gap : ℕ) (old new : VesselValue) (now : Accepted) → IsKept Latest gap old → IsAccepted now → new.points ≡ now ∷ [] → new.legs ≡ old.legs
     → new.statics ≡ old.statics → IsKept Latest gap new
@@ -213,7 +213,7 @@ pub takes_latest : (keeping : Keeping) (gap : ℕ) (old new : VesselValue) (now 
 takes_latest keeping gap old new now latest h is e =
     subst (λ (k : Keeping). HasTaken k gap old new now) (sym latest) (takes_alone gap old new now (subst (λ (k : Keeping). IsKept k gap old) latest h) is e)
 
--- ---- a vessel of whom the reports from a time on are kept
+-- ---- a vessel whose reports from a time on are kept
 
 -- a report that is not earlier
 takes_since : (gap time : ℕ) (old new : VesselValue) (now : Accepted) → IsKept (Since time) gap old → IsKept Tracks gap new → new ≡ vessel_with Tracks gap old (Some now)

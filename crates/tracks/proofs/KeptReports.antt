@@ -50,7 +50,7 @@ latest_alone gap xs alone = ap (legs_between gap) alone ∙ no_legs gap (last_or
 pub kept_legs-latest : (gap : ℕ) (xs : List Accepted) → kept_legs Latest gap xs ≡ []
 kept_legs-latest gap xs = no_legs gap (last_or None xs)
 
--- Where a vessel is seen at a time that is remembered is what the legs that are kept tell.
+-- The kept legs determine where a vessel is seen at a time that is remembered.
 pub kept_legs-state : (keeping : Keeping) (gap t : ℕ) (xs : List Accepted) → AreInOrder xs → Remembers keeping t → state_at t (kept_legs keeping gap xs) ≡ state_at t (legs_between gap xs)
 kept_legs-state Latest gap t xs h remembers = absurd remembers
 kept_legs-state Tracks gap t xs h remembers = refl

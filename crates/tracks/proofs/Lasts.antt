@@ -14,7 +14,7 @@ last_of : {A : Type 0} (o : Option A) (x : A) (xs : List A) → slice_get (x ∷
 last_of o x [] = refl
 last_of o x (y ∷ ys) = last_of (Some x) y ys
 
--- as an index tells it
+-- the last element, read by its index
 pub slice_get-last : {A : Type 0} (xs : List A) → slice_get xs (length xs - 1) ≡ last_or None xs
 slice_get-last [] = refl
 slice_get-last (x ∷ xs) = simp unary_clauses (last_of None x xs)

@@ -120,7 +120,7 @@ no_others : (others : List Accepted) → last_or None others ≡ None → others
 no_others [] e = refl
 no_others (x ∷ xs) e = let some = last_or-at None x xs x in cc
 
--- after the reports before it, the last of which this is
+-- after the earlier reports; `o` is the last of these
 after_others : (gap t : ℕ) (others : List Accepted) (latest : Accepted) (before : TickState) (o : Option Accepted) → last_or None others ≡ o → Rises None others
     → IfSome o (λ a. a.time < latest.time) → MovesLittle gap (legs_between gap others ++ option_to_list (joined_after gap o latest)) → t < latest.time → latest.time ≤ t + gap
     → state_at t (legs_between gap others ++ option_to_list (joined_after gap o latest)) ≡ Some before → Comes gap t before latest

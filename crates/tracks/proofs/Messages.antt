@@ -1,4 +1,4 @@
--- What one more message tells of the vessels.
+-- What one more message says about the vessels.
 use Rattle.std.proofs.Common.{◌≡◌, ◌≢◌, ◌∙◌, ℕ, Bool, true, false, ◌==◌, List, [], ◌∷◌, ◌++◌, Some, None, Ok, Err, refl, ap, sym, arith}
 use Rattle.std.specs.Prelude.{Option, Result}
 use Rattle.std.specs.List.{cons_option, filter, filter_map, last_or}
@@ -107,7 +107,7 @@ pub static_reports_of-other : (sent : List Sent) (one : Sent) (mmsi : ℕ) → m
     → static_reports_of (sent ++ one ∷ []) mmsi ≡ static_reports_of sent mmsi
 static_reports_of-other sent one mmsi ne = ap (filter_map (λ s. static_in s.message)) (messages_of-other sent one mmsi ne)
 
--- the last one told, after one more report that may tell it
+-- the last value given, after one more report that may give one
 last-more : {A : Type 0} (xs : List A) (o : Option A) → last_or None (xs ++ cons_option o []) ≡ option_or o (last_or None xs)
 last-more xs None = ap (last_or None) (append-nil xs)
 last-more xs (Some x) = last_or-push None xs x

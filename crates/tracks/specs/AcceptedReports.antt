@@ -112,7 +112,7 @@ accepted_at_marks reference (mark ∷ marks) [] = []
 accepted_at_marks reference (true ∷ marks) (now ∷ reports) = with_placed (placed reference now) (accepted_at_marks reference marks reports)
 accepted_at_marks reference (false ∷ marks) (now ∷ reports) = accepted_at_marks reference marks reports
 
--- The accepted list of a vessel's reports: a report stands in it exactly where no cause applies to it and to the last report
+-- The accepted list of a vessel's reports: a report stands in it exactly if no cause applies to it and to the last report
 -- that stands in it before.
 pub record AreAccepted (numbers : JudgingNumbers) (reports : List Reported) (accepted : List Accepted) : Type 0 where
   pub marks : List Bool

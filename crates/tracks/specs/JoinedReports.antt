@@ -6,7 +6,7 @@ use Rattle.ais_messages.specs.declared.message.PositionReport.{PositionReport}
 use Rattle.motion.specs.declared.leg.Leg.{Leg}
 use Rattle.tracks.specs.declared.accepted.Accepted.{Accepted}
 
--- Her direction is her heading, which is told in whole degrees, or else her course.
+-- Her direction is her heading, which is reported in whole degrees, or otherwise her course.
 abbrev pub reported_direction : PositionReport → Option ℕ
 reported_direction report = option_or (option_map (λ degrees. degrees * 10) report.heading) report.cog
 

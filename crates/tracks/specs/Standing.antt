@@ -80,7 +80,7 @@ legs_among (held ∷ others) (vessel ∷ vessels) mmsi = if held == mmsi then ve
 abbrev pub legs_in : BookValue → ℕ → List Leg
 legs_in book mmsi = legs_among book.held book.vessels mmsi
 
--- what is kept of what the messages tell of a vessel
+-- what is kept of what the messages say about a vessel
 abbrev pub vessel_of : Keeping → JudgingNumbers → List Sent → ℕ → VesselValue
 vessel_of keeping numbers sent mmsi = record {
   points = kept_points keeping (accepted_of numbers sent mmsi);
@@ -98,7 +98,7 @@ pub record StandsFor (book : BookValue) (numbers : JudgingNumbers) (sent : List 
   pub holds : book.held ≡ held_of numbers sent
   pub vessels : book.vessels ≡ map (vessel_of book.keeping numbers sent) (held_of numbers sent)
 
--- She is held, and stands for what is kept of what the messages tell of her.
+-- She is held, and stands for what is kept of what the messages say about her.
 pub record IsHeldVessel (keeping : Keeping) (numbers : JudgingNumbers) (sent : List Sent) (vessel : HeldVessel) : Type 0 where
   pub held : is_held numbers sent vessel.mmsi ≡ true
   pub points : vessel.points.now ≡ kept_points keeping (accepted_of numbers sent vessel.mmsi)

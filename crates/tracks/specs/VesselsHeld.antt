@@ -1,4 +1,4 @@
--- What a list of messages tells of the vessels that sent them.
+-- What a list of messages says about the vessels that sent them.
 use Rattle.std.specs.Prelude.{ℕ, ◌==◌, ◌||◌, Bool, nat_lt, List, [], ◌∷◌, length, filter, fold, Option, Some, None, if◌then◌else◌, Result, Ok, Err}
 use Rattle.std.specs.List.{filter_map, last_or}
 use Rattle.std.specs.Option.{option_map}
@@ -57,7 +57,7 @@ legs_of numbers sent mmsi = legs_between numbers.gap (accepted_of numbers sent m
 abbrev pub static_reports_of : List Sent → ℕ → List StaticReport
 static_reports_of sent mmsi = filter_map (λ one. static_in one.message) (messages_of sent mmsi)
 
--- name, and type and size, each as it was told last
+-- name, and type and size, each as last reported
 abbrev pub last_told : List StaticReport → Statics
 last_told reports = record {
   name = last_or None (filter_map (λ report. report.name) reports);

@@ -45,7 +45,8 @@ pub const MOST_VESSELS: usize = 4096;
 fn first_entry(numbers: &GivenNumbers, message: &Message, time: u64) -> Entry
     requires numbers { IsNumbers numbers.now }
     requires message { IsMessage message.now }
-    ensures { result ≡ entry_at numbers.now None (reported_in (record { message = message.now; time = time })) }
+    ensures { result ≡ entry_at numbers.now None
+        (reported_in (record { message = message.now; time = time })) }
 {
     let Some(report) = position_report(message) else {
         return Entry::Static;
@@ -59,7 +60,8 @@ fn first_entry(numbers: &GivenNumbers, message: &Message, time: u64) -> Entry
 /// Whether a message that comes to this makes its vessel held.
 fn is_holding(message: &Message, entry: Entry) -> bool
     ensures { (numbers : JudgingNumbers) (time : ℕ)
-        → entry ≡ entry_at numbers None (reported_in (record { message = message.now; time = time }))
+        → entry ≡ entry_at numbers None
+        (reported_in (record { message = message.now; time = time }))
         → result ≡ makes_held numbers (record { message = message.now; time = time }) }
 {
     static_report(message).is_some() || matches!(entry, Entry::Point(_))
@@ -89,7 +91,8 @@ fn put(
 /// Forgets of each vessel the reports before the last one that is earlier than a time, and the legs to them and to that one.
 fn forget_each(vessels: &mut Vec<Vessel>, gap: u32, time: u64)
     requires in_order { All (λ (vessel : VesselValue). AreInOrder vessel.points) vessels.old.items }
-    requires legs { All (λ (vessel : VesselValue). vessel.legs ≡ legs_between gap vessel.points) vessels.old.items }
+    requires legs { All
+        (λ (vessel : VesselValue). vessel.legs ≡ legs_between gap vessel.points) vessels.old.items }
     ensures { vessels.new.items ≡ map (vessel_since gap time) vessels.old.items }
 {
     for vessel in vessels.iter_mut() {
@@ -116,9 +119,21 @@ impl Model for Book {
 
     ghost Value = { BookValue };
 
-    ghost view = { λ b. record { keeping = b.keeping; numbers = b.numbers; held = b.held.items; vessels = b.vessels.items } };
+    ghost view = { λ b.
+        record {
+          keeping = b.keeping;
+          numbers = b.numbers;
+          held = b.held.items;
+          vessels = b.vessels.items;
+        } };
 
-    ghost invariant = { λ b. IsBook (record { keeping = b.keeping; numbers = b.numbers; held = b.held.items; vessels = b.vessels.items }) };
+    ghost invariant = { λ b. IsBook
+        (record {
+          keeping = b.keeping;
+          numbers = b.numbers;
+          held = b.held.items;
+          vessels = b.vessels.items;
+        }) };
 }
 
 impl Book {
@@ -129,12 +144,13 @@ impl Book {
         requires some_speed { 1 ≤ max_speed }
         requires max_speed { max_speed ≤ 1022 }
         ensures keeping { result.keeping ≡ Tracks }
-        ensures stands { StandsFor result (record { reference = reference; gap = gap; max_speed = max_speed }) [] }
+        ensures stands { StandsFor result
+            (record { reference = reference; gap = gap; max_speed = max_speed }) [] }
     {
         Book::with_keeping(alloc, Keeping::Tracks, reference, gap, max_speed)
     }
 
-    /// The same, where a book keeps of a vessel's accepted reports what it is told here: all, or the latest alone.
+    /// The same, for a book that keeps of each vessel's accepted reports what `keeping` says: all, or the latest alone.
     pub fn with_keeping(
         alloc: Global,
         keeping: Keeping,
@@ -146,7 +162,8 @@ impl Book {
         requires some_speed { 1 ≤ max_speed }
         requires max_speed { max_speed ≤ 1022 }
         ensures keeping { result.keeping ≡ keeping }
-        ensures stands { StandsFor result (record { reference = reference; gap = gap; max_speed = max_speed }) [] }
+        ensures stands { StandsFor result
+            (record { reference = reference; gap = gap; max_speed = max_speed }) [] }
     {
         Book {
             alloc,
@@ -162,23 +179,31 @@ impl Book {
         }
     }
 
-    /// Takes the next message, which came at `time`, and gives what it comes to: the position report of a message is accepted, or
-    /// dropped for the first cause that applies, and its static report is kept in any case. `TooManyVessels` comes exactly where
-    /// more than [`MOST_VESSELS`] would be held with this message, and `Memory` where there was none; the book is then as before. Where a
-    /// vessel was more than the gap before `time` stays as it was.
+    /// Takes the next message, which came at `time`, and returns its outcome: the position report of a message is accepted, or
+    /// dropped for the first cause that applies, and its static report is kept in any case. `TooManyVessels` comes exactly if
+    /// more than [`MOST_VESSELS`] would be held with this message, and `Memory` if memory ran out; the book is then as before. The
+    /// positions of a vessel more than the gap before `time` stay as they were.
     pub fn take(&mut self, message: &Message, time: u64) -> Result<Entry, BookFault>
         requires { IsMessage message.now }
-        ensures entry { IfOk result (λ entry. (numbers : JudgingNumbers) (sent : List Sent) → StandsFor self.old numbers sent
+        ensures entry { IfOk result
+            (λ entry. (numbers : JudgingNumbers) (sent : List Sent)
+            → StandsFor self.old numbers sent
             → entry ≡ entry_of numbers sent (record { message = message.now; time = time })) }
-        ensures stands { OnOk result ((numbers : JudgingNumbers) (sent : List Sent) → StandsFor self.old numbers sent
-            → StandsFor self.new numbers (sent ++ record { message = message.now; time = time } ∷ [])) }
+        ensures stands { OnOk result
+            ((numbers : JudgingNumbers) (sent : List Sent) → StandsFor self.old numbers sent
+            → StandsFor self.new numbers
+            (sent ++ record { message = message.now; time = time } ∷ [])) }
         ensures same { OnErr result (self.new ≡ self.old) }
         ensures keeping { self.new.keeping ≡ self.old.keeping }
-        ensures too_many { (numbers : JudgingNumbers) (sent : List Sent) → StandsFor self.old numbers sent
+        ensures too_many { (numbers : JudgingNumbers) (sent : List Sent)
+            → StandsFor self.old numbers sent
             → (result ≡ Err TooManyVessels)
-            ↔ (MOST_VESSELS < length (held_of numbers (sent ++ record { message = message.now; time = time } ∷ []))) }
-        ensures settled { OnOk result ((numbers : JudgingNumbers) (sent : List Sent) → StandsFor self.old numbers sent
-            → (mmsi t : ℕ) → forgotten self.old.keeping ≤ t → t + numbers.gap < time → state_at t (legs_in self.new mmsi) ≡ state_at t (legs_in self.old mmsi)) }
+            ↔ (MOST_VESSELS < length
+            (held_of numbers (sent ++ record { message = message.now; time = time } ∷ []))) }
+        ensures settled { OnOk result
+            ((numbers : JudgingNumbers) (sent : List Sent) → StandsFor self.old numbers sent
+            → (mmsi t : ℕ) → forgotten self.old.keeping ≤ t → t + numbers.gap < time
+            → state_at t (legs_in self.new mmsi) ≡ state_at t (legs_in self.old mmsi)) }
     {
         let mmsi = sender(message);
         match index_of(&self.held, mmsi) {
@@ -194,17 +219,27 @@ impl Book {
     #[inline(always)]
     pub fn take_report(&mut self, report: &PositionReport, time: u64) -> Result<Entry, BookFault>
         requires { IsReport report.now }
-        ensures entry { IfOk result (λ entry. (numbers : JudgingNumbers) (sent : List Sent) → StandsFor self.old numbers sent
-            → entry ≡ entry_of numbers sent (record { message = Position report.now; time = time })) }
-        ensures stands { OnOk result ((numbers : JudgingNumbers) (sent : List Sent) → StandsFor self.old numbers sent
-            → StandsFor self.new numbers (sent ++ record { message = Position report.now; time = time } ∷ [])) }
+        ensures entry { IfOk result
+            (λ entry. (numbers : JudgingNumbers) (sent : List Sent)
+            → StandsFor self.old numbers sent
+            → entry ≡ entry_of numbers sent
+            (record { message = Position report.now; time = time })) }
+        ensures stands { OnOk result
+            ((numbers : JudgingNumbers) (sent : List Sent) → StandsFor self.old numbers sent
+            → StandsFor self.new numbers
+            (sent ++ record { message = Position report.now; time = time } ∷ [])) }
         ensures same { OnErr result (self.new ≡ self.old) }
         ensures keeping { self.new.keeping ≡ self.old.keeping }
-        ensures too_many { (numbers : JudgingNumbers) (sent : List Sent) → StandsFor self.old numbers sent
+        ensures too_many { (numbers : JudgingNumbers) (sent : List Sent)
+            → StandsFor self.old numbers sent
             → (result ≡ Err TooManyVessels)
-            ↔ (MOST_VESSELS < length (held_of numbers (sent ++ record { message = Position report.now; time = time } ∷ []))) }
-        ensures settled { OnOk result ((numbers : JudgingNumbers) (sent : List Sent) → StandsFor self.old numbers sent
-            → (mmsi t : ℕ) → forgotten self.old.keeping ≤ t → t + numbers.gap < time → state_at t (legs_in self.new mmsi) ≡ state_at t (legs_in self.old mmsi)) }
+            ↔ (MOST_VESSELS < length
+            (held_of numbers (sent
+            ++ record { message = Position report.now; time = time } ∷ []))) }
+        ensures settled { OnOk result
+            ((numbers : JudgingNumbers) (sent : List Sent) → StandsFor self.old numbers sent
+            → (mmsi t : ℕ) → forgotten self.old.keeping ≤ t → t + numbers.gap < time
+            → state_at t (legs_in self.new mmsi) ≡ state_at t (legs_in self.old mmsi)) }
     {
         match self.guess(report.mmsi) {
             Some(at) => Ok(self.report_further(at, report, time)?),
@@ -235,14 +270,21 @@ impl Book {
     ) -> Result<Entry, Memory>
         requires report { IsReport report.now }
         requires sender { slice_get self.old.held at ≡ Some report.now.mmsi }
-        ensures entry { IfOk result (λ entry. (numbers : JudgingNumbers) (sent : List Sent) → StandsFor self.old numbers sent
-            → entry ≡ entry_of numbers sent (record { message = Position report.now; time = time })) }
-        ensures stands { OnOk result ((numbers : JudgingNumbers) (sent : List Sent) → StandsFor self.old numbers sent
-            → StandsFor self.new numbers (sent ++ record { message = Position report.now; time = time } ∷ [])) }
+        ensures entry { IfOk result
+            (λ entry. (numbers : JudgingNumbers) (sent : List Sent)
+            → StandsFor self.old numbers sent
+            → entry ≡ entry_of numbers sent
+            (record { message = Position report.now; time = time })) }
+        ensures stands { OnOk result
+            ((numbers : JudgingNumbers) (sent : List Sent) → StandsFor self.old numbers sent
+            → StandsFor self.new numbers
+            (sent ++ record { message = Position report.now; time = time } ∷ [])) }
         ensures same { OnErr result (self.new ≡ self.old) }
         ensures keeping { self.new.keeping ≡ self.old.keeping }
-        ensures few { (numbers : JudgingNumbers) (sent : List Sent) → StandsFor self.old numbers sent
-            → length (held_of numbers (sent ++ record { message = Position report.now; time = time } ∷ [])) ≤ MOST_VESSELS }
+        ensures few { (numbers : JudgingNumbers) (sent : List Sent)
+            → StandsFor self.old numbers sent
+            → length (held_of numbers
+            (sent ++ record { message = Position report.now; time = time } ∷ [])) ≤ MOST_VESSELS }
     {
         let vessel = &mut self.vessels[at];
         vessel.take_report(self.keeping, &self.numbers, report, time)
@@ -252,14 +294,20 @@ impl Book {
     fn take_further(&mut self, at: usize, message: &Message, time: u64) -> Result<Entry, Memory>
         requires message { IsMessage message.now }
         requires sender { slice_get self.old.held at ≡ Some (sender_of message.now) }
-        ensures entry { IfOk result (λ entry. (numbers : JudgingNumbers) (sent : List Sent) → StandsFor self.old numbers sent
+        ensures entry { IfOk result
+            (λ entry. (numbers : JudgingNumbers) (sent : List Sent)
+            → StandsFor self.old numbers sent
             → entry ≡ entry_of numbers sent (record { message = message.now; time = time })) }
-        ensures stands { OnOk result ((numbers : JudgingNumbers) (sent : List Sent) → StandsFor self.old numbers sent
-            → StandsFor self.new numbers (sent ++ record { message = message.now; time = time } ∷ [])) }
+        ensures stands { OnOk result
+            ((numbers : JudgingNumbers) (sent : List Sent) → StandsFor self.old numbers sent
+            → StandsFor self.new numbers
+            (sent ++ record { message = message.now; time = time } ∷ [])) }
         ensures same { OnErr result (self.new ≡ self.old) }
         ensures keeping { self.new.keeping ≡ self.old.keeping }
-        ensures few { (numbers : JudgingNumbers) (sent : List Sent) → StandsFor self.old numbers sent
-            → length (held_of numbers (sent ++ record { message = message.now; time = time } ∷ [])) ≤ MOST_VESSELS }
+        ensures few { (numbers : JudgingNumbers) (sent : List Sent)
+            → StandsFor self.old numbers sent
+            → length (held_of numbers (sent ++ record { message = message.now; time = time } ∷ []))
+            ≤ MOST_VESSELS }
     {
         let vessel = &mut self.vessels[at];
         vessel.take(self.keeping, &self.numbers, message, time)
@@ -278,15 +326,21 @@ impl Book {
         requires place { at ≤ length self.old.held }
         requires absent { ¬ Contains self.old.held mmsi }
         requires more { with_number mmsi self.old.held ≡ insert self.old.held at mmsi }
-        ensures entry { IfOk result (λ entry. (numbers : JudgingNumbers) (sent : List Sent) → StandsFor self.old numbers sent
+        ensures entry { IfOk result
+            (λ entry. (numbers : JudgingNumbers) (sent : List Sent)
+            → StandsFor self.old numbers sent
             → entry ≡ entry_of numbers sent (record { message = message.now; time = time })) }
-        ensures stands { OnOk result ((numbers : JudgingNumbers) (sent : List Sent) → StandsFor self.old numbers sent
-            → StandsFor self.new numbers (sent ++ record { message = message.now; time = time } ∷ [])) }
+        ensures stands { OnOk result
+            ((numbers : JudgingNumbers) (sent : List Sent) → StandsFor self.old numbers sent
+            → StandsFor self.new numbers
+            (sent ++ record { message = message.now; time = time } ∷ [])) }
         ensures same { OnErr result (self.new ≡ self.old) }
         ensures keeping { self.new.keeping ≡ self.old.keeping }
-        ensures too_many { (numbers : JudgingNumbers) (sent : List Sent) → StandsFor self.old numbers sent
+        ensures too_many { (numbers : JudgingNumbers) (sent : List Sent)
+            → StandsFor self.old numbers sent
             → (result ≡ Err TooManyVessels)
-            ↔ (MOST_VESSELS < length (held_of numbers (sent ++ record { message = message.now; time = time } ∷ []))) }
+            ↔ (MOST_VESSELS < length
+            (held_of numbers (sent ++ record { message = message.now; time = time } ∷ []))) }
     {
         let entry = first_entry(&self.numbers, message, time);
         if !is_holding(message, entry) {
@@ -309,9 +363,12 @@ impl Book {
         requires absent { ¬ Contains self.old.held mmsi }
         requires more { with_number mmsi self.old.held ≡ insert self.old.held at mmsi }
         requires room { length self.old.held < MOST_VESSELS }
-        requires holding { makes_held self.old.numbers (record { message = message.now; time = time }) ≡ true }
-        ensures stands { OnOk result ((numbers : JudgingNumbers) (sent : List Sent) → StandsFor self.old numbers sent
-            → StandsFor self.new numbers (sent ++ record { message = message.now; time = time } ∷ [])) }
+        requires holding { makes_held self.old.numbers
+            (record { message = message.now; time = time }) ≡ true }
+        ensures stands { OnOk result
+            ((numbers : JudgingNumbers) (sent : List Sent) → StandsFor self.old numbers sent
+            → StandsFor self.new numbers
+            (sent ++ record { message = message.now; time = time } ∷ [])) }
         ensures same { OnErr result (self.new ≡ self.old) }
         ensures keeping { self.new.keeping ≡ self.old.keeping }
     {
@@ -325,7 +382,8 @@ impl Book {
     /// that keeps no tracks, or has forgotten as much, stays as it is. It takes no memory, and time by the vessels and by what is
     /// kept.
     pub fn forget(&mut self, time: u64)
-        ensures stands { (numbers : JudgingNumbers) (sent : List Sent) → StandsFor self.old numbers sent → StandsFor self.new numbers sent }
+        ensures stands { (numbers : JudgingNumbers) (sent : List Sent)
+            → StandsFor self.old numbers sent → StandsFor self.new numbers sent }
         ensures keeping { self.new.keeping ≡ forgetting self.old.keeping time }
         ensures held { self.new.held ≡ self.old.held }
     {
@@ -338,9 +396,11 @@ impl Book {
 
     /// The vessel of this identity, if she is held.
     fn vessel_of(&self, mmsi: u32) -> Option<&Vessel>
-        ensures value { (numbers : JudgingNumbers) (sent : List Sent) → StandsFor self.now numbers sent
+        ensures value { (numbers : JudgingNumbers) (sent : List Sent)
+            → StandsFor self.now numbers sent
             → option_copied result ≡ vessel_held self.now.keeping numbers sent mmsi }
-        ensures kept { IfSome (option_copied result) (IsKept self.now.keeping self.now.numbers.gap) }
+        ensures kept { IfSome (option_copied result)
+            (IsKept self.now.keeping self.now.numbers.gap) }
     {
         match index_of(&self.held, mmsi) {
             Ok(at) => Some(&self.vessels[at]),
@@ -350,7 +410,8 @@ impl Book {
 
     /// The accepted reports of a vessel that are kept, in the order in which they came.
     pub fn points(&self, mmsi: u32) -> &[Accepted]
-        ensures value { (numbers : JudgingNumbers) (sent : List Sent) → StandsFor self.now numbers sent
+        ensures value { (numbers : JudgingNumbers) (sent : List Sent)
+            → StandsFor self.now numbers sent
             → result.now ≡ kept_points self.now.keeping (accepted_of numbers sent mmsi) }
         ensures ranges { All IsAccepted result.now }
     {
@@ -362,7 +423,8 @@ impl Book {
 
     /// The latest accepted report of a vessel, if she has one.
     pub fn latest(&self, mmsi: u32) -> Option<&Accepted>
-        ensures value { self.now.keeping ≡ Tracks → (numbers : JudgingNumbers) (sent : List Sent) → StandsFor self.now numbers sent
+        ensures value { self.now.keeping ≡ Tracks → (numbers : JudgingNumbers) (sent : List Sent)
+            → StandsFor self.now numbers sent
             → option_copied result ≡ last_or None (accepted_of numbers sent mmsi) }
         ensures accepted { IfSome (option_copied result) IsAccepted }
     {
@@ -371,8 +433,12 @@ impl Book {
 
     /// The legs that are kept between the accepted reports of a vessel, or `None` where she is not held.
     pub fn legs(&self, mmsi: u32) -> Option<&Legs>
-        ensures value { (numbers : JudgingNumbers) (sent : List Sent) → StandsFor self.now numbers sent
-            → option_copied result ≡ (if is_held numbers sent mmsi then Some (kept_legs self.now.keeping numbers.gap (accepted_of numbers sent mmsi)) else None) }
+        ensures value { (numbers : JudgingNumbers) (sent : List Sent)
+            → StandsFor self.now numbers sent
+            → option_copied result
+            ≡ (if is_held numbers sent mmsi
+            then Some (kept_legs self.now.keeping numbers.gap (accepted_of numbers sent mmsi))
+            else None) }
         ensures moves { IfSome (option_copied result) (MovesLittle self.now.numbers.gap) }
     {
         let legs = self.vessel_of(mmsi)?.legs();
@@ -383,8 +449,9 @@ impl Book {
     /// The vessel that is held at this index.
     fn vessel_at(&self, at: usize) -> &Vessel
         requires { at < length self.now.held }
-        ensures value { (numbers : JudgingNumbers) (sent : List Sent) (mmsi : ℕ) → StandsFor self.now numbers sent
-            → slice_get self.now.held at ≡ Some mmsi → result.now ≡ vessel_of self.now.keeping numbers sent mmsi }
+        ensures value { (numbers : JudgingNumbers) (sent : List Sent) (mmsi : ℕ)
+            → StandsFor self.now numbers sent → slice_get self.now.held at ≡ Some mmsi
+            → result.now ≡ vessel_of self.now.keeping numbers sent mmsi }
         ensures legs { result.now.legs ≡ legs_in self.now (slice_index self.now.held at) }
         ensures kept { IsKept self.now.keeping self.now.numbers.gap result.now }
     {
@@ -405,9 +472,12 @@ impl Book {
     /// Puts the vessel that is held at this index after the others, if she is seen at the time.
     fn look_at(&self, at: usize, time: u64, seen: &mut Vec<(u32, TickState)>) -> Result<(), Memory>
         requires { at < length self.now.held }
-        ensures more { OnOk result (seen.new.items
-            ≡ seen.old.items ++ option_to_list (seen_vessel time (legs_in self.now) (slice_index self.now.held at))) }
-        ensures placed { OnOk result (All (λ (vessel : ℕ × TickState). IsTickState 2222400000 vessel.1) seen.old.items
+        ensures more { OnOk result
+            (seen.new.items ≡ seen.old.items
+            ++ option_to_list
+            (seen_vessel time (legs_in self.now) (slice_index self.now.held at))) }
+        ensures placed { OnOk result
+            (All (λ (vessel : ℕ × TickState). IsTickState 2222400000 vessel.1) seen.old.items
             → All (λ (vessel : ℕ × TickState). IsTickState 2222400000 vessel.1) seen.new.items) }
         ensures few { vec_len seen.new ≤ vec_len seen.old + 1 }
         ensures capacity { vec_capacity seen.old ≤ vec_capacity seen.new }
@@ -424,11 +494,14 @@ impl Book {
     /// room, and where that is enough for all vessels held, there is always memory. Where there is none, what `seen` holds is not
     /// told.
     pub fn look(&self, time: u64, seen: &mut Vec<(u32, TickState)>) -> Result<(), Memory>
-        ensures value { OnOk result (Remembers self.now.keeping time → (numbers : JudgingNumbers) (sent : List Sent) → StandsFor self.now numbers sent
-            → seen.new.items ≡ seen_of numbers sent time) }
+        ensures value { OnOk result
+            (Remembers self.now.keeping time → (numbers : JudgingNumbers) (sent : List Sent)
+            → StandsFor self.now numbers sent → seen.new.items ≡ seen_of numbers sent time) }
         ensures kept { OnOk result (seen.new.items ≡ seen_in self.now time) }
-        ensures ascending { OnOk result (IsStrictlyIncreasing (map (λ (vessel : ℕ × TickState). vessel.0) seen.new.items)) }
-        ensures placed { OnOk result (All (λ (vessel : ℕ × TickState). IsTickState 2222400000 vessel.1) seen.new.items) }
+        ensures ascending { OnOk result
+            (IsStrictlyIncreasing (map (λ (vessel : ℕ × TickState). vessel.0) seen.new.items)) }
+        ensures placed { OnOk result
+            (All (λ (vessel : ℕ × TickState). IsTickState 2222400000 vessel.1) seen.new.items) }
         ensures capacity { vec_capacity seen.old ≤ vec_capacity seen.new }
         ensures room { length self.now.held ≤ vec_capacity seen.old → IsOk result }
     {
@@ -442,8 +515,9 @@ impl Book {
     /// A law of the book, which does nothing: from one time to another, at most a minute and at most the gap later, a vessel that
     /// is seen at both moves by less than 2^25 in each component.
     pub fn moves_little(&self)
-        ensures { (t u mmsi : ℕ) (before after : TickState) → t ≤ u → u ≤ t + 60 → u ≤ t + self.now.numbers.gap
-            → Contains (seen_in self.now t) (mmsi, before) → Contains (seen_in self.now u) (mmsi, after)
+        ensures { (t u mmsi : ℕ) (before after : TickState) → t ≤ u → u ≤ t + 60
+            → u ≤ t + self.now.numbers.gap → Contains (seen_in self.now t) (mmsi, before)
+            → Contains (seen_in self.now u) (mmsi, after)
             → IsBelow (2 ^ 25) (displacement before.point after.point) }
     {
         // The law holds of each vessel's legs.
@@ -469,14 +543,16 @@ impl Book {
     /// What a vessel told of herself, or `None` where she is not held.
     pub fn statics(&self, mmsi: u32) -> Option<&Statics>
         ensures { (numbers : JudgingNumbers) (sent : List Sent) → StandsFor self.now numbers sent
-            → option_copied result ≡ (if is_held numbers sent mmsi then Some (statics_of sent mmsi) else None) }
+            → option_copied result
+            ≡ (if is_held numbers sent mmsi then Some (statics_of sent mmsi) else None) }
     {
         Some(self.vessel_of(mmsi)?.statics())
     }
 
     /// The length of a vessel that is held in metres, from bow to stern, at most 1022, and 0 where she told none.
     pub fn length(&self, mmsi: u32) -> u32
-        ensures value { (numbers : JudgingNumbers) (sent : List Sent) → StandsFor self.now numbers sent → is_held numbers sent mmsi ≡ true
+        ensures value { (numbers : JudgingNumbers) (sent : List Sent)
+            → StandsFor self.now numbers sent → is_held numbers sent mmsi ≡ true
             → result ≡ length_of (statics_of sent mmsi).ship }
         ensures short { result ≤ 1022 }
     {
@@ -488,8 +564,8 @@ impl Book {
 
     /// How many vessels are held.
     pub fn vessels(&self) -> usize
-        ensures value { (numbers : JudgingNumbers) (sent : List Sent) → StandsFor self.now numbers sent
-            → result ≡ length (held_of numbers sent) }
+        ensures value { (numbers : JudgingNumbers) (sent : List Sent)
+            → StandsFor self.now numbers sent → result ≡ length (held_of numbers sent) }
         ensures count { result ≡ length self.now.held }
         ensures few { result ≤ MOST_VESSELS }
     {
@@ -509,10 +585,11 @@ impl Book {
     pub fn held(&self, k: usize) -> HeldVessel<'_>
         requires { k < length self.now.held }
         ensures mmsi { slice_get self.now.held k ≡ Some result.mmsi }
-        ensures listed { (numbers : JudgingNumbers) (sent : List Sent) → StandsFor self.now numbers sent
+        ensures listed { (numbers : JudgingNumbers) (sent : List Sent)
+            → StandsFor self.now numbers sent
             → slice_get (held_of numbers sent) k ≡ Some result.mmsi }
-        ensures kept { (numbers : JudgingNumbers) (sent : List Sent) → StandsFor self.now numbers sent
-            → IsHeldVessel self.now.keeping numbers sent result }
+        ensures kept { (numbers : JudgingNumbers) (sent : List Sent)
+            → StandsFor self.now numbers sent → IsHeldVessel self.now.keeping numbers sent result }
     {
         let vessel = self.vessel_at(k);
         HeldVessel {
@@ -526,11 +603,12 @@ impl Book {
 
     /// The vessel of this identity with all that is kept of her, or `None` where she is not held.
     pub fn find(&self, mmsi: u32) -> Option<HeldVessel<'_>>
-        ensures held { (numbers : JudgingNumbers) (sent : List Sent) → StandsFor self.now numbers sent
-            → IsTrue (is_held numbers sent mmsi) ↔ IsSome result }
+        ensures held { (numbers : JudgingNumbers) (sent : List Sent)
+            → StandsFor self.now numbers sent → IsTrue (is_held numbers sent mmsi) ↔ IsSome result }
         ensures mmsi { IfSome result (λ vessel. vessel.mmsi ≡ mmsi) }
-        ensures kept { IfSome result (λ vessel. (numbers : JudgingNumbers) (sent : List Sent) → StandsFor self.now numbers sent
-            → IsHeldVessel self.now.keeping numbers sent vessel) }
+        ensures kept { IfSome result
+            (λ vessel. (numbers : JudgingNumbers) (sent : List Sent)
+            → StandsFor self.now numbers sent → IsHeldVessel self.now.keeping numbers sent vessel) }
     {
         match index_of(&self.held, mmsi) {
             Ok(at) => Some(self.held(at)),

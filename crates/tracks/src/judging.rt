@@ -20,7 +20,8 @@ use fixed_geometry::{Point, Reference, displacement, norm2, project, square};
 #[tactic(auto, unfolding(crate::specs::AcceptedReports::placed))]
 fn point_of(reference: Reference, report: &PositionReport, time: u64) -> Result<Point, ReportCause>
     requires { IsReport report.now }
-    ensures value { with_point (record { report = report.now; time = time }) result ≡ placed reference (record { report = report.now; time = time }) }
+    ensures value { with_point (record { report = report.now; time = time }) result
+        ≡ placed reference (record { report = report.now; time = time }) }
     ensures small { IfOk result (IsWithin 2222400000) }
 {
     let Some((latitude, longitude)) = report.place else {
@@ -34,7 +35,8 @@ fn point_of(reference: Reference, report: &PositionReport, time: u64) -> Result<
 
 /// Whether a report repeats the latest accepted one: it equals it, and comes at most half a minute later.
 fn is_repeat(latest: &Accepted, report: &PositionReport, time: u64) -> bool
-    ensures { result ≡ (nat_le time (latest.now.time + 30) && same_report report.now latest.now.report) }
+    ensures { result ≡ (nat_le time (latest.now.time + 30)
+        && same_report report.now latest.now.report) }
 {
     time.saturating_sub(latest.time) <= 30 && *report == latest.report
 }
@@ -43,7 +45,8 @@ fn is_repeat(latest: &Accepted, report: &PositionReport, time: u64) -> bool
 fn outruns(max_speed: u16, seconds: u64, by: Point) -> bool
     requires short { seconds ≤ 3600 }
     requires small { IsWithin 4444800000 by }
-    ensures { result ≡ nat_lt (square (4630 * max_speed * seconds)) (81 * unsigned_abs (norm2_of by)) }
+    ensures { result ≡ nat_lt (square (4630 * max_speed * seconds))
+        (81 * unsigned_abs (norm2_of by)) }
 {
     square(4630 * u64::from(max_speed) * seconds) < 81 * norm2(by)
 }
@@ -55,7 +58,8 @@ fn is_jump(numbers: &GivenNumbers, latest: &Accepted, point: Point, time: u64) -
     requires latest { IsAccepted latest.now }
     requires point { IsWithin 2222400000 point }
     ensures { result ≡ (nat_le time (latest.now.time + numbers.now.gap)
-        && nat_lt (square (4630 * numbers.now.max_speed * (time - latest.now.time))) (81 * unsigned_abs (norm2_of (displacement latest.now.point point)))) }
+        && nat_lt (square (4630 * numbers.now.max_speed * (time - latest.now.time)))
+        (81 * unsigned_abs (norm2_of (displacement latest.now.point point)))) }
 {
     let seconds = time.saturating_sub(latest.time);
     if seconds > u64::from(numbers.gap) {
@@ -82,9 +86,12 @@ fn judge_after(
     requires report { IsReport report.now }
     requires point { IsWithin 2222400000 point }
     ensures value { with_point (record { report = report.now; time = time }) result
-        ≡ judged_after numbers.now (option_copied latest.entry) (record { time = time; point = point; report = report.now }) }
-    ensures follows { IfOk result (λ point. IfSome (option_copied latest.entry) (λ latest.
-        Follows numbers.now.gap latest (record { time = time; point = point; report = report.now }))) }
+        ≡ judged_after numbers.now (option_copied latest.entry)
+        (record { time = time; point = point; report = report.now }) }
+    ensures follows { IfOk result
+        (λ point. IfSome (option_copied latest.entry)
+        (λ latest. Follows numbers.now.gap latest
+        (record { time = time; point = point; report = report.now }))) }
     ensures small { IfOk result (IsWithin 2222400000) }
 {
     let Some(latest) = latest else {
@@ -115,9 +122,12 @@ pub(crate) fn judge(
     requires latest { IfSome (option_copied latest) IsAccepted }
     requires report { IsReport report.now }
     ensures value { with_point (record { report = report.now; time = time }) result
-        ≡ judged numbers.now (option_copied latest.entry) (record { report = report.now; time = time }) }
-    ensures follows { IfOk result (λ point. IfSome (option_copied latest.entry) (λ latest.
-        Follows numbers.now.gap latest (record { time = time; point = point; report = report.now }))) }
+        ≡ judged numbers.now (option_copied latest.entry)
+        (record { report = report.now; time = time }) }
+    ensures follows { IfOk result
+        (λ point. IfSome (option_copied latest.entry)
+        (λ latest. Follows numbers.now.gap latest
+        (record { time = time; point = point; report = report.now }))) }
     ensures small { IfOk result (IsWithin 2222400000) }
 {
     match point_of(numbers.reference, report, time) {

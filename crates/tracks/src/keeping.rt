@@ -17,7 +17,8 @@ pub enum Keeping {
 impl Keeping {
     /// From when on tracks are kept, once what lies before a time is forgotten; `None` where no tracks are kept.
     pub(crate) fn since(self, time: u64) -> Option<u64>
-        ensures { MatchOption result (forgetting self time ≡ self) (λ earliest. forgetting self time ≡ Since earliest) }
+        ensures { MatchOption result (forgetting self time ≡ self)
+            (λ earliest. forgetting self time ≡ Since earliest) }
     {
         match self {
             Keeping::Latest => None,

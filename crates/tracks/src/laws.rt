@@ -9,25 +9,30 @@ ghost use Rattle.tracks.specs.declared.accepted.Accepted.{Accepted};
 
 /// For each list of a vessel's reports there is exactly one accepted list, and the function gives it.
 pub fn one_accepted_list()
-    ensures exists { (numbers : JudgingNumbers) (reports : List Reported) → AreAccepted numbers reports (accepted_list numbers reports) }
-    ensures at_most_one { (numbers : JudgingNumbers) (reports : List Reported) (accepted : List Accepted) →
-        AreAccepted numbers reports accepted → accepted ≡ accepted_list numbers reports }
+    ensures exists { (numbers : JudgingNumbers) (reports : List Reported)
+        → AreAccepted numbers reports (accepted_list numbers reports) }
+    ensures at_most_one { (numbers : JudgingNumbers) (reports : List Reported)
+        (accepted : List Accepted) → AreAccepted numbers reports accepted
+        → accepted ≡ accepted_list numbers reports }
 {}
 
-/// The test of reports tells which are equal.
+/// The test of two reports returns whether they are equal.
 pub fn equal_reports()
     ensures { (a b : PositionReport) → (same_report a b ≡ true) ↔ (a ≡ b) }
 {}
 
 /// The vessels held are listed in ascending order, each once.
 pub fn vessels_are_listed()
-    ensures ascending { (numbers : JudgingNumbers) (sent : List Sent) → IsStrictlyIncreasing (held_of numbers sent) }
+    ensures ascending { (numbers : JudgingNumbers) (sent : List Sent)
+        → IsStrictlyIncreasing (held_of numbers sent) }
     ensures all { (numbers : JudgingNumbers) (sent : List Sent) (mmsi : ℕ)
         → Contains (held_of numbers sent) mmsi ↔ (is_held numbers sent mmsi ≡ true) }
 {}
 
 /// Where a vessel was more than the gap before a message came, that message does not change.
 pub fn the_past_stays()
-    ensures { (numbers : JudgingNumbers) (sent : List Sent) (one : Sent) (mmsi t : ℕ) → t + numbers.gap < one.time →
-        state_at t (legs_of numbers (sent ++ one ∷ []) mmsi) ≡ state_at t (legs_of numbers sent mmsi) }
+    ensures { (numbers : JudgingNumbers) (sent : List Sent) (one : Sent) (mmsi t : ℕ)
+        → t + numbers.gap < one.time
+        → state_at t (legs_of numbers (sent ++ one ∷ []) mmsi)
+        ≡ state_at t (legs_of numbers sent mmsi) }
 {}

@@ -20,7 +20,8 @@ pub(crate) fn index_of(numbers: &[u32], number: u32) -> Result<usize, usize>
     ensures found { IfOk result (λ at. slice_get numbers.now at ≡ Some number) }
     ensures place { IfErr result (λ at. at ≤ length numbers.now) }
     ensures absent { IfErr result (λ at. ¬ Contains numbers.now number) }
-    ensures more { IfErr result (λ at. with_number number numbers.now ≡ insert numbers.now at number) }
+    ensures more { IfErr result
+        (λ at. with_number number numbers.now ≡ insert numbers.now at number) }
 {
     let at = count_below(numbers, number);
     if at == numbers.len() {

@@ -1,4 +1,4 @@
-//! What a ship tells of herself.
+//! What a ship reports about herself.
 ghost use Rattle.std.specs.Prelude.{◌≡◌, ◌≤◌, IfSome};
 ghost use Rattle.ais_messages.specs.MessageFields.{IsShipData};
 ghost use Rattle.tracks.specs.Lengths.{length_of};

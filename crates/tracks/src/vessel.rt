@@ -69,7 +69,8 @@ fn leg_to(gap: u32, points: &[Accepted], accepted: &Accepted) -> Option<Leg>
     requires gap { gap ≤ 3600 }
     requires points { All IsAccepted points.now }
     requires accepted { IsAccepted accepted.now }
-    requires follows { IfSome (last_or None points.now) (λ latest. Follows gap latest accepted.now) }
+    requires follows { IfSome (last_or None points.now)
+        (λ latest. Follows gap latest accepted.now) }
     ensures value { result ≡ joined_after gap (last_or None points.now) accepted.now }
     ensures leg { IfSome result IsLeg }
 {
@@ -92,7 +93,8 @@ fn gone_before(gap: u32, points: &[Accepted], time: u64) -> Gone
     ensures within { result.reports ≤ length points.now }
     ensures points { points_since time points.now ≡ drop result.reports points.now }
     ensures legs_within { result.legs ≤ length (legs_between gap points.now) }
-    ensures legs { legs_between gap (points_since time points.now) ≡ drop result.legs (legs_between gap points.now) }
+    ensures legs { legs_between gap (points_since time points.now)
+        ≡ drop result.legs (legs_between gap points.now) }
 {
     let mut gone = Gone {
         reports: 0,
@@ -122,11 +124,12 @@ impl Model for Vessel {
 
     ghost Value = { VesselValue };
 
-    ghost view = { λ v. record { points = v.points.items; legs = v.legs; counts = v.counts; statics = v.statics } };
+    ghost view = { λ v.
+        record { points = v.points.items; legs = v.legs; counts = v.counts; statics = v.statics } };
 }
 
 impl Vessel {
-    /// A vessel of which nothing was told yet. This takes no memory.
+    /// Returns a vessel about which nothing is known yet. This takes no memory.
     pub(crate) fn new(alloc: Global) -> Vessel
         ensures { result ≡ untold }
     {
@@ -149,7 +152,8 @@ impl Vessel {
         requires gap { gap ≤ 3600 }
         requires kept { IsKept Tracks gap self.old }
         requires accepted { IsAccepted accepted.now }
-        requires follows { IfSome (last_or None self.old.points) (λ latest. Follows gap latest accepted.now) }
+        requires follows { IfSome (last_or None self.old.points)
+            (λ latest. Follows gap latest accepted.now) }
         ensures ok { OnOk result (self.new ≡ vessel_with Tracks gap self.old (Some accepted.now)) }
         ensures err { OnErr result (self.new ≡ self.old) }
         ensures kept { IsKept Tracks gap self.new }
@@ -201,7 +205,8 @@ impl Vessel {
         requires gap { gap ≤ 3600 }
         requires kept { IsKept keeping gap self.old }
         requires accepted { IsAccepted accepted.now }
-        requires follows { IfSome (last_or None self.old.points) (λ latest. Follows gap latest accepted.now) }
+        requires follows { IfSome (last_or None self.old.points)
+            (λ latest. Follows gap latest accepted.now) }
         ensures ok { OnOk result (self.new ≡ vessel_with keeping gap self.old (Some accepted.now)) }
         ensures err { OnErr result (self.new ≡ self.old) }
         ensures kept { IsKept keeping gap self.new }
@@ -231,10 +236,14 @@ impl Vessel {
         requires numbers { IsNumbers numbers.now }
         requires kept { IsKept keeping numbers.now.gap self.old }
         requires report { IsReport report.now }
-        ensures entry { IfOk result (λ entry. entry
-            ≡ entry_by (judged numbers.now (last_or None self.old.points) (record { report = report.now; time = time }))) }
-        ensures ok { OnOk result (self.new ≡ vessel_with keeping numbers.now.gap self.old
-            (accepted_by (judged numbers.now (last_or None self.old.points) (record { report = report.now; time = time })))) }
+        ensures entry { IfOk result
+            (λ entry. entry ≡ entry_by
+            (judged numbers.now (last_or None self.old.points)
+            (record { report = report.now; time = time }))) }
+        ensures ok { OnOk result
+            (self.new ≡ vessel_with keeping numbers.now.gap self.old
+            (accepted_by (judged numbers.now (last_or None self.old.points)
+            (record { report = report.now; time = time })))) }
         ensures err { OnErr result (self.new ≡ self.old) }
         ensures kept { IsKept keeping numbers.now.gap self.new }
     {
@@ -255,10 +264,11 @@ impl Vessel {
         }
     }
 
-    /// Keeps what she tells of herself, over what she told before.
+    /// Keeps what she reports about herself, over what she reported before.
     fn keep(&mut self, report: &StaticReport)
         ensures told { self.new ≡ told self.old (Some report.now) }
-        ensures ship { IfSome self.old.statics.ship IsShipData → IfSome report.now.ship IsShipData → IfSome self.new.statics.ship IsShipData }
+        ensures ship { IfSome self.old.statics.ship IsShipData → IfSome report.now.ship IsShipData
+            → IfSome self.new.statics.ship IsShipData }
     {
         if let Some(name) = &report.name {
             self.statics.name = Some(name.same());
@@ -279,10 +289,13 @@ impl Vessel {
         requires numbers { IsNumbers numbers.now }
         requires kept { IsKept keeping numbers.now.gap self.old }
         requires message { IsMessage message.now }
-        ensures entry { IfOk result (λ entry. entry ≡ entry_at numbers.now (last_or None self.old.points)
+        ensures entry { IfOk result
+            (λ entry. entry ≡ entry_at numbers.now (last_or None self.old.points)
             (reported_in (record { message = message.now; time = time }))) }
-        ensures ok { OnOk result (self.new ≡ vessel_with keeping numbers.now.gap self.old
-            (accepted_in numbers.now (last_or None self.old.points) (reported_in (record { message = message.now; time = time })))) }
+        ensures ok { OnOk result
+            (self.new ≡ vessel_with keeping numbers.now.gap self.old
+            (accepted_in numbers.now (last_or None self.old.points)
+            (reported_in (record { message = message.now; time = time })))) }
         ensures err { OnErr result (self.new ≡ self.old) }
         ensures kept { IsKept keeping numbers.now.gap self.new }
     {
@@ -296,7 +309,8 @@ impl Vessel {
     fn keep_static(&mut self, message: &Message)
         requires { IsMessage message.now }
         ensures told { self.new ≡ told self.old (static_in message.now) }
-        ensures ship { IfSome self.old.statics.ship IsShipData → IfSome self.new.statics.ship IsShipData }
+        ensures ship { IfSome self.old.statics.ship IsShipData
+            → IfSome self.new.statics.ship IsShipData }
     {
         if let Some(report) = static_report(message) {
             self.keep(report);
@@ -315,9 +329,12 @@ impl Vessel {
         requires numbers { IsNumbers numbers.now }
         requires kept { IsKept keeping numbers.now.gap self.old }
         requires message { IsMessage message.now }
-        ensures entry { IfOk result (λ entry. entry ≡ entry_at numbers.now (last_or None self.old.points)
+        ensures entry { IfOk result
+            (λ entry. entry ≡ entry_at numbers.now (last_or None self.old.points)
             (reported_in (record { message = message.now; time = time }))) }
-        ensures ok { OnOk result (self.new ≡ vessel_after keeping numbers.now self.old (record { message = message.now; time = time })) }
+        ensures ok { OnOk result
+            (self.new ≡ vessel_after keeping numbers.now self.old
+            (record { message = message.now; time = time })) }
         ensures err { OnErr result (self.new ≡ self.old) }
         ensures kept { IsKept keeping numbers.now.gap self.new }
     {

@@ -4,7 +4,7 @@ use Rattle.std.specs.Option.{option_and_then}
 use Rattle.aivdm.specs.FragmentJoining.{Taken, is_run, joined_bits, last_of, number_of_part, total_of}
 use Rattle.aivdm.specs.declared.joiner.Begun.{Begun}
 
--- of the sentences of a key, the run that the last one ends, where that run is no whole message
+-- of the sentences of a key, the run that the last one ends, if that run is no whole message
 abbrev pub open_behind : List Taken → Taken → Option (List Taken)
 open_behind parts last =
     if is_run (last_of (number_of_part last) parts) && nat_lt (number_of_part last) (total_of last)
@@ -20,7 +20,8 @@ Keeps run (first ∷ others) =
     (run.count ≡ length (first ∷ others)) × (run.total ≡ total_of first) × (run.since ≡ first.time)
     × (run.bits ≡ joined_bits (first ∷ others))
 
--- Of a key whose last sentence ends such a run the joiner keeps its parts; of each other it keeps none.
+-- If the last sentence of a key ends such a run, the joiner keeps its parts; for any other key it keeps
+-- none.
 abbrev pub KeepsOpen : Option Begun → Option (List Taken) → Type 0
 KeepsOpen None None = Unit {0}
 KeepsOpen None (Some parts) = ⊥

@@ -36,7 +36,7 @@ time_of digits =
     if nat_le 1 (length digits) && nat_le (length digits) 15 && all_ascii_digits digits
     then Ok (Some (seconds_of (digits_value 10 digits))) else Err Tag
 
--- the time that a field tells, or none
+-- the time in a field, or none
 unfoldable pub time_in : List ℕ → Result (Option ℕ) LineCause
 time_in [] = Err Tag
 time_in (a ∷ []) = Ok None
@@ -47,7 +47,7 @@ abbrev pub first_time : Option ℕ → Option ℕ → Option ℕ
 first_time None time = time
 first_time (Some stamp) time = Some stamp
 
--- the stamp in the fields that are left, after what those before them told
+-- the stamp in the fields that are left, after the time of those before them
 abbrev pub stamp_among : Option ℕ → List (List ℕ) → Result (Option ℕ) LineCause
 stamp_among stamp [] = Ok stamp
 stamp_among stamp (field ∷ fields) = time_in field >>= λ time. stamp_among (first_time stamp time) fields
@@ -58,13 +58,13 @@ stamp_in content =
     if list_all (λ byte. not (byte == 92)) content
     then stamp_among None (slice_split (λ byte. byte == 44) content) else Err Tag
 
--- the sum that is told behind the `*`, and the bytes after the second backslash
+-- the checksum after the `*`, and the bytes after the second backslash
 unfoldable pub block_end : List ℕ → Result (ℕ × List ℕ) LineCause
 block_end (high ∷ low ∷ slash ∷ rest) =
     if slash == 92 then (told_or Tag (hexadecimal high low) >>= λ told. Ok (told, rest)) else Err Tag
 block_end _ = Err Tag
 
--- behind the first backslash
+-- after the first backslash
 unfoldable pub block_at : List ℕ → Result (Option ℕ × List ℕ) LineCause
 block_at bytes =
     block_end (after_byte 42 bytes) >>= λ end.
@@ -115,25 +115,25 @@ digit_at bytes = optional_at is_ascii_digit (λ byte. byte - 48) bytes
 unfoldable pub letter_at : List ℕ → Result (Option ℕ × List ℕ) LineCause
 letter_at bytes = optional_at is_ascii_alphanumeric (λ byte. byte) bytes
 
--- whether the bytes behind the sum are a suffix
+-- whether the bytes after the sum are a suffix
 abbrev pub is_suffix : List ℕ → Bool
 is_suffix [] = true
 is_suffix (byte ∷ bytes) = (byte == 44) || (byte == 32) || (byte == 9)
 
--- what stands behind the payload's comma: the fill, the sum that is told, and the suffix
+-- what follows the payload's comma: the fill, the checksum, and the suffix
 unfoldable pub end_at : List ℕ → Result (ℕ × ℕ × List ℕ) LineCause
 end_at (fill ∷ star ∷ high ∷ low ∷ suffix) =
     if nat_le 48 fill && nat_le fill 53 && (star == 42) && is_suffix suffix
     then (told_or Form (hexadecimal high low) >>= λ told. Ok (fill - 48, told, suffix)) else Err Form
 end_at _ = Err Form
 
--- a sentence's fields, the sum that it tells, and what follows it
+-- a sentence's fields, its checksum, and what follows it
 pub record Cut : Type 0 where
   pub fields : SentenceFields
   pub told : ℕ
   pub suffix : List ℕ
 
--- the fields behind the address, one after another
+-- the fields after the address, one after another
 abbrev pub with_end : ℕ × ℕ × List ℕ → Option ℕ → Option ℕ → List ℕ → ℕ × ℕ × List ℕ → Result Cut LineCause
 with_end count seq channel payload end =
     if length payload == 0 then Err Form
@@ -159,13 +159,13 @@ cut_at bytes = count_at bytes >>= with_count
 abbrev pub summed_in : List ℕ → ℕ → List ℕ
 summed_in bytes suffix = take (length bytes - suffix - 3 - 1) (drop 1 bytes)
 
--- the tests behind the form
+-- the tests after the form
 abbrev pub tested : List ℕ → Cut → Result SentenceFields LineCause
 tested bytes cut =
     if cut.told == sum_of (summed_in bytes (length cut.suffix))
     then (if list_all is_armour cut.fields.payload then Ok cut.fields else Err Armour)
     else Err Sum
 
--- the sentence behind the tag block
+-- the sentence after the tag block
 unfoldable pub sentence_at : List ℕ → Result SentenceFields LineCause
 sentence_at bytes = address_at bytes >>= λ rest. (cut_at rest >>= tested bytes)

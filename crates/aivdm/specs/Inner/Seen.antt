@@ -18,7 +18,7 @@ abbrev pub end_seen : Result (ℕ × Bor (List ℕ)) LineCause → Result (ℕ �
 end_seen (Ok end) = Ok (end.0, (end.1).now)
 end_seen (Err cause) = Err cause
 
--- the fields behind the first comma, if there is one
+-- the fields after the first comma, if there is one
 abbrev pub parts_left : Option (Bor (List ℕ)) → List (List ℕ)
 parts_left None = []
 parts_left (Some fields) = slice_split (λ byte. byte == 44) fields.now

@@ -6,13 +6,13 @@ use Rattle.aivdm.specs.BitFields.{binary}
 abbrev pub bits_in : List ℕ → List Bool
 bits_in sextets = flat_map (binary 6) sextets
 
--- the numbers have six bits each, and are as many as so many bits need
+-- the numbers have six bits each, and are as many as this many bits need
 pub record AreSextets (sextets : List ℕ) (len : ℕ) : Type 0 where
   pub enough : len ≤ 6 * length sextets
   pub needed : 6 * length sextets < len + 6
   pub six : All (λ sextet. sextet < 64) sextets
 
--- the lowest bits of a number, six to an element, so many elements, the highest first
+-- the lowest bits of a number, six to an element, this many elements, the highest first
 unfoldable pub sextets_of : ℕ → ℕ → List ℕ
 sextets_of zero n = []
 sextets_of (suc count) n = n / 2 ^ (6 * count) % 64 ∷ sextets_of count n

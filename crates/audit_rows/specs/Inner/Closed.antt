@@ -7,7 +7,7 @@ use Rattle.audit_rows.specs.Order.{InOrder, last_step_of}
 use Rattle.audit_rows.specs.Rows.{IsRowOf}
 use Rattle.audit_rows.specs.Tracks.{Track, longer, next_step}
 
--- A row of the track behind which a mark stands already.
+-- A row of the track after which a mark stands already.
 abbrev pub IsClosedOf : Track → Row → Type 0
 IsClosedOf track row = IsRowOf track row × (last_step_of row + 1 < next_step track)
 

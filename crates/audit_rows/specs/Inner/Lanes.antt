@@ -35,7 +35,7 @@ pub record IsLatest (track : Track) (stretch : Stretch) : Type 0 where
   pub last : stretch.last + 1 ≡ next_step track
   pub ends : EndsIn track.marks from stretch.mark
 
--- the stretch that goes on, as it is if the next mark, for this step, ends it
+-- the open stretch, as it is if the next mark, for this step, ends it
 abbrev pub ended : Opened → ℕ → Stretch
 ended opened step = record { first = opened.first; last = step - 1; mark = opened.mark }
 
@@ -67,11 +67,11 @@ pub record Stands (lane : Lane) (track : Track) : Type 0 where
 abbrev pub no_counts : MarkCounts
 no_counts = record { all = 0; nothing = 0; broken = 0; undecided = 0; runs = 0 }
 
--- a number as a count tells it: it stands still at its type's end
+-- a number as a count holds it: it saturates at its type's end
 abbrev pub told : ℕ → ℕ
 told n = min n (2 ^ 32 - 1)
 
--- with a stretch of so many marks more, all of this mark's sort
+-- with a stretch of this many marks more, all of this mark's sort
 abbrev pub with_more : MarkCounts → Mark → ℕ → MarkCounts
 with_more counts Nothing many = record counts { all = told (counts.all + many); nothing = told (counts.nothing + many) }
 with_more counts Broken many = record counts { all = told (counts.all + many); broken = told (counts.broken + many); runs = told (counts.runs + 1) }
@@ -94,6 +94,6 @@ row_of_mark (topic.Verdict pair rule) Broken first last = Some (row.Verdict pair
 row_of_mark (topic.Verdict pair rule) Undecided first last = Some (row.Verdict pair rule true first last)
 row_of_mark (topic.Verdict pair rule) (Engaged kind least) first last = None
 
--- the row of a stretch of a topic, if rows tell of it
+-- the row of a stretch of a topic, if rows report it
 abbrev pub row_of : Topic → Stretch → Option Row
 row_of about stretch = row_of_mark about stretch.mark stretch.first stretch.last

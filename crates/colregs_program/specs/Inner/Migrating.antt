@@ -28,7 +28,7 @@ IsRefusal key cause text = (length text ≤ greatest_scenario) × IsNotMigrated 
 abbrev pub MayBe : List ℕ → Type 0
 MayBe text = (length text ≤ greatest_scenario) × CanMigrate text
 
--- The answer that the bytes under the name call for, where they are to be migrated: nothing lies there, or too much; or it is told why they are
+-- The answer that the bytes under the name call for, where they are to be migrated: nothing lies there, or too much; or the cause for which they are
 -- not migrated, or they can be.
 abbrev pub IsMigrationDue : List ℕ → Option Files → Status → Type 0
 IsMigrationDue name files answer =

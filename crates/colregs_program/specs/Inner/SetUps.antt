@@ -77,7 +77,7 @@ abbrev pub rows_had : Result (Vec ℕ Global) SetUpFault → Result (List ℕ) S
 rows_had (Ok rows) = Ok rows.items
 rows_had (Err why) = Err why
 
--- what the bytes under the request's name call for, where the shelf tells them
+-- what the bytes under the request's name call for, if they are known
 abbrev pub IsScenarioDue : ReportRequest → Option Files → Result Scenario SetUpFault → Type 0
 IsScenarioDue request files (Ok scenario) = HasScenario files request scenario
 IsScenarioDue request files (Err fault.NotHad) = IsMissing files request.name
@@ -111,7 +111,7 @@ abbrev pub precedes_rows : SetUpFault → Bool
 precedes_rows fault.LongRows = false
 precedes_rows _ = true
 
--- Once for the scenario, and once more where rows are needed; only once where it ended with a fault that may come before.
+-- Once for the scenario, and again if rows are needed; only once if it ended with a fault that may come before.
 abbrev pub HaveFetchedBy : Bool → ℕ → ℕ → Result SetUp SetUpFault → Type 0
 HaveFetchedBy false before now came = now ≡ one_more before
 HaveFetchedBy true before now (Ok made) = now ≡ one_more (one_more before)

@@ -50,7 +50,7 @@ pub record HasWritten (session : Session) (left left' contents contents' : Optio
   pub taken : Consumes left left' fed
   pub gained : Appends contents contents' given
 
--- What was fed and written before, and what was taken of the log since, are told by all that was before.
+-- All that was before determines what was fed and written, and what was taken of the log since.
 abbrev pub FromHere : Session → List ℕ → Option (List ℕ) → (Option (List ℕ) → Option (List ℕ) → Option (List ℕ) → Type 0) → Type 0
 FromHere session piece now P =
     (first left left' contents : Option (List ℕ)) → HasWritten session first left contents now → Consumes left left' piece → P first left' contents

@@ -1,7 +1,7 @@
 -- How the matches are read, one value after the other.
 use Rattle.std.specs.Prelude.{◌≡◌, ◌≢◌, ◌⊎◌, ◌≤◌, ⊤, ℕ, true, codes, List, Option, Some, None, Result, Ok, Err, is_some}
 use Rattle.clap.specs.Words.{Row, Text, first_of}
-use Rattle.command_line.specs.CommandLine.{Setting, default_of, kind_of, label, mode_text}
+use Rattle.command_line.specs.CommandLine.{CommandOption, default_of, kind_of, label, mode_text}
 use Rattle.command_line.specs.GivenArguments.{HoldsValue, IsNumber, IsTaken, said, value_of}
 use Rattle.command_line.specs.declared.mode.ModeArgument.{ModeArgument}
 use Rattle.command_line.specs.declared.arguments.Options.{Options}
@@ -20,17 +20,17 @@ GivesNumber rows name low high (Err Memory) = ⊥
 
 -- the matches hold a text that the option does not take: `clap` lets none through
 abbrev pub HoldsNoValue : List Row → Type 0
-HoldsNoValue rows = (s : Setting) × (text : Text) × (first_of (label s) rows ≡ Some text) × (IsTaken (kind_of s) text → ⊥)
+HoldsNoValue rows = (s : CommandOption) × (text : Text) × (first_of (label s) rows ≡ Some text) × (IsTaken (kind_of s) text → ⊥)
 
 -- the matches say no value of an option that has a default: `clap` puts the default there
 abbrev pub LacksDefault : List Row → Type 0
-LacksDefault rows = (s : Setting) × (said (kind_of s) (first_of (label s) rows) ≡ None) × (is_some (default_of (kind_of s)) ≡ true)
+LacksDefault rows = (s : CommandOption) × (said (kind_of s) (first_of (label s) rows) ≡ None) × (is_some (default_of (kind_of s)) ≡ true)
 
 abbrev pub HoldsNoOptions : List Row → Type 0
 HoldsNoOptions rows = LacksDefault rows ⊎ HoldsNoValue rows
 
 abbrev pub GivesOptions : List Row → Result Options WordsFault → Type 0
-GivesOptions rows (Ok options) = (s : Setting) → HoldsValue rows s (value_of s options)
+GivesOptions rows (Ok options) = (s : CommandOption) → HoldsValue rows s (value_of s options)
 GivesOptions rows (Err Usage) = HoldsNoOptions rows
 GivesOptions rows (Err Memory) = ⊤
 

@@ -7,7 +7,7 @@ use Rattle.drill_log.specs.Inner.VesselFigures.{report_by}
 use Rattle.drill_log.specs.declared.minute_log.MinuteLog.{MinuteLog}
 use Rattle.drill_log.specs.declared.vessel.Vessel.{Vessel}
 
--- the lines of these vessels' reports so many minutes after a time
+-- the lines of these vessels' reports this many minutes after a time
 abbrev pub lines_at : Place → ℕ → List Vessel → ℕ → List ℕ
 lines_at reference start vessels minutes = flat_map (λ vessel. report_line (record { time = start + 60 * minutes; report = report_by vessel reference minutes })) vessels
 

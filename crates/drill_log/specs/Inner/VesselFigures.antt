@@ -18,7 +18,7 @@ vessel_of seed vessel = record {
   course = bearing_of (way_of seed vessel);
 }
 
--- her report after so many minutes
+-- her report after this many minutes
 unfoldable pub report_by : Vessel → Place → ℕ → PositionReport
 report_by vessel reference minutes = record {
   kind = 1;

@@ -28,7 +28,7 @@ fed_rows s = fed_of s.state
 abbrev pub left_to_look : PassState → ℕ
 left_to_look s = (s.reach + 1) - s.place
 
--- It has looked at all places.
+-- It has checked all places.
 abbrev pub HasLookedAll : PassState → Type 0
 HasLookedAll s = s.place ≡ s.reach + 1
 
@@ -43,7 +43,7 @@ pub record IsAt (p : Program) (s : PassState) (t : FormulaTree) (rows : Trace) :
 
 -- ---- after a row
 
--- It has looked at the places before its own. What it has noted of those is by all rows, and of the others by the rows before the last.
+-- It has checked the places before its own. What it has noted of those is by all rows, and of the others by the rows before the last.
 pub record IsLooking (p : Program) (s : PassState) (t : FormulaTree) (before : Trace) (row : Atom → Verdict) : Type 0 where
   pub follows : Follows p s.state (t ∷ []) (before ++ row ∷ [])
   pub reach : s.reach ≡ reach_of t

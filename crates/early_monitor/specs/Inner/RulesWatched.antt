@@ -72,7 +72,7 @@ StandsForRule None state t rows = Unit {0}
 StandsForRule (Some early) None t rows = ⊥
 StandsForRule (Some early) (Some state) t rows = IsAt early.program state t rows
 
--- Of a trace of which no row was fed each rule keeps this.
+-- Each rule keeps this of a trace before its first row.
 pub record AreBegun (w : WatchedRules) (states : List (Option EarlyState)) : Type 0 where
   pub as_many : length states ≡ length w.early.items
   pub fits : (k : ℕ) → k < length w.early.items → FitsRule 0 (early_at w k) (get_or states k None)

@@ -1,20 +1,17 @@
--- What is kept of all traces of a watch, and what a step of each comes to.
-use Rattle.std.specs.Prelude.{ℕ, ◌≤◌, ◌↔◌, List}
+-- What is kept of all traces of a watch, and the alarms that a step of each comes to.
+use Rattle.std.specs.Prelude.{ℕ, ◌≤◌, ◌↔◌, List, ◌++◌}
 use Rattle.std.specs.List.{AllZip, Contains}
-use Rattle.traces.specs.Audited.{AuditNumbers, SeenVessels, Sighting}
-use Rattle.traces.specs.Known.{IsFollowed, Known}
-use Rattle.traces.specs.Standing as traces
-use Rattle.traces.specs.declared.all_traces.AllTraces.{AllTraces}
+use Rattle.mtl_monitor.specs.Following.{count_of}
+use Rattle.traces.specs.Audited.{AuditNumbers}
+use Rattle.traces.specs.Keeping.{Keeper}
+use Rattle.traces.specs.Known.{Known}
 use Rattle.early_monitor.specs.declared.alarm.Alarm.{Alarm}
+use Rattle.early_monitor.specs.declared.watch_keeper.WatchKeeper.{WatchKeeper}
 use Rattle.early_monitor.specs.declared.watched_rules.WatchedRules.{WatchedRules}
 use Rattle.early_monitor.specs.declared.watched_trace.WatchedTrace.{WatchedTrace}
 use Rattle.early_monitor.specs.Inner.Breaches.{IsBreachOf}
-use Rattle.early_monitor.specs.Inner.TraceWatched.{IsReady, StandsFor, steps_of}
-
--- A trace goes on, and has no more than so many steps.
-pub record IsReadyFor (w : WatchedRules) (most : ℕ) (one : WatchedTrace) : Type 0 where
-  pub ready : IsReady w one
-  pub few : steps_of one ≤ most
+use Rattle.early_monitor.specs.Inner.RulesWatched.{AreWatched}
+use Rattle.early_monitor.specs.Inner.TraceWatched as trace
 
 -- One of the traces is so broken, as the step with this number decides.
 pub record IsBreachAmong (numbers : AuditNumbers) (step : ℕ) (knowns : List Known) (alarm : Alarm) : Type 0 where
@@ -22,11 +19,19 @@ pub record IsBreachAmong (numbers : AuditNumbers) (step : ℕ) (knowns : List Kn
   pub among : Contains knowns known
   pub breach : IsBreachOf numbers step known alarm
 
--- All of them have taken their step to the tick at which these vessels are seen, and the alarms are those that these steps decide.
-pub record AreStepped (w : WatchedRules) (numbers : AuditNumbers) (ticks : List Sighting) (seen : SeenVessels) (step : ℕ) (kept : AllTraces) (values : List WatchedTrace)
-    (knowns : List Known) (alarms : List Alarm) : Type 0 where
-  pub after : List Known
-  pub followed : AllZip (IsFollowed numbers ticks seen) knowns after
-  pub stands : traces.StandsFor kept numbers ticks after
-  pub stand : AllZip (StandsFor w numbers) values after
-  pub alarms_are : (alarm : Alarm) → Contains alarms alarm ↔ IsBreachAmong numbers step after alarm
+-- What is kept of each trace stands for it, and the alarms are those that the step of the first traces decides: the others have not
+-- taken it.
+pub record AreFound (w : WatchedRules) (alarms : List Alarm) (numbers : AuditNumbers) (step : ℕ) (values : List WatchedTrace) (done rest : List Known) (given : Unit {0}) : Type 0 where
+  pub rules : AreWatched w numbers.rules
+  pub stand : AllZip (trace.StandsFor w numbers) values (done ++ rest)
+  pub alarms_are : (alarm : Alarm) → Contains alarms alarm ↔ IsBreachAmong numbers step done alarm
+
+-- A trace that ends brings no alarm.
+abbrev pub watch_keeper : WatchKeeper → Keeper WatchedTrace (Unit {0})
+watch_keeper keeper = record {
+  Sound = count_of keeper.rules.program ≤ 17;
+  Ready = trace.IsReady keeper.rules;
+  steps = trace.steps_of;
+  Stands = AreFound keeper.rules keeper.alarms.keys;
+  Ends = λ numbers step values ended rest given. Unit {0};
+}

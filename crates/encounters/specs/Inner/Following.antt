@@ -1,4 +1,4 @@
--- What follows a state where the next step is seen.
+-- What follows a state if the next step is seen.
 use Rattle.std.specs.Prelude.{◌≡◌, ◌+◌, ◌-◌, ◌^◌, ◌⊎◌, min}
 use Rattle.encounters.specs.Engagement.{class_at}
 use Rattle.encounters.specs.Risk.{HasRisk, IsPastClear}
@@ -7,7 +7,7 @@ use Rattle.encounters.specs.declared.pair_step.PairStep.{PairStep}
 use Rattle.encounters.specs.declared.engagement_state.EngagementState.{EngagementState}
 use Rattle.encounters.specs.declared.engagement_state.EngagementState.TheVariants.{Apart, Engaged}
 
--- An engagement begins where there is risk, and lasts until the vessels are past and clear.
+-- An engagement begins when there is risk, and lasts until the vessels are past and clear.
 abbrev pub Follows : Detect → EngagementState → PairStep → EngagementState → Type 0
 Follows detect Apart pair next =
     (HasRisk detect pair.step × next ≡ Engaged (class_at detect pair) 0 pair.a pair.b) ⊎ ((¬ HasRisk detect pair.step) × next ≡ Apart)

@@ -10,7 +10,7 @@ use Rattle.lattice.specs.declared.passage.Orders.{Orders}
 use Rattle.lattice.specs.declared.passage.Passage.{Passage}
 use Rattle.lattice.specs.declared.under_way.UnderWay.{UnderWay}
 
--- where a velocity leads in a tick of so many seconds
+-- where a velocity leads in a tick of this many seconds
 abbrev pub way_by : ℕ → Point → Point
 way_by tick velocity = record { x = pos tick *ℤ velocity.x; y = pos tick *ℤ velocity.y }
 

@@ -1,4 +1,4 @@
--- What is kept of the lines of a log, behind one line more.
+-- What is stored of the lines of a log, after one more line.
 use Rattle.std.specs.Prelude.{ℕ, ◌≡◌, ◌≤◌, Bool, length, List, [], ◌∷◌, ◌++◌, Option, Some, None, Result, Ok, Err}
 use Rattle.aivdm.specs.FragmentJoining.{Taken}
 use Rattle.aivdm.specs.OpenMessages.{StandsFor as JoinerStandsFor}
@@ -24,13 +24,13 @@ use Rattle.log_lines.specs.declared.line_times.LineTimes.{LineTimes}
 use Rattle.log_lines.specs.declared.outcome.LineOutcome.{LineOutcome}
 use Rattle.log_lines.specs.declared.outcome.LineOutcome.TheVariants as outcome
 
--- what a line comes to, where this report was accepted last
+-- the result of a line, if this report was accepted last
 abbrev pub judged_by : Came → Option Accepted → Judged
 judged_by (came.Without outcome) latest = judged.Without outcome
 judged_by came.Accepted (Some report) = judged.Accepted report
 judged_by came.Accepted None = judged.Without outcome.Point
 
--- the sentence that is heard on a line of this time, or what the line comes to without one
+-- the sentence that is heard on a line of this time, or the outcome of a line without one
 abbrev pub heard_by : LineTimes → ℕ → Result SentenceFields LineCause → Result Taken LineOutcome
 heard_by times time (Ok sentence) = heard_unless (untimely_by times time) time sentence
 heard_by times time (Err cause) = Err (line_outcome cause)
@@ -40,24 +40,24 @@ abbrev pub listed : {A : Type 0} → Result A LineOutcome → List A
 listed (Ok value) = value ∷ []
 listed (Err came) = []
 
--- how many vessels are held with a message more, if there is one
+-- how many vessels are held after one more message, if there is one
 abbrev pub held_with : JudgingNumbers → List Sent → Result Sent LineOutcome → ℕ
 held_with numbers before next = length (held_of numbers (before ++ listed next))
 
--- What is kept of these messages: the book stands for them and holds no more vessels than it can, and the ship types are noted where
+-- What is stored of these messages: the book stands for them and holds no more vessels than it can, and ship types are noted if
 -- ranks count.
 pub record Keeps (kept : BookValue) (types : Option (List (ℕ × List Change))) (numbers : JudgingNumbers) (ranked : Bool) (messages : List Sent) : Type 0 where
   pub book : BookStandsFor kept numbers messages
   pub few : length (held_of numbers messages) ≤ greatest_held
   pub notes : AreNoted ranked types messages
 
--- Behind a message, or a line without one, the longer list is kept, and the static report, and the line came to this.
+-- After a message, or a line without one, the longer list and the static report are stored, and this is the result of the line.
 pub record Enters (numbers : JudgingNumbers) (ranked : Bool) (judge : Judge) (came : Judged) (before : List Sent) (next : Result Sent LineOutcome) : Type 0 where
   pub is : came ≡ judged_sent numbers before next
   pub told : judge.told ≡ told_sent next
   pub keeps : Keeps judge.book judge.ranks numbers ranked (before ++ listed next)
 
--- Behind a line on which this was heard, the joiner stands for the longer list, and its message has entered.
+-- After a line on which this was heard, the joiner stands for the longer list, and its message has entered.
 pub record GoesOn (numbers : JudgingNumbers) (ranked : Bool) (judge : Judge) (came : Judged) (taken : List Taken) (messages : List Sent) (heard : Result Taken LineOutcome) : Type 0 where
   pub joiner : JoinerStandsFor judge.joiner (taken ++ listed heard)
   pub enters : Enters numbers ranked judge came messages (sent_heard taken heard)

@@ -4,7 +4,7 @@ use Rattle.log_lines.specs.GrowingLog.{open_part}
 use Rattle.log_lines.specs.Standing.{OpenLineStandsFor}
 use Rattle.log_lines.specs.declared.open_line.OpenLine.{OpenLine}
 
--- What was open behind a log has gone on with a part; or nothing was, and the part stands alone.
+-- The line that was open after a log continues with a part; or none was open: the part is alone.
 pub record HasExtended (line : OpenLine) (log part : List ℕ) : Type 0 where
   pub stood : List ℕ
   pub stands : OpenLineStandsFor line stood

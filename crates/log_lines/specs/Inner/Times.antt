@@ -1,4 +1,4 @@
--- What is kept of the times of the lines so far.
+-- What is stored of the times of the lines so far.
 use Rattle.std.specs.Prelude.{ℕ, ◌≡◌, ◌<◌, ◌^◌, Bool, ◌&&◌, nat_le, max, List, Option, Some, None, if◌then◌else◌}
 use Rattle.std.specs.List.{last_or}
 use Rattle.log_lines.specs.LineTimes.{clock_of, is_in_window, is_late, stamps_of}
@@ -8,7 +8,7 @@ use Rattle.log_lines.specs.declared.line_times.LineTimes.{LineTimes}
 use Rattle.log_lines.specs.declared.line_times.LineWindow.{LineWindow}
 use Rattle.scenario_values.specs.declared.values.Scenario.{Scenario}
 
--- The time is not before the first of the window of lines, nor behind the last.
+-- The time is neither before the first nor after the last time of the window of lines.
 abbrev pub is_between : LineWindow → ℕ → Bool
 is_between window time = nat_le window.first time && nat_le time window.last
 
@@ -20,16 +20,16 @@ pub record KeepsTimes (times : LineTimes) (scenario : Scenario) (lines : List (L
   pub nearest : times.nearest ≡ last_or None (stamps_of lines)
   pub clock : times.clock ≡ clock_of scenario lines
 
--- the clock, behind a stamp that lies in the window of lines
+-- the clock after a stamp that is in the window of lines
 abbrev pub at_least : ℕ → Option ℕ → ℕ
 at_least stamp None = stamp
 at_least stamp (Some clock) = max stamp clock
 
--- the clock behind one stamp more, which lies in the window of lines or not
+-- the clock after one more stamp, which may be in the window of lines or not
 abbrev pub clock_behind : Bool → Option ℕ → ℕ → Option ℕ
 clock_behind within clock stamp = if within then Some (at_least stamp clock) else clock
 
--- what is kept, behind a line with this stamp, or none
+-- what is stored after a line with this stamp, or with none
 abbrev pub times_behind : LineTimes → Option ℕ → LineTimes
 times_behind times None = times
 times_behind times (Some stamp) = record times {

@@ -4,7 +4,7 @@ use Rattle.encounters.specs.declared.engagement_state.EngagementState.{Engagemen
 use Rattle.encounters.specs.declared.engagement_state.EngagementState.TheVariants.{Apart, Engaged}
 use Rattle.meetings.specs.declared.by_rank.ByRank.{ByRank}
 
--- What was said before stays, but where an engagement begins.
+-- What was said before stays, unless an engagement begins.
 abbrev pub since_beginning : EngagementState → ByRank → ByRank → ByRank
 since_beginning Apart before now = before
 since_beginning (Engaged kind zero a b) before now = now

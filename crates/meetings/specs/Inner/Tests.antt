@@ -29,7 +29,7 @@ is_opening step = int_le (pos 0) (dot_of step.p step.w)
 abbrev pub is_close : ℕ → RelativeMove → Bool
 is_close r step = int_lt (norm2_of step.p) (pos (r * r))
 
--- Open where the direction or the bearing is absent
+-- Open if the direction or the bearing is absent
 abbrev pub on_port_by : Option ℕ → Option ℕ → Verdict
 on_port_by None bearing = Open
 on_port_by (Some direction) None = Open
@@ -38,12 +38,12 @@ on_port_by (Some direction) (Some bearing) = told (lies_to_port direction bearin
 abbrev pub on_port : Option ℕ → RelativeMove → Verdict
 on_port direction step = on_port_by direction (bearing_of step.p)
 
--- Open where the direction is absent
+-- Open if the direction is absent
 abbrev pub ahead : Option ℕ → RelativeMove → Verdict
 ahead None step = Open
 ahead (Some direction) step = told (crosses_ahead direction step)
 
--- Open where the step is not seen
+-- Open if the step is not seen
 abbrev pub seen_as : (RelativeMove → Verdict) → Option RelativeMove → Verdict
 seen_as f None = Open
 seen_as f (Some step) = f step

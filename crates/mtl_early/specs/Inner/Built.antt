@@ -24,7 +24,7 @@ pub record IsBuilt (b : Building) (formulas trees : List FormulaTree) : Type 0 w
   pub size : length trees ≡ length b.nodes.items
   pub computes : AllCompute formulas trees b.nodes.items
 
--- The nodes compute trees of which the first are these and the last is one more.
+-- The nodes compute these trees, and one more after them.
 pub record Grown (b : Building) (trees : List FormulaTree) (t : FormulaTree) : Type 0 where
   pub formulas : List FormulaTree
   pub grown : List FormulaTree
@@ -32,7 +32,7 @@ pub record Grown (b : Building) (trees : List FormulaTree) (t : FormulaTree) : T
   pub same : (k : ℕ) → k < length trees → tree_at grown k ≡ tree_at trees k
   pub last : tree_at grown (last_of b) ≡ t
 
--- Nodes were added, of which the last computes the formula.
+-- Nodes were added, and the last of them computes the formula.
 pub record Adds (old new : Building) (t : FormulaTree) : Type 0 where
   pub longer : length old.nodes.items < length new.nodes.items
   pub few : length new.nodes.items ≤ length old.nodes.items + node_count t

@@ -29,7 +29,7 @@ Pushes (Ok _) pushed after = after ≡ pushed
 Pushes (Err faults.Memory) pushed after = Unit {0}
 Pushes (Err _) pushed after = ⊥
 
--- the trees after one more item: bounds are turned into positions; None where operands are missing
+-- the trees after one more item: bounds are turned into positions; None if operands are missing
 abbrev pub built : ℕ → PostfixItem → List FormulaTree → Option (List FormulaTree)
 built tick (postfix.Leaf a) σ = Some (leaf a ∷ σ)
 built tick postfix.Not (t ∷ σ) = Some (negation t ∷ σ)

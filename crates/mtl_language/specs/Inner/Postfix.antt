@@ -34,7 +34,7 @@ bounded_item (bounded.Link kind) l u = postfix.Link kind l u
 abbrev pub formula_and : List Expected → List Expected
 formula_and σ = expected.Operand ∷ expected.LinkRest ∷ expected.AndRest ∷ expected.OrRest ∷ expected.ImpliesRest ∷ σ
 
--- what replaces a thing expected, once this token has come; None where the token does not begin it
+-- what replaces a thing expected, once this token has come; None if the token does not begin it
 abbrev pub replacement : Expected → Token → Option (List Expected)
 replacement expected.Operand (tokens.Atom a) = Some (expected.Write (postfix.Leaf a) ∷ [])
 replacement expected.Operand (tokens.Measure m) = Some (expected.OpenNumber m ∷ [])
@@ -80,7 +80,7 @@ Replaces true (Some new) before after = after ≡ before ++ reverse new
 Replaces false None before after = after ≡ before
 Replaces _ _ before after = ⊥
 
--- what is written where a thing expected is left out; None where it may not be
+-- what is written if a thing expected is left out; None if it may not be
 abbrev pub left_out : Expected → Option (List PostfixItem)
 left_out (expected.Write item) = Some (item ∷ [])
 left_out expected.LinkRest = Some []
@@ -107,7 +107,7 @@ taken_or_left (Some new) w σ rest = Some (new ++ σ, [])
 taken_or_left None (Some w) σ rest = written_before w rest
 taken_or_left None None σ rest = None
 
--- After a token: things expected are left out until one takes it. None where the token is wrong.
+-- After a token: things expected are left out until one takes it. None if the token is wrong.
 abbrev pub taken : Token → List Expected → Option After
 taken token [] = None
 taken token (e ∷ σ) = taken_or_left (replacement e token) (left_out e) σ (taken token σ)
@@ -122,7 +122,7 @@ left_with None rest = None
 left_with (Some w) None = None
 left_with (Some w) (Some c) = Some (w ++ c)
 
--- what is written where all that is expected is left out; None where it may not be
+-- what is written if all that is expected is left out; None if it may not be
 abbrev pub all_left_out : List Expected → Option (List PostfixItem)
 all_left_out [] = Some []
 all_left_out (e ∷ σ) = left_with (left_out e) (all_left_out σ)
@@ -139,7 +139,7 @@ abbrev pub read_on : ℕ → Option After → (List Expected → Result (List Po
 read_on index None rest = Err index
 read_on index (Some a) rest = read_before a.1 (rest a.0)
 
--- The postfix form for the tokens, or the index of the first wrong one; end where they do not end as they should.
+-- The postfix form for the tokens, or the index of the first wrong one; end if they do not end as they should.
 abbrev pub read : ℕ → List Expected → List IndexedToken → Result (List PostfixItem) ℕ
 read end σ [] = or_fault end (all_left_out σ)
 read end σ (p ∷ ps) = read_on p.index (taken p.token σ) (λ next. read end next ps)

@@ -103,7 +103,7 @@ since_after late l width b x = since_over late l width x.operand.index (delayed_
 abbrev pub since_of : List ProgramNode → ℕ → ℕ → Operand → Operand → Compiled
 since_of nodes l u a b = since_after (max a.late b.late) l ((u - l) + 1) b (delayed_of nodes a (max a.late b.late - a.late))
 
--- the first operand once more, later by the window's width, where there are positions before the window
+-- the first operand again, later by the window's width, if there are positions before the window
 abbrev pub before_window : ℕ → ℕ → Operand → List ProgramNode → Compiled
 before_window l width a nodes = delayed_of nodes a (if l == 0 then 0 else width)
 

@@ -82,7 +82,7 @@ IsUntold-prop glance (op.Until from full lower a behind b) = hlevel
 pub AreReadable-prop : (glance : Glance) (nodes : List ProgramNode) (n : ℕ) (atoms : List AtomNode) → IsProp (AreReadable glance nodes n atoms)
 AreReadable-prop glance nodes n atoms = hlevel (le_prop, IsValidAtom-prop, IsUntold-prop)
 
--- The value of a node's atom is what the glance tells of it.
+-- The value of a node's atom is what the glance gives.
 abbrev pub IsKnown : Glance → Operator → Verdict → Type 0
 IsKnown glance (op.Atom a) v = IfSome (told_by glance a) (λ told. v ≡ told)
 IsKnown glance _ v = Unit {0}
@@ -90,7 +90,7 @@ IsKnown glance _ v = Unit {0}
 abbrev pub AreKnown : Glance → List ProgramNode → List Verdict → Type 0
 AreKnown glance nodes values = (k : ℕ) → k < length nodes → IsKnown glance (node_at nodes k).operator (value_at values k)
 
--- These of the atoms are to be read, after a row and at one of which a glance tells this: all, or those that it leaves open at both.
+-- These of the atoms are to be read, after a row and at one, if a glance gives this: all, or those that it leaves open at both.
 pub record AreToBeRead (nodes : List ProgramNode) (all asked : List AtomNode) (before now : Glance) (atoms : List AtomNode) : Type 0 where
   pub told : Glance
   pub of_both : (told ≡ Nothing) ⊎ ((told ≡ before) × (told ≡ now))

@@ -6,7 +6,7 @@ use Rattle.mtl_monitor.specs.declared.delay_line.Delayed.{Delayed}
 use Rattle.mtl_monitor.specs.declared.delay_line.Run.{Run}
 use Rattle.mtl_monitor.specs.Inner.Steps.{same_verdict}
 
--- The last values of the ring, so many as were counted, are the run's value.
+-- The last values of the ring, up to the number that was counted, are the run's value.
 pub record IsRun (b : Buffer Verdict) (r : Run) : Type 0 where
   pub fits : length b.items ≤ b.capacity
   pub within : r.count ≤ length b.items

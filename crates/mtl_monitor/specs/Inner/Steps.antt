@@ -18,7 +18,7 @@ use Rattle.mtl_monitor.specs.declared.node.Kept.{Kept}
 use Rattle.mtl_monitor.specs.declared.node.Kept.TheVariants as kinds
 use Rattle.mtl_monitor.specs.declared.lookahead.Lookahead.{Lookahead}
 use Rattle.mtl_monitor.specs.Inner.Lookahead.{lookahead_after, lookahead_value}
-use Rattle.mtl_monitor.specs.Inner.Countdown.{left_after, left_under, left_value}
+use Rattle.mtl_monitor.specs.WindowCounts.{left_after, left_under, left_value}
 
 -- the value of the node at a index
 abbrev pub value_at : List Verdict → ℕ → Verdict

@@ -13,8 +13,8 @@ IsWithin limit fetched.TooLong = Unit {0}
 IsWithin limit fetched.Failed = Unit {0}
 IsWithin limit fetched.Memory = Unit {0}
 
--- A source, read whole as what a fetch gives: all its bytes, within the limit; too long only where it is; and a failure
--- only where a read failed.
+-- A source, read whole as what a fetch gives: all its bytes, within the limit; too long only if it is; and a failure
+-- only if a read failed.
 abbrev pub FetchesAll : Option (List ℕ) → Option (List ℕ) → ℕ → ℕ → ℕ → Fetched → Type 0
 FetchesAll old new before now limit (fetched.Bytes v) =
     (length v.items ≤ limit) × Consumes old new v.items × IsAtEnd new × (now ≡ before)

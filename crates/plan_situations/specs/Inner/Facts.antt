@@ -41,7 +41,7 @@ pub record IsFresh (now : ℕ) (report : Accepted) : Type 0 where
   pub before : report.time ≤ now
   pub fresh : now ≤ report.time + 3600
 
--- the legs of a vessel, none where she is not held
+-- the legs of a vessel, none if she is not held
 abbrev pub legs_known : Option (List Leg) → List Leg
 legs_known None = []
 legs_known (Some legs) = legs
@@ -71,11 +71,11 @@ pub record IsKnownBelow (bound : ℕ) (state_at : ℕ → Option TickState) : Ty
   pub states : (k : ℕ) → k < bound → IfSome (state_at k) (IsTickState 7900640400)
   pub moves : (k : ℕ) → k + 1 < bound → IsShortMove (state_at k) (state_at (k + 1))
 
--- her state at a tick, by what a target tells of her at the ticks up to one and from then on
+-- her state at a tick, by what a target has for the ticks up to one and from then on
 abbrev pub told_at : ℕ → Target → ℕ → Option TickState
 told_at ticks target k = if nat_lt k ticks then sighting target.past k else slice_get target.ahead (k - ticks)
 
--- A target is one of a situation of so many ticks up to now and so many from then on.
+-- A target is one of a situation of this many ticks up to now and this many from then on.
 pub record IsTargetOver (ticks positions : ℕ) (target : Target) : Type 0 where
   pub until_now : length target.past ≡ ticks + 1
   pub from_now : length target.ahead ≡ positions + 1
@@ -90,7 +90,7 @@ pub record IsSetting (setting : Setting) : Type 0 where
   pub gap : setting.window.tick ≤ setting.book.now.numbers.gap
   pub stands : StandsForSome setting.book.now
 
--- The vessel's latest accepted report is the one that is told, and fresh.
+-- The vessel's latest accepted report is this one, and fresh.
 pub record IsNear (now : ℕ) (book : BookValue) (vessel : Near) : Type 0 where
   pub accepted : IsAccepted vessel.latest
   pub fresh : IsFresh now vessel.latest

@@ -14,7 +14,7 @@ pub record IsMotion (motion : Motion) : Type 0 where
   pub below : IfSome motion.direction (λ d. d < 3600)
   pub limited : IfSome motion.speed (λ v. v ≤ 1022)
 
--- a point after so many seconds of a velocity
+-- a point after this many seconds of a velocity
 abbrev pub gone_by : Point → ℕ → Point → Point
 gone_by velocity seconds point = record { x = point.x +ℤ pos seconds *ℤ velocity.x; y = point.y +ℤ pos seconds *ℤ velocity.y }
 

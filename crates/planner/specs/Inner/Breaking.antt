@@ -1,4 +1,4 @@
--- Positions that are newly broken, by how many rows have passed when a monitor tells their values.
+-- Positions that are newly broken, by how many rows have passed when a monitor gives their values.
 use Rattle.std.specs.Prelude.{ℕ, ◌≡◌, ◌≢◌, ◌+◌, ◌*◌, ◌<◌, ◌⊎◌, ◌↔◌, Bool, false, IsTrue, List, length, get_or, map}
 use Rattle.mtl_formulas.specs.FormulaTree.{FormulaTree}
 use Rattle.mtl_formulas.specs.FormulaMeasures.{reach_of}
@@ -19,24 +19,25 @@ abbrev pub HasPassed : Program → TraceState → List FormulaTree → Trace →
 HasPassed program values formulas rows passed =
     (Follows program values formulas rows × (passed ≡ length rows)) ⊎ (Closes program values formulas rows × (passed ≡ length rows + past_of values))
 
--- The value is No at the position that so many rows decide: the formula's reach before the last of them.
+-- The value is No at the position that this many rows decide: the formula's reach before the last of
+-- them.
 pub record IsBrokenAt (rows : Trace) (formula : FormulaTree) (passed : ℕ) : Type 0 where
   pub position : ℕ
   pub decided : position + 1 + reach_of formula ≡ passed
   pub broken : value_in rows formula position ≡ No
 
--- It is so for some formula, and was not where the trace is cut.
+-- Some formula is broken there, and was not when the trace is cut.
 pub record IsNewlyBrokenAt (formulas : List FormulaTree) (cut rows : Trace) (passed : ℕ) : Type 0 where
   pub rule : ℕ
   pub known : rule < length formulas
   pub at : IsBrokenAt rows (formula_at formulas rule) passed
   pub not_before : value_in cut (formula_at formulas rule) at.position ≢ No
 
--- what is kept of the cut trace for the row with this index behind it
+-- what is kept of the cut trace for the row with this index after it
 abbrev pub flag_at : Already → ℕ → ℕ → Bool
 flag_at already index rule = get_or already.flags.items (index * already.rules + rule) false
 
--- It tells what is broken where the trace is cut, at each position that a row behind the cut decides.
+-- It holds what is broken when the trace is cut, for each position that a row after the cut decides.
 pub record Tells (formulas : List FormulaTree) (cut : Trace) (already : Already) : Type 0 where
   pub width : already.rules ≡ length formulas
   pub each : (index rule position : ℕ) → rule < length formulas → position + reach_of (formula_at formulas rule) ≡ length cut + index

@@ -19,7 +19,7 @@ use Rattle.plan_situations.specs.declared.situation.Situation.{Situation}
 use Rattle.plan_situations.specs.declared.situation.Target.{Target}
 use Rattle.planner.specs.declared.watched.Watched.{Watched}
 
--- What is told of a target at now is told of the rows of her trace that is cut there.
+-- What is known of a target at now is what the rows of her trace that is cut there say.
 pub record IsToldAtNow (situation : Situation) (target : Target) (already : Already) : Type 0 where
   pub cut : Trace
   pub is_cut : IsCutAtNow situation target cut
@@ -61,7 +61,8 @@ StandsAt situation basis plan at watched = (k : ℕ) (t : Target) (a : Already) 
     → Tells (formulas_of situation) cut (get_or basis.already.items k a)
     → Stands basis.program situation plan (get_or situation.targets k t) cut at (get_or watched k w)
 
--- All targets were followed from a tick to another under a plan, and whether a rule is newly broken was told.
+-- All targets were followed from a tick to another under a plan, with the answer whether a rule is newly
+-- broken.
 pub record AreFollowed (situation : Situation) (basis : SearchBasis) (plan : List ℕ) (from to : ℕ) (old new : List Watched) (told : Bool) : Type 0 where
   pub stands : told ≡ false → StandsAt situation basis plan from old → StandsAt situation basis plan to new
   pub breaks : told ≡ true → StandsAt situation basis plan from old → Some_ (BreaksARule situation plan to) situation.targets
@@ -70,7 +71,8 @@ pub record AreFollowed (situation : Situation) (basis : SearchBasis) (plan : Lis
 abbrev pub StaysOut : Situation → List ℕ → ℕ → Type 0
 StaysOut situation plan at = ¬ Some_ (EntersDomain situation plan at) situation.targets
 
--- What a level keeps stands for the steps of so many legs of this number, in which she enters no domain.
+-- What a level keeps stands for the steps of this many legs of this number, in which she enters no
+-- domain.
 pub record IsAfter (situation : Situation) (basis : SearchBasis) (legs number : ℕ) (level : Level) : Type 0 where
   pub targets : HasTargets situation basis level.watched.items
   pub early : AreEarly (reached situation legs) level.watched.items

@@ -8,7 +8,7 @@ use Rattle.plan_situations.specs.declared.situation.Situation.{Situation}
 pub record AllFailFrom (situation : Situation) (from to : ℕ) : Type 0 where
   pub each : (number : ℕ) → from ≤ number → number < to → Fails situation (numbered situation number)
 
--- Of those plans it is the first that does not fail.
+-- It is the first of those plans that does not fail.
 pub record IsFirst (situation : Situation) (from to number : ℕ) : Type 0 where
   pub not_before : from ≤ number
   pub before : number < to

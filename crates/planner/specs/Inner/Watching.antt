@@ -15,13 +15,13 @@ use Rattle.plan_situations.specs.declared.situation.Target.{Target}
 use Rattle.planner.specs.declared.towards.Towards.{Towards}
 use Rattle.planner.specs.declared.watched.Watched.{Watched}
 
--- It goes on by this program, and has the places that it takes.
+-- It continues by this program, and has the places that it takes.
 pub record IsReady (program : Program) (watched : Watched) : Type 0 where
   pub fits : monitor.Fits program watched.values
   pub room : monitor.HasRoom program watched.values
   pub unended : monitor.past_of watched.values ≡ 0
 
--- It was fed at most so many rows.
+-- It was fed at most this many rows.
 pub record IsEarly (at : ℕ) (watched : Watched) : Type 0 where
   pub fed : monitor.fed_of watched.values ≤ at
   pub since : watched.since_now ≤ at
@@ -46,7 +46,7 @@ module _ (program : Program) (situation : Situation) (plan : List ℕ) (target :
     pub begun : watched.begun ≡ true → HasBegun at watched
     pub waits : watched.begun ≡ false → HasNotBegun at watched
 
--- Where a trace towards the target is cut at now, under any plan, it has these rows.
+-- If a trace towards the target is cut at now, under any plan, it has these rows.
 pub record IsCutAtNow (situation : Situation) (target : Target) (cut : Trace) : Type 0 where
   pub some : (plan : List ℕ) (at start : ℕ) (rows : Trace) → now_of situation ≤ at → BeginsAt situation plan at target start
       → AreTraceRows situation plan at target start rows → take (now_of situation - start) rows ≡ cut
@@ -57,7 +57,7 @@ abbrev pub IsUnbroken : Situation → List ℕ → Target → Trace → ℕ → 
 IsUnbroken situation plan target cut at = (start : ℕ) (rows : Trace) → BeginsAt situation plan at target start → AreTraceRows situation plan at target start rows
     → (passed : ℕ) → length cut < passed → passed ≤ length rows → ¬ IsNewlyBrokenAt (formulas_of situation) cut rows passed
 
--- What is kept stands for the steps up to a tick that is not before now, in which nothing was told as newly broken.
+-- What is kept stands for the steps up to a tick that is not before now, in which nothing was newly broken.
 pub record Stands (program : Program) (situation : Situation) (plan : List ℕ) (target : Target) (cut : Trace) (at : ℕ) (watched : Watched) : Type 0 where
   pub stands : StandsFor program situation plan target at watched
   pub counted : monitor.fed_of watched.values ≡ length cut + watched.since_now
@@ -71,8 +71,8 @@ pub record IsCopyOf (copy other : Watched) : Type 0 where
   pub fed : monitor.fed_of copy.values ≡ monitor.fed_of other.values
   pub since : copy.since_now ≡ other.since_now
 
--- A situation and a target of it, the program of its rules, whether a No needs all rows that its rule reaches, and what tells of so many rules
--- what is broken at now.
+-- A situation and a target of it, the program of its rules, whether a No needs all rows that its rule reaches, and what is known to be
+-- broken at now, for the number of rules.
 pub record IsTowards (towards : Towards) : Type 0 where
   pub is_situation : IsSituation towards.situation.now
   pub is_target : IsTarget towards.situation.now towards.target.now
@@ -81,7 +81,7 @@ pub record IsTowards (towards : Towards) : Type 0 where
   pub no_last : towards.no_last ≡ true → All IsNoLast (formulas_of towards.situation.now)
   pub rules : towards.already.now.rules ≤ 17
 
--- Her trace that is cut at now has these rows, and what is broken in it is told.
+-- Her trace that is cut at now has these rows, and what is broken in it is known.
 pub record IsCut (towards : Towards) (cut : Trace) : Type 0 where
   pub is_cut : IsCutAtNow towards.situation.now towards.target.now cut
   pub tells : Tells (formulas_of towards.situation.now) cut towards.already.now
@@ -91,7 +91,7 @@ pub record IsStepAt (situation : Situation) (plan : List ℕ) (target : Target) 
   pub contact : IsTrue in_contact ↔ IsContactAt (own_at situation plan) (target_at situation target) situation.detect.watch at
   pub step : seen ≡ step_at (own_at situation plan) (target_at situation target) at
 
--- She was followed from a tick to another under a plan. Where nothing was told as newly broken, what is kept stands there again; else a rule is broken by then.
+-- She was followed from a tick to another under a plan. If nothing was newly broken, what is kept stands there again; otherwise a rule is broken by then.
 pub record IsFollowed (towards : Towards) (plan : List ℕ) (from to : ℕ) (old new : Watched) (told : Bool) : Type 0 where
   pub stands : told ≡ false → (cut : Trace) → IsCut towards cut → Stands towards.program.now towards.situation.now plan towards.target.now cut from old
       → Stands towards.program.now towards.situation.now plan towards.target.now cut to new

@@ -23,7 +23,7 @@ pub record ReadsPlainly (reader : TextReader) : Type 0 where
   pub flexible : is_flexible reader ≡ true
   pub ready : Ready reader
 
--- In so many turns at most it gives these rows.
+-- In this many turns at most it gives these rows.
 pub record Gives (reader : TextReader) (turns : ℕ) (rows : List Fields) : Type 0 where
   pub rest : List ℕ
   pub source : source_of (λ (text : Bor (List ℕ)). Some text.now) reader ≡ Some rest
@@ -35,21 +35,21 @@ Turned true reader turns rows fields = (behind : List Fields) × (rows ≡ field
 Turned false reader turns rows fields = rows ≡ []
 
 module _ (situation : Situation) where
-  -- It is the one entry that a row tells.
+  -- It is the only entry that a row can give.
   abbrev pub IsTheEntryOf : Fields → WhyEntry → Type 0
   IsTheEntryOf fields entry = IsEntryOf situation fields entry × ((other : WhyEntry) → IsEntryOf situation fields other → other ≡ entry)
 
-  -- A row tells no entry.
+  -- A row gives no entry.
   abbrev pub TellsNone : Fields → Type 0
   TellsNone fields = (entry : WhyEntry) → ¬ IsEntryOf situation fields entry
 
-  -- what is left of rows behind those that were read: nothing, or rows of which the first tells no entry
+  -- the rows after those that were read: none, or rows whose first gives no entry
   abbrev pub IsLeft : Bool → List Fields → Type 0
   IsLeft true rows = rows ≡ []
   IsLeft false [] = ⊥
   IsLeft false (row ∷ rows) = TellsNone row
 
-  -- These are the entries of the first rows: of all, or up to one that tells none.
+  -- These are the entries of the first rows: of all, or up to one that gives none.
   pub record AreRead (rows : List Fields) (entries : List WhyEntry) (all : Bool) : Type 0 where
     pub front : List Fields
     pub behind : List Fields
@@ -57,12 +57,12 @@ module _ (situation : Situation) where
     pub told : AllZip IsTheEntryOf front entries
     pub left : IsLeft all behind
 
-  -- what taking a row does to the entries: a row `why` adds the one that it tells, and one of another kind adds nothing; or it tells none
+  -- what taking a row does to the entries: a row `why` adds its entry or has none, and one of another kind adds nothing
   abbrev pub TakesRow : Fields → List WhyEntry → List WhyEntry → Bool → Type 0
   TakesRow fields old new true = MatchBool (is_why fields) ((entry : WhyEntry) × IsTheEntryOf fields entry × (new ≡ old ++ entry ∷ [])) (new ≡ old)
   TakesRow fields old new false = (is_why fields ≡ true) × TellsNone fields × (new ≡ old)
 
-  -- Of a text's rows these entries are read, one by one, and a reader has so many turns for the others.
+  -- These entries of a text's rows are read, one by one, and a reader has this many turns for the others.
   pub record IsReadSoFar (text : List ℕ) (reader : TextReader) (turns : ℕ) (entries : List WhyEntry) : Type 0 where
     pub done : List Fields
     pub behind : List Fields

@@ -21,7 +21,7 @@ pub record IsFirstTowards (situation : Situation) (plan : List ℕ) (last : ℕ)
 pub record NoneIsShorter (situation : Situation) (legs : ℕ) (plan : List ℕ) : Type 0 where
   pub none : (entry : WhyEntry) → 1 ≤ length entry.prefix → length entry.prefix < legs → entry.prefix ≡ take (length entry.prefix) plan → ¬ IsGood situation entry
 
--- the number of the first plan that extends the prefix of so many legs that has a number
+-- the number of the first plan that extends the prefix of this many legs that has a number
 abbrev pub first_extension : Situation → ℕ → ℕ → ℕ
 first_extension situation legs number = number * choices_of situation.lattice ^ (situation.lattice.legs - legs)
 

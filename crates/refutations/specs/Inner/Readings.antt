@@ -1,4 +1,4 @@
--- What the fields of a row may tell.
+-- What the fields of a row may contain.
 use Rattle.std.specs.Prelude.{ℕ, ◌≡◌, ◌==◌, ◌≤◌, ◌<◌, ◌^◌, codes, List, [], length, Option, Some, None}
 use Rattle.std.specs.Borrow.{Bor}
 use Rattle.std.specs.Fmt.{decimal}
@@ -21,7 +21,7 @@ pub record IsNumberIn (text : List ℕ) (most number : ℕ) : Type 0 where
   pub few : number ≤ most
   pub told : decimal number ≡ text
 
--- A prefix of at most so many legs, each of so many choices, is written so.
+-- A prefix of at most this many legs, each of this many choices, is written so.
 pub record AreChoicesIn (text : List ℕ) (choices legs : ℕ) (prefix : List ℕ) : Type 0 where
   pub some : 1 ≤ length prefix
   pub few : length prefix ≤ legs

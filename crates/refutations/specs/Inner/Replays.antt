@@ -26,7 +26,7 @@ pub record IsCourse (course : Course) : Type 0 where
   pub path : IsPath (situation_in course) course.plan 0 course.path.items
   pub track : IsTrack course.path.items
 
--- Two plans have so many first legs in common.
+-- Two plans have this many first legs in common.
 pub record HaveInCommon (plan other : List ℕ) (legs : ℕ) : Type 0 where
   pub alike : (leg : ℕ) → leg < legs → slice_index plan leg ≡ slice_index other leg
 
@@ -34,7 +34,7 @@ pub record HaveInCommon (plan other : List ℕ) (legs : ℕ) : Type 0 where
 abbrev pub told_to : TraceSoFar → ℕ
 told_to trace = trace.start + length trace.rows.items
 
--- A trace of own ship and a target has the rows of the steps up to a tick, and what follows both after each. Where it has none it has not begun.
+-- A trace of own ship and a target has the rows of the steps up to a tick, and what follows both after each. If it has none it has not begun.
 pub record IsTraceSoFar (situation : Situation) (plan : List ℕ) (target : Target) (trace : TraceSoFar) : Type 0 where
   pub within : told_to trace ≤ end_of situation
   pub begins : 0 < length trace.rows.items → BeginsAt situation plan (told_to trace) target trace.start
@@ -43,7 +43,7 @@ pub record IsTraceSoFar (situation : Situation) (plan : List ℕ) (target : Targ
   pub followers : (j : ℕ) (d : Following) → j < length trace.followers.items
       → Follows (get_or trace.followers.items j d) (terms_of situation) (steps_from (own_at situation plan) (target_at situation target) trace.start (j + 1))
 
--- What is kept of each target is her trace so far under the plan that it was told under.
+-- What is kept of each target is her trace so far under the plan for which it was computed.
 pub record IsReplay (replay : Replay) : Type 0 where
   pub course : IsCourse replay.course
   pub as_many : length replay.traces.items ≡ length (situation_in replay.course).targets

@@ -14,7 +14,7 @@ pub record IsDraft (t : FormulaTree) : Type 0 where
 pub draft_prop : (t : FormulaTree) → IsProp (IsDraft t)
 draft_prop t = hlevel (le_prop, valid_parts_prop t)
 
--- the formula is this tree, of at most so many nodes
+-- the formula is this tree, of at most this many nodes
 pub record IsMade (f : Formula) (t : FormulaTree) (most : ℕ) : Type 0 where
   pub tree : tree_of f ≡ t
   pub nodes : node_count (tree_of f) ≤ most

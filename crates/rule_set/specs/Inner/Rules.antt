@@ -11,7 +11,7 @@ named_tree rule = rule_named rule.name (tree_of rule.formula)
 abbrev pub named_trees : List Rule → List NamedTree
 named_trees rules = map named_tree rules
 
--- The rule that was made is behind those before it.
+-- The rule that was made is after those before it.
 abbrev pub IsPut : List Rule → Result Rule Memory → List Rule → Type 0
 IsPut before (Ok rule) after = after ≡ before ++ rule ∷ []
 IsPut before (Err fault) after = ⊥

@@ -32,6 +32,24 @@ range_in (Some _) = None
 abbrev pub range_at : Basis → List ℕ → List ℕ → Option Range
 range_at basis table name = range_in (kind_at basis table name)
 
+-- the least integer of a range, whatever the tick, which is at least one second
+abbrev pub least_in : Option Range → ℤ
+least_in None = pos 0
+least_in (Some (range.FromTo least most)) = least
+least_in (Some (range.FromTheTickTo most)) = pos 1
+least_in (Some (range.TicksFromOneTo most)) = pos 1
+least_in (Some (range.TicksTo most)) = pos 0
+least_in (Some (range.Optional least most otherwise)) = least
+
+-- the greatest
+abbrev pub most_in : Option Range → ℤ
+most_in None = pos 0
+most_in (Some (range.FromTo least most)) = most
+most_in (Some (range.FromTheTickTo most)) = most
+most_in (Some (range.TicksFromOneTo most)) = most
+most_in (Some (range.TicksTo most)) = most
+most_in (Some (range.Optional least most otherwise)) = most
+
 -- The key must be there, and its range lies within these two numbers, whatever the tick.
 abbrev pub lies_in : ℤ → ℤ → Option Range → Bool
 lies_in low high None = false
@@ -41,10 +59,10 @@ lies_in low high (Some (range.TicksFromOneTo most)) = int_le low (pos 1) && int_
 lies_in low high (Some (range.TicksTo most)) = int_le low (pos 0) && int_le most high
 lies_in low high (Some (range.Optional least most otherwise)) = false
 
--- The key may be left out for this number, and its range lies within these two, as this number does.
+-- The key may be left out for this number, which is in its range, and the range lies within the first two numbers.
 abbrev pub may_lie_in : ℤ → ℤ → ℤ → Option Range → Bool
 may_lie_in low high otherwise (Some (range.Optional least most other)) =
-    (int_le low least && int_le most high) && (int_le low otherwise && int_le otherwise high)
+    (int_le low least && int_le most high) && (int_le least otherwise && int_le otherwise most)
 may_lie_in low high otherwise _ = false
 
 -- The key's range begins with the tick.
@@ -73,11 +91,28 @@ list_range_at basis table name = list_range_in (kind_at basis table name)
 abbrev pub fewest_of : ListRange → ℕ
 fewest_of range = if range.is_optional then 0 else range.fewest
 
--- The lengths of its lists and their integers lie within these numbers.
-abbrev pub lists_lie_in : ℕ → ℕ → ℤ → ℤ → Option ListRange → Bool
-lists_lie_in fewest most low high None = false
-lists_lie_in fewest most low high (Some range) =
-    (nat_le fewest (fewest_of range) && nat_le range.most most) && (int_le low range.low && int_le range.high high)
+-- the least and the greatest length of its lists, and the least and the greatest integer in them
+
+abbrev pub fewest_in : Option ListRange → ℕ
+fewest_in None = 0
+fewest_in (Some range) = fewest_of range
+
+abbrev pub longest_in : Option ListRange → ℕ
+longest_in None = 0
+longest_in (Some range) = range.most
+
+abbrev pub low_in : Option ListRange → ℤ
+low_in None = pos 0
+low_in (Some range) = range.low
+
+abbrev pub high_in : Option ListRange → ℤ
+high_in None = pos 0
+high_in (Some range) = range.high
+
+-- The integers of its lists lie within these numbers.
+abbrev pub lists_lie_in : ℤ → ℤ → Option ListRange → Bool
+lists_lie_in low high None = false
+lists_lie_in low high (Some range) = int_le low range.low && int_le range.high high
 
 -- Whether the key is own ship's, by its table.
 abbrev pub is_own : List ℕ → Bool

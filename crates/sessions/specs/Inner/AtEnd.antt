@@ -1,4 +1,4 @@
--- What is had at a log's end.
+-- What holds at a log's end.
 use Rattle.std.specs.Prelude.{ℕ, List, ◌++◌, Ok}
 use Rattle.audit_report.specs.ReportTexts.{HasText}
 use Rattle.audit_report.specs.declared.report_text.ReportText.{ReportText}
@@ -26,7 +26,7 @@ pub record IsAtEnd (work : Work) (judge : Judge) (scenario : Scenario) (log give
   pub done : IsDone work scenario (lines_of log) given
   pub judged : JudgeStandsFor judge scenario (lines_of log)
 
--- What the end of the work comes to, of each log at whose end it stands: the report that is asked for, of which a front stands in the text, ..
+-- What the end of the work gives for each log that it has reached the end of: the rest of the report that is asked for, after its front in the text, ..
 abbrev pub EndsWithReport : Work → Judge → Scenario → Asked → ReportText → Ending → Type 0
 EndsWithReport work judge scenario asked text ending = (log given front : List ℕ) → HasText text front → IsAtEnd work judge scenario log (given ++ front)
     → IsReport (mode_by work) asked.why asked.rows.now scenario log (given ++ ending.bytes.items)
@@ -40,7 +40,7 @@ EndsWithAnswer work judge scenario asked ending = (log given : List ℕ) → IsA
 abbrev pub EndsWithCause : Work → Judge → Scenario → Asked → SessionFault → Type 0
 EndsWithCause work judge scenario asked why = (log given : List ℕ) → IsAtEnd work judge scenario log given → EndCause (mode_by work) asked.rows.now scenario log why
 
--- What looks on stands for all lines of the log, and has given these; and the judge has taken them.
+-- The audit or watch stands for all lines of the log, and has given these items; and the judge has taken the lines.
 module _ {Item : Type 0} (Stands : List (List ℕ) → List Item → Type 0) (judge : Judge) (scenario : Scenario) (log : List ℕ) where
   pub record HasGiven (given : List Item) : Type 0 where
     pub stands : Stands (lines_of log) given

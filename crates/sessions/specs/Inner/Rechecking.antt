@@ -1,4 +1,4 @@
--- What a check of rows comes to in a situation.
+-- What a check of rows results in for a situation.
 use Rattle.std.specs.Prelude.{ℕ, ◌≡◌, List, false}
 use Rattle.report_csv.specs.CsvRows.{row_of}
 use Rattle.audit_report.specs.ReportRows.{no_plan_fields}
@@ -17,7 +17,7 @@ pub record IsCheckedReport (situation : Situation) (text : List ℕ) (ending : E
   pub is : ending.bytes.items ≡ row_of (no_plan_fields (plans_of situation.lattice))
   pub search : ending.none ≡ false
 
--- The first row of the text that is bad is this one, but for want of memory.
+-- The first row of the text that is bad is this one, unless memory ran out.
 abbrev pub IsBadText : Situation → List ℕ → SessionFault → Type 0
 IsBadText situation text (fault.Entry k) = IsFirstBadRow situation (why_rows text) k
 IsBadText situation text fault.Memory = Unit {0}

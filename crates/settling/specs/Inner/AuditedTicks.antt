@@ -21,5 +21,5 @@ audit_taker audit = record {
   latest = latest_vessels audit;
   Stands = HasAudited audit;
   within = λ sound. sound.traces.given;
-  seen_last = λ numbers ticks given up. (λ i. (up.stands.traces.latest i).vessels);
+  seen_last = λ numbers ticks given up. (λ i. (up.stands.window.stands.latest i).vessels);
 }

@@ -48,7 +48,7 @@ pub record IsBeforeAll {Item : Type 0} (taker : Taker Item) (scenario : Scenario
   pub last : taker.last_tick ≡ scenario.window.ticks
   pub stands : taker.Stands (audit_numbers scenario) [] []
 
--- It has taken all ticks of the scenario's window, by what these lines tell, and these items were given.
+-- It has taken all ticks of the scenario's window, as these lines show them, and these items were given.
 pub record HasTakenAll {Item : Type 0} (taker : Taker Item) (scenario : Scenario)
     (lines : List (List ℕ)) (given : List Item) : Type 0 where
   pub sound : taker.Sound
@@ -58,7 +58,7 @@ pub record HasTakenAll {Item : Type 0} (taker : Taker Item) (scenario : Scenario
       (sighted scenario (sent scenario lines)) → ⊥
 
 module _ {Item : Type 0} (taker : Taker Item) (ticks : SettledTicks) (scenario : Scenario) where
-  -- The ticks that were handed out were taken by what these lines tell, and these items were given.
+  -- The ticks that were handed out were taken, as these lines show them, and these items were given.
   pub record HasTaken (lines : List (List ℕ)) (given : List Item) : Type 0 where
     pub sound : taker.Sound
     pub next : taker.count ≡ handed_out ticks

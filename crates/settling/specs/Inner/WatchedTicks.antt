@@ -20,5 +20,5 @@ watch_taker watch = record {
   latest = latest_vessels watch;
   Stands = HasWatched watch;
   within = λ sound. sound.traces.given;
-  seen_last = λ numbers ticks given up. (λ i. (up.stands.traces.latest i).vessels);
+  seen_last = λ numbers ticks given up. (λ i. (up.stands.window.stands.latest i).vessels);
 }

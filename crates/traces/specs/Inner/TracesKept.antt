@@ -109,7 +109,7 @@ pub record AreTooMany (numbers : AuditNumbers) (seen : SeenVessels) (old : List 
 
 -- ---- from one tick to the next
 
--- So many ticks of the window were given.
+-- As many ticks of the window were given as stand here.
 pub record IsNextTick (kept : AllTraces) (numbers : AuditNumbers) (ticks : List Sighting) : Type 0 where
   pub count : kept.given ≡ length ticks
   pub chosen : numbers.subjects ≡ kept.subjects.items

@@ -80,17 +80,17 @@ unfoldable pub vessel_after : Keeping → JudgingNumbers → VesselValue → Sen
 vessel_after keeping numbers vessel one =
     told (vessel_with keeping numbers.gap vessel (accepted_in numbers (last_or None vessel.points) (reported_in one))) (static_in one.message)
 
--- nothing was told yet
+-- nothing is known yet
 abbrev pub untold : VesselValue
 untold = record { points = []; legs = []; counts = record { reports = 0; legs = 0 }; statics = record { name = None; ship = None } }
 
--- The message makes its vessel held, of whom nothing was told.
+-- The message makes its vessel held if nothing was known about her.
 abbrev pub makes_held : JudgingNumbers → Sent → Bool
 makes_held numbers one = is_some (static_in one.message) || is_some (accepted_in numbers None (reported_in one))
 
 -- ---- what is forgotten
 
--- a vessel of whom that is forgotten
+-- a vessel once her reports before a time are forgotten
 abbrev pub vessel_since : ℕ → ℕ → VesselValue → VesselValue
 vessel_since gap time vessel = record vessel { points = points_since time vessel.points; legs = legs_between gap (points_since time vessel.points) }
 

@@ -16,7 +16,7 @@ use Rattle.command_line.proofs.arguments.arguments_of.Goals as goal
 abbrev failed : WordsFault → Result Arguments WordsFault
 failed fault = Err fault
 
--- the error is not for want of memory where the fault says so
+-- the error is not memory that ran out, if the fault says so
 other_kind : (fault : WordsFault) (kind of_error : ErrorKind) → kind ≡ of_error → (fault ≡ Usage → kind ≢ OutOfMemory) → failed fault ≡ Err Usage → of_error ≡ OutOfMemory → ⊥
 other_kind fault kind of_error same told usage memory = told (cc) (same ∙ memory)
 

@@ -1,7 +1,7 @@
 use Rattle.std.proofs.Common.{◌≡◌, ◌∙◌, ℕ, inl, inr, refl, sym, ap, subst, codes, List, Option, Some, None}
 use Rattle.std.specs.Prelude.{Err, IfSome, IsErrAnd, Ok, Result, option_map}
 use Rattle.clap.specs.Words.{Row, Text, first_of, found_of, rows_of}
-use Rattle.command_line.specs.CommandLine.{Setting, a_flag, a_number, a_text, flag, kind_of, label, rows_file, seed, start, takes_number, takes_text, ticks, why}
+use Rattle.command_line.specs.CommandLine.{CommandOption, a_flag, a_number, a_text, flag, kind_of, label, rows_file, seed, start, takes_number, takes_text, ticks, why}
 use Rattle.command_line.specs.GivenArguments.{HoldsValue, IsTaken, said, value_of}
 use Rattle.command_line.specs.Inner.Reading.{GivesNumber, GivesOptions}
 use Rattle.command_line.specs.declared.arguments.Options.{Options}
@@ -10,7 +10,7 @@ use Rattle.command_line.specs.declared.arguments.WordsFault.TheVariants.{Memory,
 use Rattle.command_line.proofs.arguments.options_in.Goals as goal
 
 -- where a number is not given as the option takes it, the options are not
-number_fails : (rows : List Row) (s : Setting) (low high : ℕ) (default : Option ℕ) (r : Result Options WordsFault) (fault : WordsFault)
+number_fails : (rows : List Row) (s : CommandOption) (low high : ℕ) (default : Option ℕ) (r : Result Options WordsFault) (fault : WordsFault)
     → kind_of s ≡ takes_number low high default → IsErrAnd r (λ e. e ≡ fault) → GivesNumber rows (label s) low high (Err fault) → GivesOptions rows r
 number_fails rows s low high default (Ok options) fault kind is gives = absurd is
 number_fails rows s low high default (Err Memory) fault kind is gives = tt
@@ -42,7 +42,7 @@ text_taken (Some text) default = tt
 held_options : (rows : List Row) (options : Options) → GivesNumber rows (codes "start") 0 9999999999 (Ok options.start)
     → GivesNumber rows (codes "ticks") 1 20000 (Ok options.ticks) → GivesNumber rows (codes "seed") 0 999999 (Ok (Some options.seed))
     → Some (a_flag options.why) ≡ said flag (first_of (codes "why") rows) → Some options.rows ≡ first_of (codes "rows") rows
-    → (s : Setting) → HoldsValue rows s (value_of s options)
+    → (s : CommandOption) → HoldsValue rows s (value_of s options)
 held_options rows o first second third fourth fifth start = held_number rows (codes "start") 0 9999999999 None o.start first
 held_options rows o first second third fourth fifth ticks = held_number rows (codes "ticks") 1 20000 None o.ticks second
 held_options rows o first second third fourth fifth seed = held_number rows (codes "seed") 0 999999 (Some 1) (Some o.seed) third

@@ -8,7 +8,7 @@ use Rattle.command_line.specs.CommandLine.{colregs, mode_rule, scenario_rule, se
 use Rattle.command_line.proofs.RuledArguments.{local}
 use Rattle.command_line.proofs.colregs.colregs.Goals as goal
 
--- the rules of the arguments, each of which is simple
+-- the rules of the arguments: each rule is simple
 abbrev HaveRules : List Arg → List Rule → Type 0
 HaveRules [] rules = rules ≡ []
 HaveRules (a ∷ args) [] = ⊥

@@ -3,7 +3,7 @@ use Rattle.circular_buffer.specs.Buffer.{buffer}
 use Rattle.mtl_monitor.specs.Inner.Lookahead.{first_of, with_all_after}
 use Rattle.mtl_monitor.proofs.lookahead.sum_up.Given as goal
 
--- So many of the last cells are summed up and stand at the front.
+-- This number of the last cells are summed up and stand at the front.
 abbrev pub invariant-loop : goal.invariant-loop
 invariant-loop l =
     let all = l.initial.cells.items in

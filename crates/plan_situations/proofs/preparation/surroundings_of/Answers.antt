@@ -18,7 +18,7 @@ use Rattle.plan_situations.specs.declared.readiness.Ready.{Ready}
 use Rattle.plan_situations.specs.declared.readiness.Unready.{Unready}
 use Rattle.plan_situations.proofs.preparation.surroundings_of.Goals as goal
 
--- want of memory is no other error
+-- out of memory is no other error
 not_unready : (r : Result Surroundings PrepareFault) (why : Unready) → IsErrAnd r (λ e. e ≡ fault.Memory) → r ≡ Err (fault.Unready why) → ⊥
 not_unready (Ok found) why is same = cc
 not_unready (Err e) why is same = cc

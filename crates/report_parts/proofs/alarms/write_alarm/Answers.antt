@@ -1,4 +1,4 @@
 use Rattle.report_parts.proofs.alarms.write_alarm.Goals as goal
 
 pub returns : goal.returns
-returns c = rw c.name-name.ensures.name at c.write_alarm.ensures
+returns c = rw c.name.ensures.name at c.write.ensures

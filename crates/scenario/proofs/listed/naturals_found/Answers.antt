@@ -7,7 +7,7 @@ use Rattle.scenario.proofs.listed.naturals_found.Goals as goal
 
 pub naturals_in-requires : goal.naturals_in-requires
 naturals_in-requires c =
-    values_held (table_view c.args.document.now) c.args.table.now c.args.name.now (pos c.args.least) (pos c.args.most) c.in-Some.list.now.items c.in-Some.ensures c.requires
+    values_held (table_view c.args.document.now) c.args.table.now c.args.name.now (pos 0) (pos 4294967295) c.in-Some.list.now.items c.in-Some.ensures c.requires
 
 pub returns-in-Some : goal.returns-in-Some
 returns-in-Some c =

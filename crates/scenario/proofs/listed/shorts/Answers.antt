@@ -1,33 +1,32 @@
-use Rattle.std.proofs.Common.{pos}
-use Rattle.std.specs.Prelude.{neg_ℤ}
+use Rattle.std.proofs.Common.{negsuc, pos}
 use Rattle.toml.specs.View.{table_view}
 use Rattle.scenario_keys.specs.KeyValues.{list_at}
-use Rattle.scenario.specs.Inner.KnownKeys.{is_own}
-use Rattle.scenario.proofs.ListsHeld.{integers_told, list_held}
+use Rattle.scenario.specs.Inner.KnownKeys.{fewest_in, high_in, is_own, list_range_at, longest_in, low_in}
+use Rattle.scenario.specs.KeyFaults.{basis_of}
+use Rattle.scenario.proofs.ListsHeld.{elements_within, integers_in_range, list_held}
 use Rattle.scenario.proofs.listed.shorts.Goals as goal
 
-pub shorts_found-requires-clause-within : goal.shorts_found-requires-clause-within
-shorts_found-requires-clause-within c =
-    (list_held (is_own c.args.table.now) (table_view c.args.document.now) c.args.table.now c.args.name.now 1 c.args.most
-    (neg_ℤ (pos c.args.size)) (pos c.args.size) c.requires.known c.requires.faultless).all
+pub shorts_found-requires : goal.shorts_found-requires
+shorts_found-requires c =
+    elements_within (is_own c.args.table.now) (table_view c.args.document.now) c.args.table.now c.args.name.now (negsuc 32767) (pos 32767) c.requires.known c.requires.faultless
 
 pub returns-clause-in_range : goal.returns-clause-in_range
 returns-clause-in_range c =
-    let held = list_held (is_own c.args.table.now) (table_view c.args.document.now) c.args.table.now c.args.name.now 1 c.args.most
-    (neg_ℤ (pos c.args.size)) (pos c.args.size) c.requires.known c.requires.faultless in
-    (integers_told 1 c.args.most c.args.size (list_at c.args.table.now c.args.name.now (table_view c.args.document.now))
+    let r = list_range_at (basis_of (is_own c.args.table.now) (table_view c.args.document.now)) c.args.table.now c.args.name.now in
+    let held = list_held (is_own c.args.table.now) (table_view c.args.document.now) c.args.table.now c.args.name.now (negsuc 32767) (pos 32767) c.requires.known c.requires.faultless in
+    (integers_in_range (fewest_in r) (longest_in r) (low_in r) (high_in r) (list_at c.args.table.now c.args.name.now (table_view c.args.document.now))
     c.shorts_found.result held c.shorts_found.ensures).0
 
-pub returns-clause-some : goal.returns-clause-some
-returns-clause-some c =
-    let held = list_held (is_own c.args.table.now) (table_view c.args.document.now) c.args.table.now c.args.name.now 1 c.args.most
-    (neg_ℤ (pos c.args.size)) (pos c.args.size) c.requires.known c.requires.faultless in
-    (integers_told 1 c.args.most c.args.size (list_at c.args.table.now c.args.name.now (table_view c.args.document.now))
+pub returns-clause-fewest : goal.returns-clause-fewest
+returns-clause-fewest c =
+    let r = list_range_at (basis_of (is_own c.args.table.now) (table_view c.args.document.now)) c.args.table.now c.args.name.now in
+    let held = list_held (is_own c.args.table.now) (table_view c.args.document.now) c.args.table.now c.args.name.now (negsuc 32767) (pos 32767) c.requires.known c.requires.faultless in
+    (integers_in_range (fewest_in r) (longest_in r) (low_in r) (high_in r) (list_at c.args.table.now c.args.name.now (table_view c.args.document.now))
     c.shorts_found.result held c.shorts_found.ensures).1
 
 pub returns-clause-most : goal.returns-clause-most
 returns-clause-most c =
-    let held = list_held (is_own c.args.table.now) (table_view c.args.document.now) c.args.table.now c.args.name.now 1 c.args.most
-    (neg_ℤ (pos c.args.size)) (pos c.args.size) c.requires.known c.requires.faultless in
-    (integers_told 1 c.args.most c.args.size (list_at c.args.table.now c.args.name.now (table_view c.args.document.now))
+    let r = list_range_at (basis_of (is_own c.args.table.now) (table_view c.args.document.now)) c.args.table.now c.args.name.now in
+    let held = list_held (is_own c.args.table.now) (table_view c.args.document.now) c.args.table.now c.args.name.now (negsuc 32767) (pos 32767) c.requires.known c.requires.faultless in
+    (integers_in_range (fewest_in r) (longest_in r) (low_in r) (high_in r) (list_at c.args.table.now c.args.name.now (table_view c.args.document.now))
     c.shorts_found.result held c.shorts_found.ensures).2

@@ -1,14 +1,13 @@
-use Rattle.std.proofs.Common.{ℤ, pos, List, IfOk, subst, ◌≡◌, ◌∙◌}
-use Rattle.std.specs.Prelude.{neg_ℤ}
+use Rattle.std.proofs.Common.{ℤ, negsuc, pos, List, IfOk, subst, ◌≡◌, ◌∙◌}
 use Rattle.toml.specs.Data.{as_integer}
 use Rattle.toml.specs.View.{table_view}
 use Rattle.scenario_keys.specs.KeyValues.{integer_of}
 use Rattle.scenario.proofs.ListsHeld.{mapped, nothing_mapped, values_held}
 use Rattle.scenario.proofs.listed.shorts_found.Goals as goal
 
-pub shorts_in-requires-clause-within : goal.shorts_in-requires-clause-within
-shorts_in-requires-clause-within c =
-    values_held (table_view c.args.document.now) c.args.table.now c.args.name.now (neg_ℤ (pos c.args.size)) (pos c.args.size) c.in-Some.list.now.items c.in-Some.ensures c.requires.within
+pub shorts_in-requires : goal.shorts_in-requires
+shorts_in-requires c =
+    values_held (table_view c.args.document.now) c.args.table.now c.args.name.now (negsuc 32767) (pos 32767) c.in-Some.list.now.items c.in-Some.ensures c.requires
 
 pub returns-in-Some : goal.returns-in-Some
 returns-in-Some c =

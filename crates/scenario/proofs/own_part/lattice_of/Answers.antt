@@ -1,11 +1,14 @@
 use Rattle.std.proofs.Common.{◌≤◌, ◌*◌, subst, sym}
 use Rattle.toml.specs.View.{table_view}
 use Rattle.lattice.specs.Grids.{Grid, positions_of}
+use Rattle.scenario_keys.specs.ScenarioKeys.{own_rows}
 use Rattle.scenario.specs.KeyFaults.{tick_of}
+use Rattle.scenario.specs.Inner.KnownKeys.{kind_at}
 use Rattle.scenario.proofs.PlansHeld.{plans_held}
 use Rattle.scenario.proofs.own_part.lattice_of.Goals as goal
 
 pub new-requires : goal.new-requires
+unfolding kind_at own_rows
 new-requires c =
     let held = plans_held (table_view c.args.document.now) c.args.courses.now c.args.speeds.now c.natural-legs.result c.natural-leg_ticks.result c.natural-tail.result
     c.requires.faultless c.requires.courses c.requires.speeds c.natural-legs.ensures.value c.natural-leg_ticks.ensures.value c.natural-tail.ensures.value
@@ -31,6 +34,7 @@ new-requires c =
     }
 
 pub returns-clause-time : goal.returns-clause-time
+unfolding kind_at own_rows
 returns-clause-time c =
     let held = plans_held (table_view c.args.document.now) c.args.courses.now c.args.speeds.now c.natural-legs.result c.natural-leg_ticks.result c.natural-tail.result
     c.requires.faultless c.requires.courses c.requires.speeds c.natural-legs.ensures.value c.natural-leg_ticks.ensures.value c.natural-tail.ensures.value

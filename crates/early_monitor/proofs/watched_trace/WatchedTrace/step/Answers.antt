@@ -14,7 +14,7 @@ use Rattle.early_monitor.specs.Inner.RulesWatched.{FitsRule, IsCalm, IsCalmRule,
 use Rattle.early_monitor.specs.Inner.TraceWatched.{kept_at}
 use Rattle.early_monitor.proofs.Calm.{no_breach, stays_calm}
 use Rattle.early_monitor.proofs.Breaches.{adds_none, adds_same, adds_then, below_more, below_none}
-use Rattle.early_monitor.proofs.Lists.{whole_written}
+use Rattle.traces.proofs.ForCallers.{whole_written}
 use Rattle.early_monitor.proofs.watched_trace.WatchedTrace.step.Goals as goal
 use Rattle.early_monitor.proofs.watched_trace.WatchedTrace.step.Goals.{else-not-branch, then-not-branch}
 

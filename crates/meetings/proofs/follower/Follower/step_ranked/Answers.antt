@@ -23,7 +23,7 @@ use Rattle.meetings.proofs.follower.Follower.step_ranked.Goals as goal
 abbrev before_of : (g : Over) (c : goal.After-row_at g) → Following
 before_of g c = record { act = c.self.inside.telling.act; tick = c.self.inside.telling.tick; engagement = c.self.inside.engagement; by_rank = c.self.inside.telling.by_rank }
 
--- The ranks that count are those where the engagement began.
+-- The ranks that count are those when the engagement began.
 counting : (g : Over) (c : goal.After-row_at g) (terms : Terms) (ranks : ℕ → ByRank) (steps : List (Option PairStep)) → length steps < 2 ^ 31
     → SaysOnly (goal.F-post g c.args.by_rank) (ranks (length steps)) → FollowsRanked (before_of g c) terms ranks steps
     → IsSome (age_of c.take-risk.new.self.latest) → c.keep_at_beginning.new.kept ≡ ranks (beginning_at (length steps) c.take-risk.new.self.latest)

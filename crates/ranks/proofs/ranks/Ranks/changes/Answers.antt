@@ -6,7 +6,7 @@ use Rattle.ranks.proofs.Noted.{changes_found, found}
 use Rattle.ranks.proofs.KeptChanges.{each_changes}
 use Rattle.ranks.proofs.ranks.Ranks.changes.Goals as goal
 
--- They tell her rank by ship type.
+-- They give her rank by ship type.
 tell : (c : goal.After-all) (noted : List Note) → StandsFor c.args.self.now noted → (t : ℕ) → rank_after c.all.result.now t ≡ rank_by_type noted c.args.mmsi t
 tell c noted stands t =
     let known : found c.self.inside.vessels.entries c.args.mmsi ≡ Some c.in-Some.changes.now = sym c.in-Some.ensures.value in

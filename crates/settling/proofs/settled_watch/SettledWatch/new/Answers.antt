@@ -17,7 +17,7 @@ returns c =
     }) []) c.as_slice.ensures c.in_ok-watch.ensures.stands in
     c.new-2.ensures scenario (record {
       sound = c.in_ok-watch.ensures.sound;
-      count = stands.traces.count;
-      last = stands.traces.last_tick;
+      count = stands.window.stands.count;
+      last = stands.window.stands.last_tick;
       stands = record { stands = stands; alarms = no_alarms (audit_numbers scenario) };
     })

@@ -1,0 +1,46 @@
+//! Laws of existence, which stand over the definitions alone: that there is no list of rows, alarms, totals or entries, no settled text and no
+//! report is refuted. That there is at most one of each is a law of `reports`, or of the crate that defines it. So no run ends out of memory because
+//! no report meets its definition.
+ghost use Rattle.laws.specs.Endings.{SomeEnding, SomeSettledText};
+ghost use Rattle.laws.specs.Findings.{SomeAlarms, SomeAuditRows, SomeTotals};
+ghost use Rattle.laws.specs.Reasons.{SomeCanonicalList};
+
+use meetings::laws::there_are_rows;
+
+/// If every plan fails, a canonical list says why. The situation is in its ranges, and entries into domains have moments. The contracts of
+/// `plan_situations::prepare` and `Situation::entry` say so of the situations that the program prepares.
+pub fn some_canonical_list()
+    ensures { SomeCanonicalList }
+{
+    there_are_rows();
+}
+
+/// The ticks of every audit have a list of rows. There is no premise.
+pub fn some_audit_rows()
+    ensures { SomeAuditRows }
+{}
+
+/// The ticks of every audit have a list of totals. There is no premise.
+pub fn some_totals()
+    ensures { SomeTotals }
+{
+    there_are_rows();
+}
+
+/// The ticks of every watch have a list of alarms. There is no premise.
+pub fn some_alarms()
+    ensures { SomeAlarms }
+{}
+
+/// Every prefix of a log settles a text, which may be empty. There is no premise.
+pub fn some_settled_text()
+    ensures { SomeSettledText }
+{}
+
+/// A log that meets no refusal has a report, of each task. Such logs exist for each task: the tests of `run_rows` have some. Of own ship's
+/// situation the law asks what the program's values and contracts say.
+pub fn some_ending()
+    ensures { SomeEnding }
+{
+    there_are_rows();
+}

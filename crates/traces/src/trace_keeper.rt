@@ -1,0 +1,52 @@
+//! What is done with each trace of a window.
+use crate::next_row::NextRow;
+use meetings::Pair;
+use out_of_memory::Memory;
+
+/// Does something with each trace of a window: an audit marks stretches, a watch finds alarms. After an `Err` the keeper may only be
+/// dropped.
+pub trait TraceKeeper: Drop {
+    ghost use Rattle.std.specs.Prelude.{◌<◌, ◌≤◌, ◌^◌, IfOk, OnOk};
+    ghost use Rattle.traces.specs.Keeping.{HasBegunTrace, HasEndedTrace, HasTakenStep, Keeper};
+    ghost use Rattle.traces.specs.declared.all_traces.TheConstants.{MOST_TRACES};
+
+    /// What is kept of one trace.
+    type Kept: Drop;
+
+    // what was given of the traces before
+    ghost Given: { Type 0 };
+
+    ghost keeper: { Self → Keeper Self.Kept Given };
+
+    /// Begins the trace of a pair at a step, after the traces that there are.
+    fn begin(&mut self, pair: Pair, start: u32) -> Result<Self::Kept, Memory>
+        requires sound { (keeper self.old).Sound }
+        requires early { start < 2 ^ 31 }
+        ensures { IfOk result
+            (λ kept. HasBegunTrace (keeper self.old) (keeper self.new) pair start kept) };
+
+    /// Takes the next row of the trace with this index, which is the row of the step with this number.
+    fn step(
+        &mut self,
+        index: usize,
+        kept: &mut Self::Kept,
+        next: NextRow<'_>,
+        step: u32,
+    ) -> Result<(), Memory>
+        requires sound { (keeper self.old).Sound }
+        requires within { index < MOST_TRACES }
+        requires ready { (keeper self.old).Ready kept.old }
+        requires few { (keeper self.old).steps kept.old < 2 ^ 31 }
+        ensures { OnOk result
+            (HasTakenStep (keeper self.old)
+            (keeper self.new) index step next.entry kept.old kept.new) };
+
+    /// Ends the trace with this index.
+    fn end(&mut self, index: usize, kept: &mut Self::Kept) -> Result<(), Memory>
+        requires sound { (keeper self.old).Sound }
+        requires within { index < MOST_TRACES }
+        requires ready { (keeper self.old).Ready kept.old }
+        requires few { (keeper self.old).steps kept.old ≤ 2 ^ 31 }
+        ensures { OnOk result
+            (HasEndedTrace (keeper self.old) (keeper self.new) index kept.old kept.new) };
+}
