@@ -1,6 +1,8 @@
-"""Builds the package with Python's standard library alone (PEP 517), so that `pip install ./python` needs no network and no other package.
+"""Builds the package with Python's standard library alone (PEP 517), so that `pip install ./python` needs no network
+and no other package.
 
-A wheel of pure Python is a zip file of the package with three files about it. `pip` names this module in pyproject.toml.
+A wheel of pure Python is a zip file of the package with three files about it. `pip` names this module in
+pyproject.toml.
 """
 import base64
 import hashlib
@@ -16,10 +18,13 @@ from typing import Any
 
 HERE = os.path.dirname(os.path.abspath(__file__))
 TAG = "py3-none-any"
-COPIED = {os.path.join("..", "docs", "SCENARIO.md"): "colregs/model/SCENARIO.md"}      # what the package reads of the repository
+# what the package reads of the repository
+COPIED = {os.path.join("..", "docs", "SCENARIO.md"): "colregs/model/SCENARIO.md"}
 SHARED = {"man1": "share/man/man1", "bash": "share/bash-completion/completions", "zsh": "share/zsh/site-functions",
-          "fish": "share/fish/vendor_completions.d"}          # where a wheel installs the pages and completions of the commands
-EARLIEST = (1980, 1, 1, 0, 0, 0)        # the earliest time that a zip file can hold: the same sources give the same bytes
+          # where a wheel installs the pages and completions of the commands
+          "fish": "share/fish/vendor_completions.d"}
+# the earliest time that a zip file can hold: the same sources give the same bytes
+EARLIEST = (1980, 1, 1, 0, 0, 0)
 
 
 def project() -> dict[str, Any]:
@@ -46,11 +51,16 @@ def base_name(table: dict[str, Any]) -> str:
 
 def about_files(table: dict[str, Any]) -> dict[str, str]:
     """Returns the files about the package: metadata, the kind of wheel, and the commands."""
-    metadata = [f"Metadata-Version: 2.1\nName: {table['name']}\nVersion: {table['version']}\nSummary: {table['description']}\n"
-                f"License: {table['license']['text']}\nRequires-Python: {table['requires-python']}\n"]
+    metadata = [
+        f"Metadata-Version: 2.1\nName: {table['name']}\nVersion: {table['version']}\nSummary: {table['description']}\n"
+        f"License: {table['license']['text']}\nRequires-Python: {table['requires-python']}\n"
+    ]
     commands = "".join(f"colregs-{name} = colregs.cli.{name}:command\n" for name in pages().names())
-    return {"METADATA": metadata[0], "WHEEL": f"Wheel-Version: 1.0\nGenerator: build_offline\nRoot-Is-Purelib: true\nTag: {TAG}\n",
-            "entry_points.txt": f"[console_scripts]\n{commands}"}
+    return {
+        "METADATA": metadata[0],
+        "WHEEL": f"Wheel-Version: 1.0\nGenerator: build_offline\nRoot-Is-Purelib: true\nTag: {TAG}\n",
+        "entry_points.txt": f"[console_scripts]\n{commands}"
+    }
 
 
 class Wheel:
@@ -111,7 +121,8 @@ def build_wheel(wheel_directory: str, config_settings: object = None, metadata_d
         with open(os.path.join(HERE, path), "rb") as source:
             return source.read()
     names = {path: path.replace(os.sep, "/") for path in package_files()}
-    names |= {path: name for path, name in COPIED.items() if os.path.exists(os.path.join(HERE, path))}      # a sdist has them in their places
+    # a sdist has them in their places
+    names |= {path: name for path, name in COPIED.items() if os.path.exists(os.path.join(HERE, path))}
     return write_wheel(wheel_directory, ((name, content(path)) for path, name in names.items()))
 
 

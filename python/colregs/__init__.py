@@ -1,10 +1,13 @@
-"""The tools around the program `colregs`: they read logs, call the program, and show its rows. They judge no meeting themselves.
+"""The tools around the program `colregs`: they read logs, call the program, and show its rows. They judge no meeting.
 
 `colregs.report("plan", scenario, log)` gives a report with typed rows.
 """
 from colregs.library import Options, Report, report
-from colregs.typed_rows import Alarm, Meeting, PlanLeg, Point, Reason, Total, Verdict, Vessel
+from colregs.model.rows import Alarm, Meeting, PlanLeg, Point, Reason, Total, Verdict, Vessel
 
 VERSION = "0.1.0"
 
-__all__ = ["Alarm", "Meeting", "Options", "PlanLeg", "Point", "Reason", "Report", "Total", "VERSION", "Verdict", "Vessel", "report"]
+__all__ = [
+    "Alarm", "Meeting", "Options", "PlanLeg", "Point", "Reason", "Report", "Total", "VERSION", "Verdict", "Vessel",
+    "report",
+]

@@ -1,4 +1,5 @@
-"""How every command ends: its exit status, and one line `NAME: what is wrong` on standard error if something stops it."""
+"""How every command ends: its exit status, and one line `NAME: what is wrong` on standard error if something stops
+it."""
 import os
 import sys
 from collections.abc import Callable
@@ -25,7 +26,8 @@ def report(name: str, words: str) -> None:
 
 
 def end(name: str, main: Callable[[], int], failed: int = FAILED) -> NoReturn:
-    """Runs a command's main and leaves with its status; `failed` is the status of a Fault and of a file that cannot be read or written."""
+    """Runs a command's main and leaves with its status; `failed` is the status of a Fault and of a file that cannot be
+    read or written."""
     try:
         status = main()
         sys.stdout.flush()

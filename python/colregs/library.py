@@ -1,6 +1,7 @@
 """Reports in Python: `report("plan", scenario, log)` gives the rows of a report as typed values.
 
-The report comes from the library libcolregs if it is installed, otherwise from the program by a process; both give the same bytes (python/tests/test_library.py).
+The report comes from the library libcolregs if it is installed, otherwise from the program by a process; both give the
+same bytes (python/tests/test_library.py).
 """
 from __future__ import annotations
 
@@ -15,17 +16,18 @@ from dataclasses import asdict, dataclass, fields
 from pathlib import Path
 
 from colregs.errors import Fault, reason
+from colregs.model.rows import (Alarm, Lines, Meeting, NoPlan, PlanLeg, Point, Reason, Row, Total, Verdict, Vessel,
+                                read_rows)
 from colregs.run.program import TOP, found
-from colregs.typed_rows import Alarm, Meeting, PlanLeg, Point, Reason, Row, Rows, Total, Verdict, Vessel, read_rows
 
 INTERFACE = 1                       # the interface that include/colregs.h describes
 MODES = ("points", "audit", "plan", "drill", "migrate", "recheck", "watch")     # by the library's numbers, from 0
 VARIABLE = "COLREGS_LIBRARY"        # names a library to use
-BUILT = os.path.join(TOP, ".cache", "library", "lib", f"libcolregs.so.{INTERFACE}")      # the library of this clone, as .ci/library makes it
 INSTALLED = f"libcolregs.so.{INTERFACE}"    # the system's loader finds it
+BUILT = os.path.join(TOP, ".cache", "library", "lib", INSTALLED)    # the library of this clone, as .ci/library makes it
 
 DONE, NO_MANOEUVRE, OUT_OF_MEMORY = 0, 1, 8
-STATUSES = (0, 1, 2, 3, 7, 8, 9, 10)        # those that a run over memory gives: 4 to 6 are for files and pipes, 20 for arguments
+STATUSES = (0, 1, 2, 3, 7, 8, 9, 10)        # of a run over memory: 4 to 6 are for files and pipes, 20 for arguments
 
 OWN_START, OWN_TICKS, WHY = 2 ** 64 - 1, 0, 1
 GREATEST = {"start": 9_999_999_999, "ticks": 20_000, "seed": 999_999}
@@ -33,16 +35,33 @@ GREATEST = {"start": 9_999_999_999, "ticks": 20_000, "seed": 999_999}
 Content = bytes | str | Path        # bytes, a text, or the file that has them
 RowType = typing.TypeVar("RowType", bound=Row)
 
+TABLES: dict[str, type[Row]] = {
+    "points": Point,
+    "meetings": Meeting,
+    "verdicts": Verdict,
+    "alarms": Alarm,
+    "vessels": Vessel,
+    "totals": Total,
+    "plan": PlanLeg,
+    "reasons": Reason,
+}
+
 
 class Numbers(ctypes.Structure):
     """The options of a call, as C lays them out."""
 
-    _fields_ = [("start", ctypes.c_uint64), ("ticks", ctypes.c_uint32), ("seed", ctypes.c_uint32), ("flags", ctypes.c_uint32)]
+    _fields_ = [
+        ("start", ctypes.c_uint64),
+        ("ticks", ctypes.c_uint32),
+        ("seed", ctypes.c_uint32),
+        ("flags", ctypes.c_uint32),
+    ]
 
 
 @dataclass(frozen=True)
 class Options:
-    """The options of a report: the start of the window (s since 1970) and its length (ticks) instead of the scenario's, the seed of a drill, and whether a plan says why none is left."""
+    """The options of a report: the start of the window (s since 1970) and its length (ticks) instead of the scenario's,
+    the seed of a drill, and whether a plan says why none is left."""
 
     start: int | None = None
     ticks: int | None = None
@@ -57,17 +76,31 @@ class Options:
 
     def numbers(self) -> Numbers:
         """Returns the options for the library."""
-        return Numbers(OWN_START if self.start is None else self.start, OWN_TICKS if self.ticks is None else self.ticks, self.seed, WHY if self.why else 0)
+        start = OWN_START if self.start is None else self.start
+        ticks = OWN_TICKS if self.ticks is None else self.ticks
+        return Numbers(start, ticks, self.seed, WHY if self.why else 0)
 
     def arguments(self) -> list[str]:
         """Returns the options for the program."""
-        given = [f"--{name}={value}" for name, value in (("start", self.start), ("ticks", self.ticks), ("seed", self.seed)) if value is not None]
+        values = ("start", self.start), ("ticks", self.ticks), ("seed", self.seed)
+        given = [f"--{name}={value}" for name, value in values if value is not None]
         return given + (["--why"] if self.why else [])
+
+
+@dataclass(frozen=True, slots=True)
+class Rows:
+    """All rows of a report: those with a type of their own in their order, the number of lines by outcome, and the
+    number of plans if every plan fails."""
+
+    typed: tuple[Row, ...]
+    lines: dict[str, int]
+    failing_plans: int | None
 
 
 @dataclass(frozen=True)
 class Report:
-    """A report: the mode, the exit status of the program, the bytes, the line of standard error, and whether the library or the program gave it."""
+    """A report: the mode, the exit status of the program, the bytes, the line of standard error, and whether the
+    library or the program gave it."""
 
     mode: str
     status: int
@@ -80,7 +113,12 @@ class Report:
         """All rows; a Fault if the text is no rows, as that of a migration."""
         if self.mode == "migrate":
             raise Fault("a migration gives a scenario and no rows: read `text`")
-        return read_rows(self.text.decode("utf-8", "replace"))
+        rows = read_rows(self.text.decode("utf-8", "replace"))
+        return Rows(
+            tuple(row for row in rows if not isinstance(row, (Lines, NoPlan))),
+            {row.outcome: row.count for row in rows if isinstance(row, Lines)},
+            next((row.plans for row in rows if isinstance(row, NoPlan)), None),
+        )
 
     def of_type(self, kind: type[RowType]) -> tuple[RowType, ...]:
         """Returns the rows of a type, in the report's order."""
@@ -88,26 +126,32 @@ class Report:
 
     @property
     def points(self) -> tuple[Point, ...]:
+        """The accepted reports."""
         return self.of_type(Point)
 
     @property
     def meetings(self) -> tuple[Meeting, ...]:
+        """The encounters."""
         return self.of_type(Meeting)
 
     @property
     def verdicts(self) -> tuple[Verdict, ...]:
+        """The stretches that are broken or open."""
         return self.of_type(Verdict)
 
     @property
     def alarms(self) -> tuple[Alarm, ...]:
+        """The alarms of `watch`."""
         return self.of_type(Alarm)
 
     @property
     def vessels(self) -> tuple[Vessel, ...]:
+        """The vessels."""
         return self.of_type(Vessel)
 
     @property
     def totals(self) -> tuple[Total, ...]:
+        """The totals of the rules."""
         return self.of_type(Total)
 
     @property
@@ -117,6 +161,7 @@ class Report:
 
     @property
     def reasons(self) -> tuple[Reason, ...]:
+        """Why every plan fails, if `why` was asked."""
         return self.of_type(Reason)
 
     @property
@@ -130,15 +175,17 @@ class Report:
         return self.rows.failing_plans
 
     def to_pandas(self) -> dict[str, typing.Any]:
-        """Returns a data frame for each type of row, by the name of the property; a Fault if pandas is not installed."""
+        """Returns a data frame for each type of row, by the property's name; a Fault if pandas is not installed."""
         try:
             pandas: typing.Any = importlib.import_module("pandas")
         except ImportError:
             raise Fault("to_pandas needs the package pandas; install python3-pandas") from None
-        kinds: dict[str, type[Row]] = {"points": Point, "meetings": Meeting, "verdicts": Verdict, "alarms": Alarm, "vessels": Vessel, "totals": Total, "plan": PlanLeg, "reasons": Reason}
         return {
-            name: pandas.DataFrame([asdict(row) for row in self.rows.typed if isinstance(row, kind)], columns=[field.name for field in fields(kind)])
-            for name, kind in kinds.items()
+            name: pandas.DataFrame(
+                [asdict(row) for row in self.rows.typed if isinstance(row, kind)],
+                columns=[field.name for field in fields(kind)],
+            )
+            for name, kind in TABLES.items()
         }
 
 
@@ -162,7 +209,8 @@ def open_library(path: str) -> ctypes.CDLL:
     except AttributeError:
         raise Fault(f"{path} is not the library colregs") from None
     if interface != INTERFACE:
-        raise Fault(f"{path} has interface {interface}, and this package needs {INTERFACE}; install the library and the package of one release")
+        raise Fault(f"{path} has interface {interface}, and this package needs {INTERFACE}; "
+                    "install the library and the package of one release")
     text, size = ctypes.c_char_p, ctypes.c_size_t
     call.restype = ctypes.c_uint8
     call.argtypes = [
@@ -188,7 +236,14 @@ def library_at(named: str | None) -> ctypes.CDLL | None:
     return None
 
 
-def by_library(library: ctypes.CDLL, mode: str, scenario: bytes, log: bytes, rows: bytes, options: Options) -> Report:
+def line_of(written: bytes) -> str:
+    """Returns the line of a fault as text, without its end."""
+    return written.decode("utf-8", "replace").rstrip("\n")
+
+
+def by_library(
+    library: ctypes.CDLL, mode: str, scenario: bytes, log: bytes, rows: bytes, options: Options
+) -> Report:
     """Returns the report that the library gives."""
     numbers, room, line_room = options.numbers(), 1 << 16, 256
     while True:
@@ -199,7 +254,8 @@ def by_library(library: ctypes.CDLL, mode: str, scenario: bytes, log: bytes, row
             out, room, ctypes.byref(length), line, line_room, ctypes.byref(line_length),
         )
         if length.value <= room and line_length.value <= line_room:
-            return Report(mode, status, ctypes.string_at(out, length.value), ctypes.string_at(line, line_length.value).decode("utf-8", "replace").rstrip("\n"), "library")
+            text, fault = ctypes.string_at(out, length.value), ctypes.string_at(line, line_length.value)
+            return Report(mode, status, text, line_of(fault), "library")
         room, line_room = max(room, length.value), max(line_room, line_length.value)
 
 
@@ -211,10 +267,11 @@ def by_program(program: str, mode: str, scenario: bytes, log: bytes, rows: bytes
             for name, content in zip(names, (scenario, rows)):
                 with open(name, "wb") as out:
                     out.write(content)
-            done = subprocess.run([program, mode, names[0], "--rows", names[1], *options.arguments()], input=log, stdout=subprocess.PIPE, stderr=subprocess.PIPE)
+            command = [program, mode, names[0], "--rows", names[1], *options.arguments()]
+            done = subprocess.run(command, input=log, capture_output=True)
         except OSError as error:
             raise Fault(f"{error.filename or program}: {reason(error)}") from None
-    line = done.stderr.decode("utf-8", "replace").rstrip("\n")
+    line = line_of(done.stderr)
     if done.returncode not in STATUSES:
         raise Fault(f"{program} ended with status {done.returncode}: {line}")
     return Report(mode, done.returncode, done.stdout, line, "program")
@@ -233,10 +290,13 @@ def report(
     program: str | None = None,
     whole: bool = True,
 ) -> Report:
-    """Returns the report of a mode on a log, from the library, or from the program if there is no library or a program is given.
+    """Returns the report of a mode on a log, from the library, or from the program if there is no library or a program
+    is given.
 
-    A scenario and a log are bytes, a text, or a `Path` of a file. `rows` are the rows `why` that `recheck` checks. A ValueError if a mode or an option is out of its range. If no whole
-    report comes (status 2 or more), a Fault with the program's line; with `whole=False` the report as far as it was settled, with its status. A MemoryError if memory runs out.
+    A scenario and a log are bytes, a text, or a `Path` of a file. `rows` are the rows `why` that `recheck` checks.
+    If no whole report comes (status 2 or more), it raises a Fault with the program's line; with `whole=False` it
+    returns the report as far as it was settled, with its status. It raises ValueError if a mode or an option is out of
+    its range, and MemoryError if memory runs out.
     """
     if mode not in MODES:
         raise ValueError(f"mode is {mode!r}, and has to be one of {', '.join(MODES)}")

@@ -1,4 +1,5 @@
-"""A headless Chromium that is asked over a pipe, by the DevTools protocol: what a page's script tells, its errors, and what it asks of a network."""
+"""A headless Chromium that is asked over a pipe, by the DevTools protocol: what a page's script returns, its errors,
+and what it asks of a network."""
 import base64
 import json
 import os
@@ -34,12 +35,15 @@ class Browser:
     def __init__(self, width: int = 1280, height: int = 900) -> None:
         self.folder = tempfile.TemporaryDirectory()
         to_browser, from_browser = os.pipe(), os.pipe()
-        words = [installed() or "", "--headless=new", "--no-sandbox", "--disable-gpu", "--remote-debugging-pipe", "--no-first-run", "--mute-audio",
-                 "--disable-background-networking", "--disable-component-update", "--disable-dev-shm-usage", "--hide-scrollbars",
-                 "--user-data-dir=" + self.folder.name, f"--window-size={width},{height}", "about:blank"]
+        words = [
+            installed() or "", "--headless=new", "--no-sandbox", "--disable-gpu", "--remote-debugging-pipe",
+            "--no-first-run", "--mute-audio", "--disable-background-networking", "--disable-component-update",
+            "--disable-dev-shm-usage", "--hide-scrollbars", "--user-data-dir=" + self.folder.name,
+            f"--window-size={width},{height}", "about:blank"
+        ]
         ends = to_browser[0], from_browser[1]
-        self.child = subprocess.Popen([sys.executable, "-c", LAUNCH, *map(str, ends), *words], stdin=subprocess.DEVNULL, stdout=subprocess.DEVNULL,
-                                      stderr=subprocess.DEVNULL, pass_fds=ends)
+        self.child = subprocess.Popen([sys.executable, "-c", LAUNCH, *map(str, ends), *words], stdin=subprocess.DEVNULL,
+                                      stdout=subprocess.DEVNULL, stderr=subprocess.DEVNULL, pass_fds=ends)
         os.close(to_browser[0])
         os.close(from_browser[1])
         self.out, self.source, self.held, self.number = to_browser[1], from_browser[0], b"", 0
@@ -115,9 +119,9 @@ class Browser:
             self.keep(told)
 
     def open(self, path: str, mark: str = "") -> None:
-        """Opens a page, and waits until it is loaded."""
+        """Opens a page by the path of a file or an address, and waits until it is loaded."""
         self.loaded = False
-        self.ask("Page.navigate", url="file://" + os.path.abspath(path) + mark)
+        self.ask("Page.navigate", url=path if "://" in path else "file://" + os.path.abspath(path) + mark)
         while not self.loaded:
             self.keep(self.message())
 
@@ -125,7 +129,9 @@ class Browser:
         """Returns the value of an expression of the page."""
         told = self.ask("Runtime.evaluate", expression=script, returnByValue=True, awaitPromise=True)
         if "exceptionDetails" in told:
-            raise RuntimeError(told["exceptionDetails"].get("exception", {}).get("description", "a fault in the script"))
+            raise RuntimeError(
+                told["exceptionDetails"].get("exception", {}).get("description", "a fault in the script")
+            )
         return told["result"].get("value")
 
     def picture(self, path: str, whole: bool = False) -> None:

@@ -1,4 +1,5 @@
-"""A log of vessels that keep course and speed, so near to each other that more than 4096 pairs are in contact; and the harbour of twenty."""
+"""A log of vessels that keep course and speed, so near to each other that more than 4096 pairs are in contact; and the
+harbour of twenty."""
 import functools
 import math
 import random
@@ -18,24 +19,29 @@ def log(vessels: int = 400, side: int = 28000) -> str:
     """Returns a report of each vessel in every minute, on a square with a side in metres."""
     draw, lines = random.Random(400), []
     for k in range(vessels):
-        x, y, course, speed = draw.uniform(0, side), draw.uniform(0, side), draw.randrange(3600), draw.randrange(60, 200)
+        x, y = draw.uniform(0, side), draw.uniform(0, side)
+        course, speed = draw.randrange(3600), draw.randrange(60, 200)
         for second in range(k % 60, STEPS * TICK + 60, 60):
             way = speed * second / 36000 * 1852
-            north, east = ((there + way * along) / 0.1852 for there, along in ((y, math.cos(math.radians(course / 10))), (
-                x, math.sin(math.radians(course / 10)))))
+            north, east = ((there + way * along) / 0.1852
+                           for there, along in ((y, math.cos(math.radians(course / 10))),
+                                                (x, math.sin(math.radians(course / 10)))))
             report = round(north), round(east), speed, course, course // 10, second % 60
-            lines.append((second, (block(START + second) + sentence(class_a(200000001 + k, report, 0)) + b"\n").decode()))
+            lines.append(
+                (second, (block(START + second) + sentence(class_a(200000001 + k, report, 0)) + b"\n").decode()))
     return "".join(line for _, line in sorted(lines, key=lambda entry: entry[0]))
 
 
 def wide() -> bytes:
-    """Returns the reports of 4200 vessels in pairs that meet head on, each pair far from all others, so that there are more than a run takes."""
+    """Returns the reports of 4200 vessels in pairs that meet head on, each pair far from all others, so that there are
+    more than a run takes."""
     lines = []
     for second in (0, 60, 120):
         for k in range(4200):
             pair, back = divmod(k, 2)
             east = round((3000 * (pair % 50) + (800 - 5 * second if back else 5 * second)) / 0.1852)
-            report = round(3000 * (pair // 50) / 0.1852), east, 97, 2700 if back else 900, 270 if back else 90, second % 60
+            report = round(3000 *
+                           (pair // 50) / 0.1852), east, 97, 2700 if back else 900, 270 if back else 90, second % 60
             lines.append(block(START + second) + sentence(class_a(200000001 + k, report)) + b"\n")
     return b"".join(lines)
 

@@ -1,14 +1,18 @@
 """Drawn logs: a join of shares against one run of the program over the whole, over many logs that are hard to cut.
 
-    drawn_logs.py PROGRAM [--first N] [--count N] [--keep DIR]
+    drawn_logs.py PROGRAM [--first N] [--count N] [--jobs N] [--seconds N] [--keep DIR]
 
-Each number draws one log, one scenario and one plan. In the log are shared MMSIs, jumps, repeats, late and future lines, lines without a stamp, damaged
-and overlong ones, messages in parts across files and windows, ship types that are reported once, vessels that lie still side by side, and meetings across
-cuts and edges of tiles. Formulas of one's own look back, and windows overlap by little or by half. A join has to be that of one run, or is refused, or
-each row in which they differ is marked or named in the doubts. Status 0 is that all numbers passed.
+Each number draws one log, one scenario and one plan. In the log are shared MMSIs, jumps, repeats, late and future
+lines, lines without a stamp, damaged and overlong ones, messages in parts across files and windows, ship types that are
+reported once, vessels that lie still side by side, and meetings across cuts and edges of tiles. Formulas of one's own
+look back, and windows overlap by little or by half. A join has to be that of one run, or is refused, or each row in
+which they differ is marked or named in the doubts. Status 0 is that all numbers passed.
 """
 import argparse
+import concurrent.futures
+import contextlib
 import gzip
+import io
 import math
 import os
 import random
@@ -19,27 +23,30 @@ import time
 from collections import Counter
 from dataclasses import dataclass, field
 
-if __name__ == "__main__":
-    sys.path[:0] = [os.path.dirname(os.path.dirname(os.path.abspath(__file__)))]
-from colregs.errors import Fault  # noqa: E402
-from colregs.io import sentences  # noqa: E402
-from colregs.model.scenario import Scenario  # noqa: E402
-from colregs.run.program import found  # noqa: E402
-from colregs.shares import cutter, join, plans, seen  # noqa: E402
-from colregs.shares.jobs import Job, job_of  # noqa: E402
+from crowd import stretches
+from colregs.errors import Fault
+from colregs.io import sentences
+from colregs.model.scenario import Scenario
+from colregs.run.program import found
+from colregs.shares import cutter, join, plans, seen, spans
+from colregs.shares.jobs import Job, job_of
+from colregs.shares.reads import Read
 
 START, TICK = 1700006400, 10
 FIRST_MMSI = 200000001
 PROGRESS = 100                      # logs between two lines on standard error
 METRE = 1 / 0.1852                  # units of 1/10000 minute at the equator, where the scenarios lie
 KNOT = 1852 / 3600                  # m/s
-FORMULAS = ("engaged -> clear(150)", "begin -> !O[60,900] begin", "O[0,300] risk -> G[0,60] clear(60)", "risk -> H[0,120] seen", "seen", "close(2000) -> F[0,60] engaged",
-            "(engaged S[0,600] begin) & opening -> clear(200)", "H[0,240] engaged -> opening", "begin -> F[0,120] !engaged", "!seen U[0,120] risk | true")
+FORMULAS = ("engaged -> clear(150)", "begin -> !O[60,900] begin", "O[0,300] risk -> G[0,60] clear(60)",
+            "risk -> H[0,120] seen", "seen", "close(2000) -> F[0,60] engaged",
+            "(engaged S[0,600] begin) & opening -> clear(200)", "H[0,240] engaged -> opening",
+            "begin -> F[0,120] !engaged", "!seen U[0,120] risk | true")
 
 
 @dataclass(frozen=True)
 class Theme:
-    """How likely each thing is that makes a log hard to cut; one theme has much of one thing, so that it is seldom hidden behind the others."""
+    """How likely each thing is that makes a log hard to cut; one theme has much of one thing, so that it is seldom
+    hidden behind the others."""
 
     late: float = 0.0
     repeated: float = 0.0
@@ -59,9 +66,11 @@ class Theme:
 
 
 MIXED = Theme(0.01, 0.02, 0.01, 0.01, 0.01, 0.002, 0.001, 0.004, 0.1)
-THEMES = (Theme(), MIXED, Theme(types=0.95, ranks=(1,), shared=0, parts=0.02), Theme(shared=0.6, wrong_place=0.02, repeated=0.05),
-          Theme(late=0.05, future=0.004, bare=0.02, ahead=0.5, shared=0), Theme(parts=0.15, damaged=0.03, overlong=0.01, types=0.9, ranks=(1,), tiles=((2, 1), (2, 2)), shared=0),
-          Theme(formulas=(2, 3), shared=0), Theme(moored=(3, 4), shared=0), MIXED)
+THEMES = (Theme(), MIXED, Theme(types=0.95, ranks=(1,), shared=0,
+                                parts=0.02), Theme(shared=0.6, wrong_place=0.02, repeated=0.05),
+          Theme(late=0.05, future=0.004, bare=0.02, ahead=0.5, shared=0),
+          Theme(parts=0.15, damaged=0.03, overlong=0.01, types=0.9, ranks=(1,), tiles=((2, 1), (2, 2)),
+                shared=0), Theme(formulas=(2, 3), shared=0), Theme(moored=(3, 4), shared=0), MIXED)
 
 
 @dataclass
@@ -74,15 +83,13 @@ class Drawn:
     ticks: int = 0
 
 
-def scenario_text(draw: random.Random, ticks: int, theme: Theme) -> str:
-    """Returns a scenario over `ticks` steps."""
-    formulas = draw.sample(FORMULAS, draw.choice(theme.formulas))
-    tables = "".join(f'[[formula]]\nname = "own{k}"\ntext = "{text}"\n' for k, text in enumerate(formulas))
+def scenario_text(ticks: int, gap: int = 200, slack: int = 30, watch: int = 3000, ta: int = 90, te: int = 300) -> str:
+    """Returns a scenario over `ticks` steps, to which a line `ranks` and formulas may be added."""
     return f"""version = 2
 window = {{ start = {START}, tick = {TICK}, ticks = {ticks} }}
 reference = {{ lat = 0, lon = 0 }}
-log = {{ gap = {draw.choice((40, 60, 200))}, slack = {draw.choice((0, 10, 30))}, max_speed = 400 }}
-detect = {{ watch = {draw.choice((1500, 3000))}, risk = 300, clear = 600, horizon = 600, doubt = 0, ahead = 60, reciprocal = 60 }}
+log = {{ gap = {gap}, slack = {slack}, max_speed = 400 }}
+detect = {{ watch = {watch}, risk = 300, clear = 600, horizon = 600, doubt = 0, ahead = 60, reciprocal = 60 }}
 act = {{ steady_turn = 50, apparent_turn = 200, steady_speed = 10, apparent_speed = 50 }}
 [rules]
 safe_head_on = 200
@@ -92,17 +99,26 @@ safe_other = 100
 overtake = 150
 close = 300
 t8 = 60
-ta = {draw.choice((30, 90))}
+ta = {ta}
 tl = 30
 tw = 60
-te = {draw.choice((60, 300))}
-ranks = {draw.choice(theme.ranks)}
-{tables}"""
+te = {te}
+"""
 
 
-def report(mmsi: int, second: float, x: float, y: float, speed: float, course: float, status: int) -> list[tuple[int, int]]:
+def draw_scenario(draw: random.Random, ticks: int, theme: Theme) -> str:
+    """Draws a scenario over `ticks` steps, with formulas of its own."""
+    formulas = draw.sample(FORMULAS, draw.choice(theme.formulas))
+    tables = "".join(f'[[formula]]\nname = "own{k}"\ntext = "{text}"\n' for k, text in enumerate(formulas))
+    choices: tuple[tuple[int, ...], ...] = ((40, 60, 200), (0, 10, 30), (1500, 3000), (30, 90), (60, 300))
+    text = scenario_text(ticks, *(draw.choice(numbers) for numbers in choices))
+    return f"{text}ranks = {draw.choice(theme.ranks)}\n{tables}"
+
+
+def report(mmsi: int, second: float, x: float, y: float, speed: float, course: float, status: int) -> sentences.Fields:
     """Returns the fields of a position report of message 1."""
-    units = round(y * METRE), round(x * METRE), round(speed * 10), round(course * 10) % 3600, round(course) % 360, int(second) % 60
+    units = round(y * METRE), round(x * METRE), round(
+        speed * 10), round(course * 10) % 3600, round(course) % 360, int(second) % 60
     return sentences.class_a(mmsi, units, status)
 
 
@@ -110,27 +126,19 @@ def stamped(at: float, sentence: bytes, station: bytes = b"") -> bytes:
     return sentences.block(START + int(at), station) + sentence
 
 
-def body_of(fields: list[tuple[int, int]]) -> tuple[bytes, bytes]:
-    """Returns the payload and the fill of a message."""
-    parts = sentences.sentence(fields).split(b",")
-    return parts[5], parts[6][:1]
-
-
-def in_parts(fields: list[tuple[int, int]], key: bytes, channel: bytes, damage: int) -> list[bytes]:
+def in_parts(fields: sentences.Fields, key: bytes, channel: bytes, damage: int) -> list[bytes]:
     """Returns the sentences of a message in two parts; `damage` is the number of a part whose sum is wrong."""
-    payload, fill = body_of(fields)
+    payload, fill = sentences.payload_of(fields)
     cut, made = len(payload) * 2 // 3, []
-    for number, (letters, rest) in enumerate(((payload[:cut], b"0"), (payload[cut:], fill)), 1):
-        body = b"AIVDM,2,%d,%s,%s,%s,%s" % (number, key, channel, letters, rest)
-        made.append(b"!%s*%02X" % (body, sentences.total(body) ^ (number == damage)))
+    for number, (letters, filled) in enumerate(((payload[:cut], 0), (payload[cut:], fill)), 1):
+        line = sentences.part(letters, filled, channel=channel, count=2, number=number, sequence=key)
+        made.append(line[:-2] + b"%02X" % (int(line[-2:], 16) ^ (number == damage)))
     return made
 
 
-def voyage(mmsi: int, kind: int) -> list[tuple[int, int]]:
+def voyage(mmsi: int, kind: int) -> sentences.Fields:
     """Returns the fields of message 5 with a ship type."""
-    hull = list(zip((20, 30, 5, 5), (9, 9, 6, 6)))
-    return ([(5, 6), (0, 2), (mmsi, 30), (0, 2), (0, 30)] + sentences.six_bit_text("CALL", 7) + sentences.six_bit_text(f"V{mmsi % 100}", 20) + [(kind, 8)]
-            + hull + [(0, 4), (0, 20), (0, 8)] + sentences.six_bit_text("PORT", 20) + [(0, 2)])
+    return sentences.voyage(mmsi, f"V{mmsi % 100}", kind, (20, 30, 5, 5), "PORT")
 
 
 class Log:
@@ -142,7 +150,7 @@ class Log:
     def add(self, at: float, line: bytes) -> None:
         self.lines.append((at, line))
 
-    def one_line(self, at: float, fields: list[tuple[int, int]]) -> None:
+    def one_line(self, at: float, fields: sentences.Fields) -> None:
         """Adds a message, now and then late, twice, without a stamp, damaged or in parts."""
         draw, theme = self.draw, self.theme
         names = ("late", "repeated", "bare", "damaged", "parts", "overlong", "future")
@@ -169,7 +177,7 @@ class Log:
         else:
             self.add(at, line)
 
-    def parts(self, at: float, fields: list[tuple[int, int]]) -> None:
+    def parts(self, at: float, fields: sentences.Fields) -> None:
         draw = self.draw
         damage = draw.choice((1, 2)) if draw.random() < 4 * self.theme.damaged else 0
         for k, part in enumerate(in_parts(fields, b"%d" % draw.randrange(3), draw.choice((b"A", b"B")), damage)):
@@ -184,7 +192,8 @@ class Log:
         else:
             self.one_line(at, sentences.hull_part(mmsi, kind, (20, 30, 5, 5)))
 
-    def track(self, mmsi: int, x: float, y: float, speed: float, course: float, begin: float, end: float, every: float, moored: bool) -> None:
+    def track(self, mmsi: int, x: float, y: float, speed: float, course: float, begin: float, end: float, every: float,
+              moored: bool) -> None:
         """Adds the reports of a vessel from a place on, with turns."""
         draw, at = self.draw, begin + self.draw.uniform(0, every)
         status = draw.choice((0, 15, 15, 15, 15, 8, 7, 3))
@@ -196,9 +205,12 @@ class Log:
                 course = (course + back) % 360
             x += speed * KNOT * (at - before) * math.sin(math.radians(course))
             y += speed * KNOT * (at - before) * math.cos(math.radians(course))
-            shown = (x + draw.choice((9000, -20000)), y) if draw.random() < self.theme.wrong_place else (x, y)        # a wrong place
+            # a wrong place
+            shown = (x + draw.choice((9000, -20000)), y) if draw.random() < self.theme.wrong_place else (x, y)
             self.one_line(at, report(mmsi, at, *shown, speed, course, status))
-            before, at = at, at + every * (draw.uniform(0.9, 1.1) if moored or draw.random() < 0.98 else draw.uniform(3, 12))
+            before, at = at, at + every * (
+                draw.uniform(0.9, 1.1) if moored or draw.random() < 0.98 else draw.uniform(3, 12)
+            )
 
 
 def draw_tracks(draw: random.Random, log: Log) -> None:
@@ -210,15 +222,18 @@ def draw_tracks(draw: random.Random, log: Log) -> None:
         begin = max(0.0, meet - draw.uniform(300, 2500))
         way = speed * KNOT * (begin - meet)
         end = min(float(seconds), meet + draw.uniform(300, 2500))
-        log.track(mmsi, x + way * math.sin(math.radians(course)), y + way * math.cos(math.radians(course)), speed, course, begin, end, draw.choice((8, 10, 25)), False)
+        log.track(mmsi, x + way * math.sin(math.radians(course)), y + way * math.cos(math.radians(course)), speed,
+                  course, begin, end, draw.choice((8, 10, 25)), False)
         if draw.random() < log.theme.types:
             log.type_of(mmsi, draw.choice((begin, begin, draw.uniform(begin, end), draw.uniform(0, seconds))))
         if draw.random() < log.theme.shared:
             other = draw.choice((30000.0, 5000.0, 800.0))
-            log.track(mmsi, x + other, y, draw.choice((0, 6)), draw.uniform(0, 360), draw.uniform(0, seconds / 2), seconds, draw.choice((10, 30)), False)
+            log.track(mmsi, x + other, y, draw.choice((0, 6)), draw.uniform(0, 360), draw.uniform(0, seconds / 2),
+                      seconds, draw.choice((10, 30)), False)
         mmsi += 1
     for _ in range(draw.choice(log.theme.moored)):
-        log.track(mmsi, draw.uniform(-200, 200), draw.uniform(-200, 200), draw.choice((0, 0.1)), draw.uniform(0, 360), 0, seconds, draw.choice((30, 55)), True)
+        log.track(mmsi, draw.uniform(-200, 200), draw.uniform(-200, 200), draw.choice((0, 0.1)), draw.uniform(0, 360),
+                  0, seconds, draw.choice((30, 55)), True)
         mmsi += 1
 
 
@@ -226,7 +241,7 @@ def drawn(number: int) -> Drawn:
     """Returns the log of a number, with its scenario and plan."""
     draw, theme = random.Random(number), THEMES[number % len(THEMES)]
     made = Drawn(ticks=draw.randrange(150, 400))
-    made.text = scenario_text(draw, made.ticks, theme)
+    made.text = draw_scenario(draw, made.ticks, theme)
     log = Log(draw, made.ticks * TICK, theme)
     draw_tracks(draw, log)
     if draw.random() < theme.ahead:
@@ -235,8 +250,9 @@ def drawn(number: int) -> Drawn:
             log.add(at + 0.5, stamped(at + ahead, line.rpartition(b"\\")[2]))
     made.lines = sorted(log.lines, key=lambda entry: entry[0])
     every = draw.randrange(45, 140)
-    made.wanted = plans.Wanted(None, draw.choice((None, made.ticks)), every, draw.choice((None, None, draw.randrange(420, 900))),
-                               draw.choice((None, None, None, 2, 3)), draw.choice(theme.tiles))
+    made.wanted = plans.Wanted(None, draw.choice((None, made.ticks)), every,
+                               draw.choice((None, None, draw.randrange(420, 900))), draw.choice(
+                                   (None, None, None, 2, 3)), draw.choice(theme.tiles))
     return made
 
 
@@ -264,10 +280,19 @@ class Results:
             raise Fault(f"status {done.returncode}, {done.stderr.decode()}")
         return done.stdout
 
+    def check_reads(self, job: Job, cut: cutter.Cut, log: bytes) -> None:
+        """Compares a share's log with the one that is made of the bytes that matter alone."""
+        of_blocks = b"".join(
+            cutter.share_of_files(job.files, [[Read(*read) for read in of_file] for of_file in job.reads or []], cut))
+        if of_blocks != log:
+            raise AssertionError(f"{job.words()}: its log by blocks is another")
+
     def result(self, job: Job) -> str:
         """Returns the result of a job."""
         folder, lines, cut = os.path.dirname(self.of.path), read_lines(job.files), job.cut(self.of)
         log = b"".join(cutter.share_lines(lines, cut) if cut else lines)
+        if cut and job.reads is not None and job.start // TICK % 2:
+            self.check_reads(job, cut, log)
         text = self.run("audit", job, log, folder)
         if job.is_part(self.of):
             points = self.run("points", job, log, folder).splitlines(True)
@@ -284,6 +309,12 @@ def read_lines(files: list[str]) -> list[bytes]:
     return whole.splitlines(True) if b"\r" not in whole else [line + b"\n" for line in whole.split(b"\n")]
 
 
+def packed(text: bytes, members: int) -> bytes:
+    """Returns a text packed by gzip, in members that begin anywhere."""
+    return b"".join(
+        gzip.compress(text[len(text) * k // members:len(text) * (k + 1) // members], 1) for k in range(members))
+
+
 def write_files(made: Drawn, folder: str, number: int) -> list[str]:
     """Writes the log in one to three files, some of them packed; returns their names."""
     draw, count = random.Random(number + 1), 1 + number % 3
@@ -293,27 +324,26 @@ def write_files(made: Drawn, folder: str, number: int) -> list[str]:
         text = b"".join(line + b"\n" for _, line in made.lines[begin:end])
         names.append(os.path.join(folder, f"log{k}" + (".gz" if draw.random() < 0.3 else "")))
         with open(names[-1], "wb") as out:
-            out.write(gzip.compress(text, 1) if names[-1].endswith(".gz") else text)
+            out.write(packed(text, draw.choice((1, 1, 4))) if names[-1].endswith(".gz") else text)
     return names
-
-
-def stretches(text: str) -> list[str]:
-    return [line for line in text.splitlines() if line.startswith(("meeting,", "verdict,"))]
 
 
 def is_named(row: str, summary: join.Summary, marked: list[str]) -> bool:
     """Returns whether the doubts or a marked row of its pair name a row of one run that the join lacks."""
     fields = row.split(",")
     at = 4 if fields[0] == "meeting" else 5
-    pair, first, last = (int(fields[1]), int(fields[2])), START + int(fields[at]) * TICK, START + (int(fields[at + 1]) + 1) * TICK
+    pair, first, last = (int(fields[1]),
+                         int(fields[2])), START + int(fields[at]) * TICK, START + (int(fields[at + 1]) + 1) * TICK
     for doubt in summary.doubts:
         who = {doubt.subject, doubt.other} - {0}
-        if doubt.first < last and first < doubt.last and (not who or (pair == (doubt.subject, doubt.other) if doubt.other else who <= set(pair))):
+        if doubt.first < last and first < doubt.last and (
+                not who or (pair == (doubt.subject, doubt.other) if doubt.other else who <= set(pair))):
             return True
     for other in marked:
         told = other.split(",")
         place = 4 if told[0] == "meeting" else 5
-        if told[:3] == fields[:3] and int(told[place]) <= int(fields[at + 1]) and int(fields[at]) <= int(told[place + 1]):
+        if told[:3] == fields[:3] and int(told[place]) <= int(fields[at + 1]) and int(fields[at]) <= int(
+                told[place + 1]):
             return True
     return False
 
@@ -325,9 +355,12 @@ def tried(number: int, program: str, folder: str) -> Outcome:
     with open(path, "w", encoding="utf-8") as out:
         out.write(made.text)
     files, scenario, summary = write_files(made, folder, number), Scenario(path), join.Summary()
+    # small blocks, so that windows begin and end within and between them
+    spans.PIECE = 200 + number % 7 * 900
     try:
         jobs = [job_of(job) for job in plans.plan(files, made.wanted, scenario, program)]
-        joined = stretches("\n".join(join.joined(jobs, Results(scenario, program), scenario, summary)))     # type: ignore[arg-type]
+        lines = join.joined(jobs, Results(scenario, program), scenario, summary)        # type: ignore[arg-type]
+        joined = stretches("\n".join(lines))
     except Fault as fault:
         return Outcome("refused: " + " ".join(word for word in str(fault).split() if word.isalpha())[:60])
     whole = jobs[0].whole or [0, 0]
@@ -337,10 +370,20 @@ def tried(number: int, program: str, folder: str) -> Outcome:
     faults = [f"not of one run: {row}" for row in joined if row not in wanted and row not in marked]
     faults += [f"missing: {row}" for row in wanted if row not in joined and not is_named(row, summary, marked)]
     faults += [f"twice: {row}" for row, count in Counter(joined).items() if count > 1]
-    word = "one window" if len({job.window() for job in jobs}) == 1 else "marked" if marked or summary.doubts else "equal"
+    word = "one window" if len({job.window()
+                                for job in jobs}) == 1 else "marked" if marked or summary.doubts else "equal"
     if word != "marked" and joined != wanted and not faults:
         faults = ["the order differs"]
     return Outcome(word, faults, len(joined), len(marked))
+
+
+def of_number(work: tuple[int, str, str | None, float | None]) -> Outcome | None:
+    """Returns what came of a number; None if its time was over."""
+    number, program, keep, end = work
+    if end is not None and time.time() > end:
+        return None
+    with tempfile.TemporaryDirectory() as folder, contextlib.redirect_stderr(io.StringIO()):
+        return tried(number, program, keep or folder)
 
 
 def main() -> int:
@@ -348,23 +391,28 @@ def main() -> int:
     words.add_argument("program")
     words.add_argument("--first", type=int, default=1)
     words.add_argument("--count", type=int, default=100)
+    words.add_argument("--jobs", type=int, default=1, help="logs at a time")
+    words.add_argument("--seconds", type=float, help="begin no log after this time")
     words.add_argument("--keep", metavar="DIR", help="leave the files of the last number here")
     given = words.parse_args()
+    if given.keep:
+        os.makedirs(given.keep, exist_ok=True)
     counts, failed, rows, marked, begin = Counter[str](), 0, 0, 0, time.time()
-    for number in range(given.first, given.first + given.count):
-        with tempfile.TemporaryDirectory() as folder:
-            if given.keep:
-                os.makedirs(given.keep, exist_ok=True)
-            outcome = tried(number, found(given.program), given.keep or folder)
-        counts[outcome.word] += 1
-        rows, marked = rows + outcome.rows, marked + outcome.marked
-        if outcome.faults:
-            failed += 1
-            print(f"{number}: {outcome.word}: " + "; ".join(outcome.faults[:4]), flush=True)
-        if (number + 1 - given.first) % PROGRESS == 0:
-            print(f"{number + 1 - given.first} of {given.count} logs, {failed} failed", file=sys.stderr, flush=True)
-    print(f"{given.count} logs, {rows} rows, {marked} of them marked, {failed} failed, {time.time() - begin:.0f} s: {dict(counts)}")
-    return 1 if failed else 0
+    end = begin + given.seconds if given.seconds else None
+    work = [(number, found(given.program), given.keep, end) for number in range(given.first, given.first + given.count)]
+    with concurrent.futures.ProcessPoolExecutor(given.jobs) as pool:
+        for (number, *_), outcome in zip(work, pool.map(of_number, work, chunksize=4)):
+            if outcome is None:
+                continue
+            counts[outcome.word] += 1
+            rows, marked, failed = rows + outcome.rows, marked + outcome.marked, failed + bool(outcome.faults)
+            if outcome.faults:
+                print(f"{number}: {outcome.word}: " + "; ".join(outcome.faults[:4]), flush=True)
+            if counts.total() % PROGRESS == 0:
+                print(f"{counts.total()} of {given.count} logs, {failed} failed", file=sys.stderr, flush=True)
+    print(f"{counts.total()} logs, {rows} rows, {marked} of them marked, {failed} failed, {time.time() - begin:.0f} s: "
+          f"{dict(counts)}")
+    return 1 if failed or not counts else 0
 
 
 if __name__ == "__main__":

@@ -50,19 +50,23 @@ class InFolder(unittest.TestCase):
         self.addCleanup(folder.cleanup)
         self.folder = folder.name
 
-    def path(self, name: str) -> str:
+    def path(self, *names: str) -> str:
         """Returns the path of a file in the folder."""
-        return os.path.join(self.folder, name)
+        return os.path.join(self.folder, *names)
 
-    def write(self, name: str, words: str | bytes) -> str:
-        """Writes a file with this text or these bytes; returns its path."""
-        with open(self.path(name), "wb") as out:
+    def write(self, name: str, words: str | bytes, mode: int = 0o644) -> str:
+        """Writes a file with this text or these bytes, and its folders; returns its path."""
+        path = self.path(name)
+        os.makedirs(os.path.dirname(path), exist_ok=True)
+        with open(path, "wb") as out:
             out.write(words if isinstance(words, bytes) else words.encode())
-        return self.path(name)
+        os.chmod(path, mode)
+        return path
 
     def tool(self, name: str, *words: str, source: bytes = b"") -> tuple[int, str, str]:
         """Runs a tool; returns its status, standard output and standard error."""
-        done = subprocess.run([sys.executable, os.path.join(TOOLS, name), *words], input=source, capture_output=True, cwd=self.folder, timeout=120)
+        done = subprocess.run([sys.executable, os.path.join(TOOLS, name), *words], input=source, capture_output=True,
+                              cwd=self.folder, timeout=120)
         return done.returncode, done.stdout.decode("utf-8", "replace"), done.stderr.decode("utf-8", "replace")
 
     def within(self, name: str, *words: str) -> tuple[int, str, str]:
@@ -72,7 +76,8 @@ class InFolder(unittest.TestCase):
         os.chdir(self.folder)
         sys.argv = [name, *words]
         try:
-            with contextlib.redirect_stdout(out), contextlib.redirect_stderr(error), self.assertRaises(SystemExit) as ended:
+            with contextlib.redirect_stdout(out), contextlib.redirect_stderr(error), self.assertRaises(
+                    SystemExit) as ended:
                 command()
         finally:
             os.chdir(before)

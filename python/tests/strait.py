@@ -1,6 +1,8 @@
-"""An hour in a strait, made by a script: through traffic, moored pairs, a pilot transfer, a tug with her tow, fishers, and a vessel that vanishes.
+"""An hour in a strait, made by a script: through traffic, moored pairs, a pilot transfer, a tug with her tow, fishers,
+and a vessel that vanishes.
 
-All is on a plane near the equator, where a minute of longitude and of latitude is 1852 m. Each vessel goes straight from one point of her way to the next.
+All is on a plane near the equator, where a minute of longitude and of latitude is 1852 m. Each vessel goes straight
+from one point of her way to the next.
 """
 import math
 from collections.abc import Iterator
@@ -23,7 +25,8 @@ Corner = tuple[float, float, float]         # seconds after the start, and metre
 CEDAR, CHERRY, PILOT, SHIP, TUG, BARGE, NET, TRAWL, NORTH, NORTHERN = range(200000401, 200000411)
 MOORED = tuple(range(200000501, 200000513))             # twelve vessels in six pairs
 TRAFFIC = tuple(range(200000601, 200000617))            # sixteen vessels, two in each lane
-LEAST, NEAREST, SILENT = 120, 1800, 1560                # m and s: CEDAR and CHERRY would pass; CHERRY's last report is four minutes before
+# m and s: CEDAR and CHERRY would pass; CHERRY's last report is four minutes before
+LEAST, NEAREST, SILENT = 120, 1800, 1560
 
 
 @dataclass(frozen=True)
@@ -46,13 +49,15 @@ class Vessel:
             for second in range(math.ceil(first[0] / self.every) * self.every, math.ceil(last[0]), self.every):
                 part = (second - first[0]) / seconds
                 x, y = first[1] + east * part, first[2] + north * part
-                report = round(y / UNIT), round(x / UNIT), round(10 * speed), round(10 * course) % 3600, 511, second % 60
+                report = round(y / UNIT), round(x / UNIT), round(
+                    10 * speed), round(10 * course) % 3600, 511, second % 60
                 if second <= self.until:
                     yield second, block(START + second) + sentence(class_a(self.mmsi, report, self.status))
 
 
 def straight(speed: float, course: float, second: float, x: float, y: float) -> tuple[Corner, ...]:
-    """Returns the way of a vessel that keeps her speed in knots and course in degrees, and is at a place at a moment."""
+    """Returns the way of a vessel that keeps her speed in knots and course in degrees, and is at a place at a
+    moment."""
     east, north = (speed * KNOT * part for part in (math.sin(math.radians(course)), math.cos(math.radians(course))))
     return tuple((at, x + east * (at - second), y + north * (at - second)) for at in (0, STEPS * TICK))
 
@@ -63,18 +68,22 @@ def vessels() -> Iterator[Vessel]:
     yield Vessel(CHERRY, "CHERRY", 80, straight(14, 270, NEAREST, 0, LEAST), until=SILENT)
     knots = 8 * KNOT
     yield Vessel(SHIP, "SHIP", 70, straight(8, 90, 0, -8000, 20000))
-    yield Vessel(PILOT, "PILOT ONE", 50, ((0, -2000, 17000), (1200, -8000 + 1200 * knots, 19975), (1500, -8000 + 1500 * knots, 19975), (3600, -2000, 17000)))
+    yield Vessel(PILOT, "PILOT ONE", 50, ((0, -2000, 17000), (1200, -8000 + 1200 * knots, 19975),
+                                          (1500, -8000 + 1500 * knots, 19975), (3600, -2000, 17000)))
     yield Vessel(TUG, "TUG", 52, straight(5, 90, 0, -6000, 40000))
     yield Vessel(BARGE, "BARGE", 70, straight(5, 90, 0, -6250, 40000))
     yield Vessel(NET, "HERRING", 30, straight(4, 0, 1800, 0, 60000), status=7)
     yield Vessel(TRAWL, "TRAWL", 30, straight(3, 90, 1800, 200, 60000), status=7)
-    for mmsi, name, east, speed in ((NORTH, "NORTH", -30000, 12), (NORTHERN, "NORTHERN", -29600, 13)):        # courses about north: 2 degrees to either side
+    # courses about north: 2 degrees to either side
+    for mmsi, name, east, speed in ((NORTH, "NORTH", -30000, 12), (NORTHERN, "NORTHERN", -29600, 13)):
         way = [(60 * k, east + 60 * (k % 2), 60 * k * speed * KNOT - 30000 + 1000 * (mmsi == NORTH)) for k in range(61)]
         yield Vessel(mmsi, name, 70, tuple(way))
     for k, mmsi in enumerate(MOORED):
-        yield Vessel(mmsi, f"MOORED {k}", 70, ((0, 300 * (k // 2) + 25 * (k % 2), -30000), (3600, 300 * (k // 2) + 25 * (k % 2), -30000)), 5, 180)
+        east = 300 * (k // 2) + 25 * (k % 2)
+        yield Vessel(mmsi, f"MOORED {k}", 70, ((0, east, -30000), (3600, east, -30000)), 5, 180)
     for k, mmsi in enumerate(TRAFFIC):
-        yield Vessel(mmsi, f"THROUGH {k}", 70, straight(10 + k % 2, 90, 1800, 0, 70000 + 12000 * (k // 2) + 150 * (k % 2)))
+        yield Vessel(mmsi, f"THROUGH {k}", 70,
+                     straight(10 + k % 2, 90, 1800, 0, 70000 + 12000 * (k // 2) + 150 * (k % 2)))
 
 
 def log() -> str:

@@ -1,4 +1,5 @@
-"""The doctor names each wrong use, and is silent on the shipped examples. Where the program ends with status 0 all the same, that is said here."""
+"""The doctor names each wrong use, and is silent on the shipped examples. Where the program ends with status 0 all the
+same, that is said here."""
 import gzip
 import os
 import re
@@ -35,6 +36,10 @@ SCENARIOS = [
     ("milliseconds for seconds", "start = 1700000000", "start = 1700000000000", True),
     ("minutes for seconds", "horizon = 900", "horizon = 20", False),
     ("numbers at odds", "steady_turn = 50", "steady_turn = 300", False),
+    ("numbers at odds", "safe = 500", "safe = 5000", False),
+    ("time longer than the window", "tw = 120", "tw = 1200", False),
+    ("gap no longer than a tick", "gap = 60", "gap = 10", False),
+    ("empty subjects", "version = 1", "version = 1\nsubjects = []", False),
     ("window misses the log", "start = 1700000000", "start = 1700003600", False),
     ("window misses the log", "ticks = 75", "ticks = 750", False),
     ("region misses the log", "lon = -74100000", "lon = 74100000", False),
@@ -82,9 +87,9 @@ class WrongUses(InFolder):
 
     def test_a_log_that_cannot_be_read_as_it_is_is_named(self) -> None:
         table = "MMSI,BaseDateTime,LAT,LON,SOG,COG,Heading\n200000011,2023-11-14T22:13:21,48.25,-123.5,14,90,90\n"
-        logs: tuple[tuple[str, str | bytes], ...] = (
-            ("packed log", gzip.compress(LOG.encode())), ("log in UTF-16", LOG.encode("utf-16")), ("no sentences", table),
-            ("no sentences", "nothing of this is AIS\n"), ("empty log", ""))
+        logs: tuple[tuple[str, str | bytes],
+                    ...] = (("packed log", gzip.compress(LOG.encode())), ("log in UTF-16", LOG.encode("utf-16")),
+                            ("no sentences", table), ("no sentences", "nothing of this is AIS\n"), ("empty log", ""))
         for name, log in logs:
             with self.subTest(name):
                 self.assertEqual(self.names(TOML, log), [name])
@@ -93,16 +98,17 @@ class WrongUses(InFolder):
         lines = LOG.splitlines()
         bare = re.sub(r"(?m)^\\[^\\]*\\", "", LOG)
         sent = re.compile(r"(?m)\*..$")
-        for name, log in (("no times", bare), ("no times", "\n".join(lines[:20]) + bare), ("unsorted lines", "\n".join(lines[150:] + lines[:150])),
-                          ("no reports", "\n".join("1700000001 " + line for line in lines)),
-                          ("damaged sentences", sent.sub("*00", LOG)), ("damaged tag blocks", LOG.replace("*5", "*6", 200)),
+        for name, log in (("no times", bare), ("no times", "\n".join(lines[:20]) + bare),
+                          ("unsorted lines", "\n".join(lines[150:] + lines[:150])), ("no reports", "\n".join(
+                              "1700000001 " + line for line in lines)), ("damaged sentences", sent.sub(
+                                  "*00", LOG)), ("damaged tag blocks", LOG.replace("*5", "*6", 200)),
                           ("parts without their messages", "\n".join(line for line in lines if ",2,1," not in line))):
             with self.subTest(name):
                 self.assertIn(name, self.names(TOML, log))
 
     def test_a_gap_that_is_shorter_than_the_reports_are_apart_is_named(self) -> None:
-        """Each vessel reports every 10 s; with a gap of 5 s no two reports are joined."""
-        short = TOML.replace("tick = 10 ", "tick = 5 ").replace("gap = 60 ", "gap = 5 ")
+        """Each vessel reports every 10 s; with a gap of 6 s no two reports are joined."""
+        short = TOML.replace("tick = 10 ", "tick = 5 ").replace("gap = 60 ", "gap = 6 ")
         self.assertEqual(self.names(short, LOG), ["gap shorter than reports are apart"])
 
     def test_a_shared_mmsi_is_named(self) -> None:
@@ -113,37 +119,46 @@ class WrongUses(InFolder):
         self.assertRegex(told[0], "^shared MMSI: 200000011 goes on at two places")
 
     def test_one_wild_place_is_no_shared_mmsi(self) -> None:
-        self.assertEqual(self.names(TOML, by_time(LOG.splitlines() + [report(1700000102, 200000011, BEFORE + 300000, MIDDLE)])), [])
+        self.assertEqual(
+            self.names(TOML, by_time(LOG.splitlines() + [report(1700000102, 200000011, BEFORE + 300000, MIDDLE)])), [])
 
     def test_a_station_that_is_no_ship_is_named(self) -> None:
         """A buoy (message 21) with a ship's number that sends positions too."""
         aid = sentences.sentence([(21, 6), (0, 2), (200000014, 30), (0, 234)])
         told = words_of(self.found(TOML, by_time(LOG.splitlines() + ["\\c:1700000300*5C\\" + aid.decode()])))
-        self.assertEqual(told, ["station that is no ship: 200000014 is judged as a vessel, and sends an aid to navigation's report (message 21)"])
+        self.assertEqual(told, ["station that is no ship: 200000014 is judged as a vessel, and sends an aid to "
+                                "navigation's report (message 21)"])
         name = sentences.block(1700000300) + sentences.sentence(sentences.name_part(200000014, "NET 14 86%"))
         self.assertEqual(self.names(TOML, by_time(LOG.splitlines() + [name.decode()])), ["station that is no ship"])
 
     def test_a_clock_in_local_time_is_named_by_base_stations(self) -> None:
-        """A base station (message 4) that tells 22:15:00 UTC of 14 November 2023 in a line of an hour later."""
+        """A base station (message 4) that sends 22:15:00 UTC of 14 November 2023 in a line of an hour later."""
         fields = [(4, 6), (0, 2), (2655651, 30), (2023, 14), (11, 4), (14, 5), (22, 5), (15, 6), (0, 6), (0, 90)]
         line = (sentences.block(1700000100 + 3600) + sentences.sentence(fields)).decode()
-        later = re.sub(r"\\c:17000(\d{5})\*..\\", lambda found: sentences.block(1700000000 + int(found[1]) + 3600).decode(), LOG)
+        later = re.sub(r"\\c:17000(\d{5})\*..\\",
+                       lambda found: sentences.block(1700000000 + int(found[1]) + 3600).decode(), LOG)
         toml = TOML.replace("start = 1700000000", "start = 1700003600")
         self.assertEqual(self.names(toml, later), [])
         told = words_of(self.found(toml, by_time(later.splitlines() + [line])))
-        self.assertEqual(told, ["clock that is off: the log's times are 3600 s (1.00 hours) ahead of the UTC that base stations tell in 1 messages"])
+        self.assertEqual(told, ["clock that is off: the log's times are 3600 s (1.00 hours) ahead of the UTC that base "
+                                "stations send in 1 messages"])
 
     def test_times_that_have_not_come_yet_are_named(self) -> None:
         """The crossings 1024 weeks, 619315200 s, later: on 30 June 2043, until which this test holds."""
         later = re.sub(r"\\c:(1700\d{6})\*..\\", lambda found: sentences.block(int(found[1]) + 619315200).decode(), LOG)
         told = words_of(self.found(TOML.replace("start = 1700000000", "start = 2319315200"), later))
         self.assertEqual(len(told), 1)
-        self.assertRegex(told[0], "^times in the future: the log has times up to 2043-06-30 .*1024 weeks of a GPS roll-over it would be 2023-11-14 22:2")
+        self.assertRegex(told[0], "^times in the future: the log has times up to 2043-06-30 .*1024 weeks of a GPS "
+                                  "roll-over it would be 2023-11-14 22:2")
 
     def test_verdicts_of_vessels_that_lie_still_are_named(self) -> None:
-        """The vessel that is to give way tells 0.3 knots all the time, as one that drifts about her anchor, and another passes near."""
+        """The vessel that is to give way reports 0.3 knots all the time, as one that drifts about her anchor, and
+        another passes near."""
         still = [report(1700000001 + 30 * k, 200000041, BEFORE, MIDDLE, way=3, course=0, heading=0) for k in range(26)]
-        past = [report(1700000002 + 30 * k, 200000042, BEFORE + 300, MIDDLE + 4000 - 260 * k, way=120, course=2700, heading=270) for k in range(26)]
+        past = [
+            report(1700000002 + 30 * k, 200000042, BEFORE + 300, MIDDLE + 4000 - 260 * k, way=120, course=2700,
+                   heading=270) for k in range(26)
+        ]
         told = self.found(TOML, by_time(still + past))
         self.assertEqual([finding.name for finding in told], ["verdicts at rest"])
         self.assertRegex(told[0].words, "^200000041 never makes 0.5 knots, and has [1-9]")
@@ -162,26 +177,31 @@ class WrongUses(InFolder):
             self.assertEqual(self.names(TOML, LOG, other), [name])
         with_options = self.program_with("--ticks", "40")
         self.assertEqual(self.names(TOML, LOG, with_options), ["report of something else"])
-        self.assertEqual(findings(example("crossing.toml"), example("crossing.log"), self.path("report"), PROGRAM, ["--ticks=40"]), [])
+        self.assertEqual(
+            findings(example("crossing.toml"), example("crossing.log"), self.path("report"), PROGRAM, ["--ticks=40"]),
+            [])
         points = self.program("points", example("crossing.toml"), example("crossing.log"))
         self.assertEqual(self.names(TOML, LOG, points), [])
 
     def program_with(self, *options: str) -> str:
         with open(example("crossing.log"), "rb") as source:
-            return subprocess.run([PROGRAM, "audit", example("crossing.toml"), *options], stdin=source, capture_output=True).stdout.decode()
+            return subprocess.run([PROGRAM, "audit", example("crossing.toml"), *options], stdin=source,
+                                  capture_output=True).stdout.decode()
 
     def test_own_ship_and_her_units_are_named(self) -> None:
         plan = text_of(example("giving_way.csv"))
         self.assertEqual(self.names(GIVING, GIVING_LOG, plan), [])
-        for name, old, new in (("degrees for tenths", "courses = [0, 150, 300, 450, 600]", "courses = [0, 15, 30, 45, 60]"),
-                               ("knots for tenths", "speeds = [0, -40]", "speeds = [0, -4]"),
-                               ("subject not in the log", "mmsi = 200000031", "mmsi = 200000039"), ("refused run", "legs = 2", "legs = 9")):
+        for name, old, new in (("degrees for tenths", "courses = [0, 150, 300, 450, 600]", "courses = [0, 15, 30, 45, "
+                                "60]"), ("knots for tenths", "speeds = [0, -40]", "speeds = [0, -4]"),
+                               ("subject not in the log", "mmsi = 200000031",
+                                "mmsi = 200000039"), ("refused run", "legs = 2", "legs = 9")):
             with self.subTest(new):
                 self.assertIn(old, GIVING)
                 self.assertIn(name, self.names(GIVING.replace(old, new), GIVING_LOG, plan))
 
     def test_a_report_that_says_why_there_is_no_plan_is_written_again(self) -> None:
-        hemmed = GIVING.replace("courses = [0, 150, 300, 450, 600]", "courses = [0]").replace("speeds = [0, -40]", "speeds = [0]")
+        hemmed = GIVING.replace("courses = [0, 150, 300, 450, 600]",
+                                "courses = [0]").replace("speeds = [0, -40]", "speeds = [0]")
         scenario, log = self.write("hemmed.toml", hemmed), example("giving_way.log")
         with open(log, "rb") as source:
             done = subprocess.run([PROGRAM, "plan", scenario, "--why"], stdin=source, capture_output=True)
@@ -204,12 +224,14 @@ class WrongUses(InFolder):
 class Keys(unittest.TestCase):
     def test_the_keys_are_those_of_the_page(self) -> None:
         known = keys.units()
-        self.assertEqual(len(known), 56 - 2)                 # rows 0 to 55, less the text as a whole and the weight of all formulas
+        # rows 0 to 55, less the text as a whole and the weight of all formulas
+        self.assertEqual(len(known), 56 - 2)
         some = ("detect.watch", "act.apparent_turn", "rules.safe_other", "rules.te")
         self.assertEqual([known[key] for key in some], ["m", "1/10 degree", "m", "s"])
 
 
-def report(at: int, mmsi: int, latitude: int, longitude: int, way: int = 100, course: int = 900, heading: int = 90) -> str:
+def report(at: int, mmsi: int, latitude: int, longitude: int, way: int = 100, course: int = 900,
+           heading: int = 90) -> str:
     bits = sentences.class_a(mmsi, (latitude, longitude, way, course, heading, at % 60), 0)
     return (sentences.block(at) + sentences.sentence(bits)).decode()
 

@@ -8,7 +8,9 @@ from given import InFolder, PROGRAM, example, text_of, with_program
 
 def words_of(text: str) -> str:
     """Returns all words of a picture; raises ParseError if it is no XML."""
-    return " ".join("".join(element.itertext()) for element in xml.etree.ElementTree.fromstring(text).iter() if element.tag.endswith("text"))
+    return " ".join("".join(element.itertext())
+                    for element in xml.etree.ElementTree.fromstring(text).iter()
+                    if element.tag.endswith("text"))
 
 
 @with_program
@@ -34,7 +36,8 @@ class Pictures(InFolder):
         text = text_of(example("giving_way.toml"))
         tight = re.sub(r"(?m)^(base\s*=\s*)\d+", r"\g<1>5000", text)
         self.assertNotEqual(tight, text)
-        words = self.drawn(self.write("tight.toml", tight), "out", "--log", example("giving_way.log"), "--program", PROGRAM, "--plan")
+        words = self.drawn(self.write("tight.toml", tight), "out", "--log", example("giving_way.log"), "--program",
+                           PROGRAM, "--plan")
         self.assertRegex(words, r"none of \d+ plans passes")
 
     def test_an_audit_names_two_vessels_and_the_time_that_are_asked_for(self) -> None:
@@ -45,10 +48,14 @@ class Pictures(InFolder):
         self.assertIn("UTC", words_of(text_of(self.path("out_times.svg"))))
 
     def test_what_does_not_go_together_is_refused(self) -> None:
-        for words, said in ((["--plan", "p", "--pair", "a", "b", "--points", "x"], "--pair, --from and --to are of an audit"),
-                            ([], "give --log, or --points and --audit or --plan, or the folder of a case"),
-                            (["--log", example("crossing.log"), "--program", PROGRAM, "--from", "25:00"], "is no time"),
-                            (["--log", example("crossing.log"), "--program", PROGRAM, "--pair", "LARCH", "NOBODY"], "`NOBODY` is no vessel of the points")):
+        log = ["--log", example("crossing.log"), "--program", PROGRAM]
+        refusals: tuple[tuple[list[str], str], ...] = (
+            (["--plan", "p", "--pair", "a", "b", "--points", "x"], "--pair, --from and --to are of an audit"),
+            ([], "give --log, or --points and --audit or --plan, or the folder of a case"),
+            ([*log, "--from", "25:00"], "is no time"),
+            ([*log, "--pair", "LARCH", "NOBODY"], "`NOBODY` is no vessel of the points"),
+        )
+        for words, said in refusals:
             status, _, error = self.within("colregs-draw", example("crossing.toml"), "out", *words)
             self.assertNotEqual(status, 0)
             self.assertIn(said, error)

@@ -21,7 +21,7 @@ from colregs.stream.day_files import LEAP, SURE, Clock, DayFiles, MedianClock
 from colregs.stream.health import Health
 from colregs.stream.rows import steps_of
 
-SHIFT = 1700006400 - 1700001000          # s: midnight comes 1000 s behind the beginning of the harbour's log
+SHIFT = 1700006400 - 1700001000          # s: midnight comes 1000 s after the beginning of the harbour's log
 START = crowd.START + SHIFT
 WINDOWS = ["--ticks-each", "60", "--overlap", "900"]
 UNITS = sorted(os.listdir(os.path.join(TOOLS, "systemd")))
@@ -47,10 +47,13 @@ class Streams(InFolder):
     def setUp(self) -> None:
         super().setUp()
         self.write("s.toml", crowd.harbour())
-        self.lines = [line + "\n" for line in crowd.moved(text_of(example("harbour_of_twenty.log")).splitlines(), SHIFT)]
+        self.lines = [
+            line + "\n" for line in crowd.moved(text_of(example("harbour_of_twenty.log")).splitlines(), SHIFT)
+        ]
 
     def follow(self, *words: str, source: str = "", status: int = 0, days: str = "days") -> tuple[str, str]:
-        done = self.tool("colregs-follow", "s.toml", "--days", days, "--program", PROGRAM, *WINDOWS, *words, source=source.encode())
+        done = self.tool("colregs-follow", "s.toml", "--days", days, "--program", PROGRAM, *WINDOWS, *words,
+                         source=source.encode())
         self.assertEqual(done[0], status, done[2])
         return done[1], done[2]
 
@@ -59,9 +62,13 @@ class Streams(InFolder):
 
     def whole(self, mode: str = "audit") -> list[str]:
         """Returns the rows of one run over a window that begins with the log, and ends long after it."""
-        done = subprocess.run([PROGRAM, mode, self.path("s.toml"), f"--start={START}", "--ticks=1000"], input="".join(self.lines).encode(),
-                              capture_output=True)
-        return [absolute(row, START) for row in done.stdout.decode().splitlines() if row.startswith(("meeting", "verdict", "alarm"))]
+        done = subprocess.run([PROGRAM, mode, self.path("s.toml"), f"--start={START}", "--ticks=2000"],
+                              input="".join(self.lines).encode(), capture_output=True)
+        return [
+            absolute(row, START)
+            for row in done.stdout.decode().splitlines()
+            if row.startswith(("meeting", "verdict", "alarm"))
+        ]
 
 
 class Once(Streams):
@@ -80,8 +87,34 @@ class Once(Streams):
             self.assertGreater(len(out), 0)
             found += self.rows(out)
         self.assertEqual(found, self.whole())
-        self.assertEqual(sorted(name for name in os.listdir(self.path("days")) if name.endswith(".log")), ["2023-11-14.log", "2023-11-15.log"])
-        self.assertEqual("".join(text_of(self.path("days/" + day + ".log")) for day in ("2023-11-14", "2023-11-15")), "".join(self.lines))
+        self.assertEqual(sorted(name for name in os.listdir(self.path("days")) if name.endswith(".log")),
+                         ["2023-11-14.log", "2023-11-15.log"])
+        self.assertEqual("".join(text_of(self.path("days/" + day + ".log")) for day in ("2023-11-14", "2023-11-15")),
+                         "".join(self.lines))
+
+    def again(self, after: int) -> list[str]:
+        """Returns the lines again, `after` seconds later."""
+        return [line + "\n" for line in crowd.moved([line.rstrip("\n") for line in self.lines], after)]
+
+    def test_a_restart_reads_the_day_files_from_the_first_window_that_is_not_done(self) -> None:
+        end = len(self.lines) + 1500
+        self.lines += self.again(8000)
+        found = self.rows(self.follow(source="".join(self.lines[:end]))[0])
+        day = "days/2023-11-15"
+        marks = [line.split() for line in text_of(self.path(day + ".marks")).splitlines()]
+        stamps = [int(line[3:13]) for line in self.lines[:end] if line.startswith("\\c:")]
+        undone = (max(stamps) - 1500 - 230) // 600 * 600 + 600          # a slow stream has written all rows before it
+        self.write("days/windows.json", json.dumps({"first": undone, "open": {}}))
+        offset = max(int(place) for mark, place in marks if int(mark) * 600 <= undone - 230)
+        self.assertGreater(offset, 0)
+        text = text_of(self.path(day + ".log"))
+        self.write(day + ".log", text[:offset].translate({ord(digit): "x" for digit in "0123456789"}) + text[offset:])
+        found += self.rows(self.follow("--whole", source="".join(self.lines[end:]))[0])
+        self.assertEqual(found, self.whole())
+
+    def test_an_outage_of_more_than_an_hour_within_meetings_gives_the_rows_of_one_run(self) -> None:
+        self.lines += self.again(8000)[1000:]
+        self.assertEqual(sorted(self.rows(self.follow("--whole", source="".join(self.lines))[0])), sorted(self.whole()))
 
     def test_a_file_that_grows_with_a_kill_in_between(self) -> None:
         log = self.write("log", "".join(self.lines[:1200]))
@@ -92,7 +125,8 @@ class Once(Streams):
             self.addCleanup(child.kill)
             with open(log, "a") as out:
                 out.write("".join(self.lines[begin:end]))
-            self.until(lambda: os.path.getsize(self.path("out")) > 0 if number == signal.SIGKILL else self.offset() == os.path.getsize(log))
+            self.until(lambda: os.path.getsize(self.path("out")) > 0
+                       if number == signal.SIGKILL else self.offset() == os.path.getsize(log))
             child.send_signal(number)
             self.assertEqual(child.wait(30), -9 if number == signal.SIGKILL else 0)
         self.follow("--log", log, "--out", "out", "--whole")
@@ -146,8 +180,8 @@ class Meetings(InFolder):
         text = b"".join(line + b"\n" for _, line in sorted(rows, key=lambda row: row[0]))
         self.write("s.toml", scenario)
         self.write("log", text)
-        status, out, error = self.tool("colregs-follow", "s.toml", "--days", "days", "--program", PROGRAM, "--ticks-each", "100", "--overlap", "1000",
-                                       "--whole", source=text)
+        status, out, error = self.tool("colregs-follow", "s.toml", "--days", "days", "--program", PROGRAM,
+                                       "--ticks-each", "100", "--overlap", "1000", "--whole", source=text)
         self.assertEqual(status, 0, error)
         told = [json.loads(line) for line in out.splitlines()]
         done = subprocess.run([PROGRAM, "audit", self.path("s.toml")], input=text, capture_output=True)
@@ -156,25 +190,37 @@ class Meetings(InFolder):
         return [absolute(row["row"], row["run"]) for row in told if not row.get("begins_before")], marked, whole
 
     def test_rows_of_a_meeting_that_began_before_their_window_say_so(self) -> None:
-        still = [*test_joins.way(test_joins.YACHT, 0, 0, 0, 5, to=10800), *test_joins.way(test_joins.CARGO, 0, 0, 0, 7, x=50, to=10800)]
-        met = [*test_joins.way(test_joins.EAST, 9, 0, 5000, 3, x=9000, to=10800), *test_joins.way(test_joins.NORTH, 9, 180, 5000, 4, x=9100, to=10800)]
+        still = [
+            *test_joins.way(test_joins.YACHT, 0, 0, 0, 5, to=10800),
+            *test_joins.way(test_joins.CARGO, 0, 0, 0, 7, x=50, to=10800)
+        ]
+        met = [
+            *test_joins.way(test_joins.EAST, 9, 0, 5000, 3, x=9000, to=10800),
+            *test_joins.way(test_joins.NORTH, 9, 180, 5000, 4, x=9100, to=10800)
+        ]
         rows, marked, whole = self.followed(still + met, test_joins.SCENARIO.replace("ticks = 2160", "ticks = 1080"))
-        self.assertEqual([row for row in rows if str(test_joins.EAST) in row], [row for row in whole if str(test_joins.EAST) in row])
+        self.assertEqual([row for row in rows if str(test_joins.EAST) in row],
+                         [row for row in whole if str(test_joins.EAST) in row])
         self.assertLessEqual(set(rows), set(whole))
         self.assertTrue(marked)
         self.assertTrue(all(str(test_joins.YACHT) in row for row in marked))
 
     def test_a_ship_type_that_was_reported_once_counts_in_every_window_of_a_stream(self) -> None:
-        rows = [*test_joins.two(), (6, drawn_logs.stamped(6, sentences.sentence(sentences.hull_part(test_joins.YACHT, 36, (0, 0, 0, 0)))))]
+        rows = [
+            *test_joins.two(),
+            (6, drawn_logs.stamped(6, sentences.sentence(sentences.hull_part(test_joins.YACHT, 36, (0, 0, 0, 0)))))
+        ]
         found, marked, whole = self.followed(rows, test_joins.RANKS)
         self.assertIn(f"verdict,{test_joins.CARGO},{test_joins.YACHT},r16,broken", "\n".join(whole))
         self.assertEqual((sorted(found), marked), (sorted(whole), []))
-        self.assertEqual(json.loads(text_of(self.path("days/types.json"))), {str(test_joins.YACHT): [36, drawn_logs.START + 6]})
+        self.assertEqual(json.loads(text_of(self.path("days/types.json"))),
+                         {str(test_joins.YACHT): [36, drawn_logs.START + 6]})
 
 
 class Healths(Streams):
     def of_stations(self, ahead: int) -> str:
-        """The harbour's lines as three stations hear them, a third of the vessels each; the clock of the last is ahead."""
+        """The harbour's lines as three stations hear them, a third of the vessels each; the clock of the last is
+        ahead."""
         made = []
         for line in self.lines:
             if not line.startswith("\\"):
@@ -189,7 +235,9 @@ class Healths(Streams):
         return json.loads(text_of(self.path("days/health.jsonl")).splitlines()[-1])
 
     def met(self, text: str) -> list[tuple[int, int, str]]:
-        return sorted((row["subject"], row["other"], row["encounter"]) for row in map(json.loads, text.splitlines()) if row["kind"] == "meeting")
+        return sorted((row["subject"], row["other"], row["encounter"])
+                      for row in map(json.loads, text.splitlines())
+                      if row["kind"] == "meeting")
 
     def test_a_station_whose_clock_is_ahead_is_named(self) -> None:
         out, error = self.follow("--whole", source=self.of_stations(1200))
@@ -209,13 +257,15 @@ class Healths(Streams):
         for ahead, count in ((86400, 1), (31536000, 10)):
             tagged = [line.split("\\", 2)[2] for line in self.lines if line.startswith("\\")]
             wrong = [sentences.block(START + ahead + k).decode() + rest for k, rest in enumerate(tagged[:count])]
-            out, _ = self.follow("--whole", "--clock", "median", source="".join(wrong + self.lines), days=f"days{ahead}")
+            out, _ = self.follow("--whole", "--clock", "median", source="".join(wrong + self.lines),
+                                 days=f"days{ahead}")
             self.assertEqual(sorted(self.rows(out)), sorted(self.whole()), ahead)
 
     def test_lines_without_a_stamp_are_of_no_station(self) -> None:
         said: list[str] = []
         health = Health(self.folder, 30, said.append)
-        for line in (b"!AIVDM,2,2,1,A,x,0*00", sentences.block(1700000000, b"s:A") + b"!x", sentences.block(1700000005, b"s:B") + b"!x"):
+        for line in (b"!AIVDM,2,2,1,A,x,0*00", sentences.block(1700000000, b"s:A") + b"!x",
+                     sentences.block(1700000005, b"s:B") + b"!x"):
             health.take(line, False)
         health.write(1700000005, 0)
         self.assertEqual((said, sorted(health.stations), health.lines), ([], ["A", "B"], 3))
@@ -236,9 +286,14 @@ class Limits(Streams):
         self.write("s.toml", crowd.SCENARIO)
         self.write("log", log)
         window = ["--start", str(start), "--ticks", "500", "--ticks-each", "600"]
-        self.write("jobs", self.within("colregs-many", "plan", "s.toml", "log", *window, "--group", "25", "--program", PROGRAM)[1])
+        self.write(
+            "jobs",
+            self.within("colregs-many", "plan", "s.toml", "log", *window, "--group", "25", "--program", PROGRAM)[1])
         self.within("colregs-many", "jobs", "--program", PROGRAM)
-        wanted = [absolute(row, start) for row in crowd.stretches(self.within("colregs-many", "join", "jobs", "--program", PROGRAM)[1])]
+        wanted = [
+            absolute(row, start)
+            for row in crowd.stretches(self.within("colregs-many", "join", "jobs", "--program", PROGRAM)[1])
+        ]
         out, error = self.follow("--whole", "--group", "30", "--ticks-each", "480", source=log)
         self.assertIn("more than 4096 pairs in the window from", error)
         self.assertGreater(len(wanted), 200)
@@ -249,20 +304,27 @@ class Limits(Streams):
         self.assertIn("longer than the overlap", error)
 
     def test_wrong_words_are_refused(self) -> None:
-        for words, told in ((["--overlap", "0"], "the overlap is 31 ticks or more"), (["--ticks-each", "20000"], "at most 20000"),
-                            (["--log", "none"], "none is not there"), (["--log", "s.toml", "--command", "x"], "not both"),
-                            (["--out", "a", "--to", "b"], "not to both")):
-            status, _, error = self.within("colregs-follow", "s.toml", "--days", "days", "--program", PROGRAM, *WINDOWS, *words)
+        for words, told in (
+            (["--overlap", "0"], "the overlap is 31 ticks or more"),
+            (["--ticks-each", "20000"], "at most 20000"),
+            (["--log", "none"], "none is not there"),
+            (["--log", "s.toml", "--command", "x"], "not both"),
+            (["--out", "a", "--to", "b"], "not to both"),
+        ):
+            status, _, error = self.within("colregs-follow", "s.toml", "--days", "days", "--program", PROGRAM, *WINDOWS,
+                                           *words)
             self.assertEqual(status, 1)
             self.assertIn(told, error)
         self.write("s.toml", crowd.harbour().replace("risk = 300", "risk = 0"))
-        self.assertIn("status 3, scenario: detect.risk: range", self.follow(source="".join(self.lines[:50]), status=1)[1])
+        self.assertIn("status 3, scenario: detect.risk: range",
+                      self.follow(source="".join(self.lines[:50]), status=1)[1])
 
 
 class Parts(InFolder):
     def test_a_time_far_ahead_is_no_clock_until_more_tell_it(self) -> None:
         clock = Clock()
-        for at, told in ((1000, 1000), (990, 1000), (1000 + LEAP, 1000 + LEAP), (10 ** 9, 1000 + LEAP), (2000, 1000 + LEAP)):
+        leapt = 1000 + LEAP
+        for at, told in ((1000, 1000), (990, 1000), (leapt, leapt), (10**9, leapt), (2000, leapt)):
             self.assertEqual(clock.take(b"\\c:%d*00\\" % at), told)
         for k in range(SURE):
             clock.take(b"\\c:%d*00\\" % (10 ** 9 + k))
@@ -274,7 +336,8 @@ class Parts(InFolder):
             self.assertEqual(clock.take(b"\\c:%d*00\\" % at), told, at)
         for name, at, told in (("a", 200, 200), ("b", 201, 201), ("c", 999, 201), ("a", 230, 230), ("d", 231, 231)):
             self.assertEqual(clock.take(b"\\s:%s,c:%d*00\\" % (name.encode(), at)), told, name)
-        self.assertEqual(clock.timed(b"\\s:c,c:999*00\\!x"), b"\\s:c,c:999*00\\!x")        # a damaged block stays as it is
+        # a damaged block stays as it is
+        self.assertEqual(clock.timed(b"\\s:c,c:999*00\\!x"), b"\\s:c,c:999*00\\!x")
         line = sentences.block(999, b"s:c") + b"!x"
         self.assertEqual(clock.timed(line), sentences.block(231, b"s:c") + b"!x")
 
@@ -295,17 +358,20 @@ class Parts(InFolder):
         self.assertEqual(stamped(b"\\c:1*00\\!AIVDM", 5), b"\\c:1*00\\!AIVDM")
 
     def test_the_steps_of_rows(self) -> None:
-        for row, steps in (("verdict,1,2,r14a,open,5,6", (5, 6)), ("meeting,1,2,head_on,7,8,9", (7, 8)), ("alarm,1,2,r8d,3,4,", (3, 4))):
+        for row, steps in (("verdict,1,2,r14a,open,5,6", (5, 6)), ("meeting,1,2,head_on,7,8,9", (7, 8)),
+                           ("alarm,1,2,r8d,3,4,", (3, 4))):
             self.assertEqual(steps_of(row), steps)
 
     @needs("systemd-analyze")
     def test_the_units_are_accepted(self) -> None:
-        self.assertEqual(len(UNITS), 2)
+        self.assertEqual(len(UNITS), 3)
         for name in UNITS:
             text = text_of(os.path.join(TOOLS, "systemd", name)).replace("/usr/lib/colregs/tools", TOOLS)
             unit = self.write(name, re.sub(r"(?m)^(User|Group)=.*\n", "", text))
             done = subprocess.run(["systemd-analyze", "verify", unit], capture_output=True, text=True, timeout=60)
             mine = [line for line in (done.stdout + done.stderr).splitlines() if name in line]
             self.assertEqual(mine, [])
-            for word in ("colregs-follow", "--days", "Restart=always"):
+            for word in ("--days", "Restart=always"):
                 self.assertIn(word, text)
+            self.assertIn(f"tools/colregs-{name.removesuffix('.service').split('-')[1]} ",
+                          text_of(os.path.join(TOOLS, "systemd", name)))

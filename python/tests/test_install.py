@@ -1,33 +1,38 @@
-"""The package installs without a network into a fresh virtual environment, and its commands run there, far from the clone."""
+"""The package installs without a network into a fresh virtual environment, and its commands run there, far from the
+clone."""
 import os
 import subprocess
 import sys
 import unittest
 
-from given import EXAMPLES, InFolder, PROGRAM, TOP, example, with_program
+from given import InFolder, PROGRAM, TOP, example, text_of, with_program
 
 
 @with_program
 class Installed(InFolder):
     def run_of(self, *words: str) -> subprocess.CompletedProcess[str]:
         """Runs a command in a folder of its own, with no path to the clone and no network."""
-        environment = {"PATH": "/usr/bin:/bin", "COLREGS_PROGRAM": PROGRAM, "HOME": self.folder, "PIP_NO_INDEX": "1", "PIP_FIND_LINKS": self.folder}
+        environment = {
+            "PATH": "/usr/bin:/bin", "COLREGS_PROGRAM": PROGRAM, "HOME": self.folder, "PIP_NO_INDEX": "1",
+            "PIP_FIND_LINKS": self.folder
+        }
         return subprocess.run(words, capture_output=True, text=True, cwd=self.folder, env=environment, timeout=120)
 
     def test_pip_installs_it_and_its_commands_run(self) -> None:
         if subprocess.run([sys.executable, "-m", "venv", self.path("new")], capture_output=True).returncode != 0:
             self.skipTest("python3-venv is not installed")
-        done = self.run_of(self.path("new/bin/pip"), "install", "--quiet", "--disable-pip-version-check", os.path.join(TOP, "python"))
+        done = self.run_of(self.path("new/bin/pip"), "install", "--quiet", "--disable-pip-version-check",
+                           os.path.join(TOP, "python"))
         self.assertEqual(done.returncode, 0, done.stderr)
         for name in sorted(name for name in os.listdir(os.path.join(TOP, "tools")) if name.startswith("colregs-")):
             self.assertEqual(self.run_of(self.path("new/bin/" + name), "--help").returncode, 0, name)
             self.assertTrue(os.path.exists(self.path(f"new/share/man/man1/{name}.1")), name)
         done = self.run_of(self.path("new/bin/colregs-doctor"), example("crossing.toml"), example("crossing.log"))
         self.assertEqual((done.returncode, done.stdout, done.stderr), (0, "", ""))
-        done = self.run_of(self.path("new/bin/colregs-case"), example("crossing.log"), "--scenario", example("crossing.toml"), "-o", "case")
+        done = self.run_of(self.path("new/bin/colregs-case"), example("crossing.log"), "--scenario",
+                           example("crossing.toml"), "-o", "case")
         self.assertEqual(done.returncode, 0, done.stderr)
-        with open(self.path("case/report.csv"), encoding="utf-8") as made, open(os.path.join(EXAMPLES, "crossing.csv"), encoding="utf-8") as wanted:
-            self.assertEqual(made.read(), wanted.read())
+        self.assertEqual(text_of(self.path("case/report.csv")), text_of(example("crossing.csv")))
 
 
 if __name__ == "__main__":

@@ -1,4 +1,5 @@
-"""Joins that could be wrong without a word: each is now that of one run, or is refused, or marks the rows in question by name."""
+"""Joins that could be wrong without a word: each is now that of one run, or is refused, or marks the rows in question
+by name."""
 import csv
 import gzip
 import io
@@ -13,49 +14,34 @@ from typing import Any
 
 import crowd
 import drawn_logs
-from drawn_logs import METRE, START, in_parts, stamped, voyage
+from drawn_logs import METRE, START, in_parts, scenario_text, stamped, voyage
 from given import InFolder, PROGRAM, text_of, with_program
 from colregs.io import sentences
 from colregs.io.lines import Joiner, Sentence, Stamps, bits_of, line_of, sentence_of, stamp_of_block
 from colregs.model.formulas import YES, sight_of
 from colregs.model.scenario import Scenario
 from colregs.run.limits import next_step
+from colregs.shares.cutter import Cut, share_of_files
 from colregs.shares.jobs import whole_result
-from colregs.shares.spans import Span, believed, read_span
+from colregs.shares.reads import COPY, LINES, SEEK, SKIP, Read, Window, read_of, reads_of
+from colregs.shares.spans import Believed, Block, Span, believed, read_span
 
 Row = tuple[float, bytes]
 NUMBERS = range(9000, 9036)         # drawn logs that run here; `drawn_logs.py PROGRAM --count 20000` runs more
 YACHT, CARGO, EAST, NORTH = 200000001, 200000002, 200000003, 200000004
-SCENARIO = f"""version = 2
-window = {{ start = {START}, tick = 10, ticks = 2160 }}
-reference = {{ lat = 0, lon = 0 }}
-log = {{ gap = 200, slack = 30, max_speed = 400 }}
-detect = {{ watch = 3000, risk = 300, clear = 600, horizon = 600, doubt = 0, ahead = 60, reciprocal = 60 }}
-act = {{ steady_turn = 50, apparent_turn = 200, steady_speed = 10, apparent_speed = 50 }}
-[rules]
-safe_head_on = 200
-safe_overtaking = 150
-safe_crossing = 300
-safe_other = 100
-overtake = 150
-close = 300
-t8 = 60
-ta = 90
-tl = 30
-tw = 60
-te = 300
-"""
+SCENARIO = scenario_text(2160)
 RANKS = SCENARIO + "ranks = 1\n"
 CROSSING = 3 * 3600 + 1800          # s after the start at which two vessels cross, far from the first window
 
 
-def way(mmsi: int, knots: int, course: int, at: int, offset: int, x: float = 0.0, y: float = 0.0, to: int = 21600, every: int = 30,
-        status: int = 15) -> Iterator[Row]:
+def way(mmsi: int, knots: int, course: int, at: int, offset: int, x: float = 0.0, y: float = 0.0, to: int = 21600,
+        every: int = 30, status: int = 15) -> Iterator[Row]:
     """Reports of a vessel that is at a place at a time, with the moments at which they come."""
     for second in range(offset, to, every):
         far = knots * 1852 / 3600 * (second - at)
         east, north = x + far * math.sin(math.radians(course)), y + far * math.cos(math.radians(course))
-        fields = sentences.class_a(mmsi, (round(north * METRE), round(east * METRE), knots * 10, course * 10, course, second % 60), status)
+        fields = sentences.class_a(
+            mmsi, (round(north * METRE), round(east * METRE), knots * 10, course * 10, course, second % 60), status)
         yield second, stamped(second, sentences.sentence(fields))
 
 
@@ -81,13 +67,15 @@ class Joins(InFolder):
     def log(self, rows: Iterable[Row], name: str = "log.gz") -> None:
         self.write(name, gzip.compress(b"".join(line + b"\n" for _, line in sorted(rows, key=lambda row: row[0])), 1))
 
-    def joined(self, *words: str, files: tuple[str, ...] = ("log.gz",), scenario: str = SCENARIO) -> tuple[list[str], list[str]]:
+    def joined(self, *words: str, files: tuple[str, ...] = ("log.gz",),
+               scenario: str = SCENARIO) -> tuple[list[str], list[str]]:
         """The joined rows of meetings and verdicts, and those of one run."""
         self.write("s.toml", scenario)
         self.write("jobs", self.many("plan", "s.toml", *files, *words)[1])
         self.many("jobs", "--jobs", "2")
         self.write("whole", b"".join(gzip.decompress(open(self.path(name), "rb").read()) for name in files))
-        return crowd.stretches(self.many("join", "jobs")[1]), crowd.stretches(self.program("audit", self.path("s.toml"), self.path("whole")))
+        return crowd.stretches(self.many("join", "jobs")[1]), crowd.stretches(
+            self.program("audit", self.path("s.toml"), self.path("whole")))
 
     def doubts(self) -> list[dict[str, str]]:
         return list(csv.DictReader(io.StringIO(text_of(self.path("jobs.kept/doubts.csv")))))
@@ -120,7 +108,9 @@ class Windows(Joins):
 
     def test_a_formula_of_ones_own_that_looks_back_beyond_the_gap(self) -> None:
         rows = list(way(CARGO, 0, 0, 0, 7, to=10800))
-        for second, line in [*way(YACHT, 5, 90, 3300, 5, y=150, to=4500), *way(YACHT, 5, 270, 5700, 4505, y=150, to=10800)]:
+        for second, line in [
+                *way(YACHT, 5, 90, 3300, 5, y=150, to=4500), *way(YACHT, 5, 270, 5700, 4505, y=150, to=10800)
+        ]:
             rows.append((second, line))
         self.log(rows)
         formula = '[[formula]]\nname = "again"\ntext = "begin -> !O[300,3600] begin"\n'
@@ -135,8 +125,10 @@ class Windows(Joins):
             self.assertTrue(not missing or self.doubts(), missing)
 
     def test_a_meeting_longer_than_the_overlap_is_one_row_and_its_verdicts_are_marked(self) -> None:
-        self.log([*way(YACHT, 0, 0, 0, 5, to=10800), *way(CARGO, 0, 0, 0, 7, x=50, to=10800), *way(EAST, 9, 0, 5000, 3, x=2000, to=10800),
-                  *way(NORTH, 9, 180, 5000, 4, x=2100, to=10800)])
+        self.log([
+            *way(YACHT, 0, 0, 0, 5, to=10800), *way(CARGO, 0, 0, 0, 7, x=50, to=10800),
+            *way(EAST, 9, 0, 5000, 3, x=2000, to=10800), *way(NORTH, 9, 180, 5000, 4, x=2100, to=10800)
+        ])
         joined, whole = self.joined("--ticks-each", "100", scenario=SCENARIO.replace("ticks = 2160", "ticks = 1080"))
         meetings = [row for row in whole if row.startswith("meeting,")]
         self.assertIn(f"meeting,{YACHT},{CARGO},", "\n".join(meetings))
@@ -144,7 +136,8 @@ class Windows(Joins):
         under_way = [row for row in whole if str(EAST) in row]
         self.assertEqual([row for row in joined if str(EAST) in row], under_way)
         moored = text_of(self.path("jobs.kept/moored.csv")).splitlines()
-        self.assertEqual([line.split(",")[:2] for line in moored[1:]], [[str(YACHT), str(CARGO)], [str(CARGO), str(YACHT)]])
+        self.assertEqual([line.split(",")[:2] for line in moored[1:]],
+                         [[str(YACHT), str(CARGO)], [str(CARGO), str(YACHT)]])
         marked = [row for row in joined if row.endswith(",cut")]
         self.assertTrue(all({str(YACHT), str(CARGO)} == set(row.split(",")[1:3]) for row in marked))
 
@@ -154,7 +147,24 @@ class Windows(Joins):
         self.write("s.toml", SCENARIO)
         done = self.many("plan", "s.toml", "log.gz", "--ticks-each", "360")
         self.assertEqual(len(done[1].splitlines()), 3)
-        self.assertIn("1 lines have a time more than a day after all others", done[2])
+        self.assertIn("1 lines have a time more than a day before or after all others", done[2])
+
+    def test_windows_begin_shortly_before_the_first_line(self) -> None:
+        self.log(two())
+        joined, whole = self.joined("--ticks-each", "360")
+        early = SCENARIO.replace(f"start = {START}", f"start = {START - 50_000_000}")
+        self.write("early.toml", early)
+        jobs = [
+            json.loads(line)
+            for line in self.many("plan", "early.toml", "log.gz", "--ticks-each", "360")[1].splitlines()
+        ]
+        self.assertLess(len(jobs), 10)
+        self.assertTrue(START - 20000 < jobs[0]["start"] <= START)
+        moved, _ = self.joined("--ticks-each", "360", scenario=early)
+        self.assertEqual(len(moved), len(whole))
+        self.write("late.toml", SCENARIO.replace(f"start = {START}", f"start = {START + 7200}"))
+        self.assertIn("lines are before the start and are not audited",
+                      self.many("plan", "late.toml", "log.gz", "--ticks-each", "360")[2])
 
     def test_drawn_logs_are_those_of_one_run_or_refused_or_marked(self) -> None:
         for number in NUMBERS:
@@ -174,8 +184,11 @@ class Plans(Joins):
         for more in ways:
             plan = self.many("plan", *words, *more)[1]
             self.assertEqual(self.many("plan", *words, *more, "--index", "index")[1], plan)
-            with unittest.mock.patch("colregs.shares.index.read_span", side_effect=AssertionError if not more else read_span):
+            with unittest.mock.patch("colregs.shares.index.read_span",
+                                     side_effect=AssertionError if not more else read_span):
                 self.assertEqual(self.many("plan", *words, *more, "--index", "index")[1], plan)
+            # beside the file, if no folder is named
+            self.assertTrue(os.path.exists(self.path(".one.gz.colregs-index")))
         self.log(rows, "two.gz")
         self.assertEqual(self.many("plan", *words, "--index", "index")[1], self.many("plan", *words)[1])
         for name in os.listdir(self.path("index")):
@@ -194,12 +207,16 @@ class Tiles(Joins):
         self.assertIn("log.gz changed after the jobs were planned: plan again", self.many("join", "jobs", status=1)[2])
 
     def four(self) -> list[Row]:
-        return [*two(at=1500, to=3600), *way(EAST, 8, 90, 1500, 9, x=40000, to=3600), *way(NORTH, 12, 0, 1500, 11, x=40100, to=3600)]
+        return [
+            *two(at=1500, to=3600), *way(EAST, 8, 90, 1500, 9, x=40000, to=3600),
+            *way(NORTH, 12, 0, 1500, 11, x=40100, to=3600)
+        ]
 
     def test_a_damaged_first_part_of_another_vessel_takes_no_part_away(self) -> None:
         first, last = in_parts(voyage(YACHT, 36), b"3", b"A", 0)
         damaged = in_parts(voyage(EAST, 70), b"3", b"A", 1)[0]
-        self.log([*self.four(), (600, stamped(600, first)), (600.1, stamped(600, damaged)), (600.2, stamped(600, last))])
+        self.log(
+            [*self.four(), (600, stamped(600, first)), (600.1, stamped(600, damaged)), (600.2, stamped(600, last))])
         joined, whole = self.joined("--tiles", "2x1", "--ticks", "400", scenario=RANKS)
         self.assertIn(f"verdict,{CARGO},{YACHT},r16,broken", "\n".join(whole))
         self.assertEqual(joined, whole)
@@ -239,6 +256,29 @@ class KeptResults(Joins):
         os.umask(mask)
         return mask
 
+    def test_a_share_with_too_many_vessels_or_bytes_is_split_by_itself(self) -> None:
+        self.write("log.gz", gzip.compress(crowd.wide(), 1))
+        self.write("s.toml", crowd.SCENARIO.replace("watch = 5000", "watch = 900").replace("risk = 500", "risk = 100"))
+        self.write("jobs", self.many("plan", "s.toml", "log.gz", "--ticks", "10")[1])
+        self.assertEqual(len(text_of(self.path("jobs")).splitlines()), 1)
+        self.many("jobs")
+        meetings = [row.split(",") for row in self.many("join", "jobs")[1].splitlines() if row.startswith("meeting,")]
+        self.assertEqual(sorted((int(row[1]), int(row[2])) for row in meetings),
+                         [(200000001 + k, 200000001 + (k ^ 1)) for k in range(4200)])
+        self.log([
+            *two(at=1500, to=3600), *way(EAST, 8, 90, 1500, 9, x=40000, to=3600),
+            *way(NORTH, 12, 0, 1500, 11, x=40100, to=3600)
+        ])
+        size = sum(len(line) + 1 for line in gzip.decompress(open(self.path("log.gz"), "rb").read()).splitlines())
+        small = SCENARIO.replace("max_speed = 400", f"max_speed = 400, max_bytes = {size * 3 // 4}")
+        self.write("s.toml", small)
+        self.write("jobs", self.many("plan", "s.toml", "log.gz", "--ticks", "400")[1])
+        self.many("jobs")
+        self.write("whole", gzip.decompress(open(self.path("log.gz"), "rb").read()))
+        self.write("whole.toml", SCENARIO)
+        self.assertEqual(crowd.stretches(self.many("join", "jobs")[1]),
+                         crowd.stretches(self.program("audit", self.path("whole.toml"), self.path("whole"))))
+
     def test_a_share_with_too_many_pairs_is_split_by_itself(self) -> None:
         log = crowd.log(100, 8000).encode()
         self.write("log.gz", gzip.compress(log, 1))
@@ -257,12 +297,20 @@ class Parts(InFolder):
     def test_lines_are_read_as_the_program_reads_them(self) -> None:
         # docs/LOG.md, each by hand: the sum of `c:1700000001` is 5E
         good = b"\\c:1700000001*5E\\!AIVDM,1,1,,B,12vg22hP2<G:B?4KVut3Q2l20000,0*27"
-        for line, stamp in ((good, 1700000001), (good[:16] + b"F" + good[17:], None), (b"\\c:1700000001000*6E\\", 1700000001), (good + b"x" * 1024, None),
-                            (b"\\c:17x*00\\", None), (b"\\s:a!b,c:5*" + b"%02X" % sentences.total(b"s:a!b,c:5") + b"\\!", 5), (b"!AIVDM", None)):
+        for line, stamp in (
+            (good, 1700000001),
+            (good[:16] + b"F" + good[17:], None),
+            (b"\\c:1700000001000*6E\\", 1700000001),
+            (good + b"x" * 1024, None),
+            (b"\\c:17x*00\\", None),
+            (b"\\s:a!b,c:5*" + b"%02X" % sentences.total(b"s:a!b,c:5") + b"\\!", 5),
+            (b"!AIVDM", None),
+        ):
             self.assertEqual(Stamps().of(line), stamp, line)
         self.assertEqual(stamp_of_block(b"\\*00\\"), None)
         self.assertIsNotNone(sentence_of(good + b"\r\n"))
-        for wrong in (good[:-1] + b"8", good.replace(b",1,1,", b",1,2,"), good + b"x", good[1:], good.replace(b"12vg", b"12v\x80")):
+        for wrong in (good[:-1] + b"8", good.replace(b",1,1,", b",1,2,"), good + b"x", good[1:],
+                      good.replace(b"12vg", b"12v\x80")):
             self.assertIsNone(sentence_of(wrong), wrong)
         self.assertEqual(bits_of([read_part(good)]).number(8, 30), 200000011)
         self.assertEqual(line_of(b"a\r\n"), b"a")
@@ -272,26 +320,71 @@ class Parts(InFolder):
         self.assertEqual(Joiner().take(last, 5), None)
         joiner = Joiner()
         joiner.take(first, 5)
-        self.assertEqual(joiner.take(last, 36), None)                  # more than 30 s behind the first
+        self.assertEqual(joiner.take(last, 36), None)                  # more than 30 s after the first
         joiner.take(first, 40)
         message = joiner.take(last, 70)
         assert message is not None
         self.assertEqual((message.time, message.earliest, bits_of(message.parts).number(232, 8)), (70, 40, 36))
 
     def test_what_a_formula_sees(self) -> None:
-        for text, back, ahead, meetings, no_edge in (
-                ("engaged -> clear(100)", 0, 0, True, True), ("begin -> !O[60,900] begin", 900, 0, True, True), ("H[0,600] engaged -> seen", 600, 0, True, False), ("O[0,600] engaged -> seen", 600, 0, True, True),
-                ("engaged -> H[0,60] seen", 60, 0, True, False), ("clear(100)", 0, 0, False, True), ("G[0,60] F[10,20] !engaged", 0, 80, True, True),
-                ("risk & seen U[0,30] begin -> false", 0, 30, True, True), ("(engaged S[0,300] begin) -> !ahead", 300, 0, True, True)):
+        for text, back, ahead, meetings, no_edge in (("engaged -> clear(100)", 0, 0, True,
+                                                      True), ("begin -> !O[60,900] begin", 900, 0, True,
+                                                              True), ("H[0,600] engaged -> seen", 600, 0, True, False),
+                                                     ("O[0,600] engaged -> seen", 600, 0, True,
+                                                      True), ("engaged -> H[0,60] seen", 60, 0, True,
+                                                              False), ("clear(100)", 0, 0, False, True),
+                                                     ("G[0,60] F[10,20] !engaged", 0, 80, True,
+                                                      True), ("risk & seen U[0,30] begin -> false", 0, 30, True, True),
+                                                     ("(engaged S[0,300] begin) -> !ahead", 300, 0, True, True)):
             sight = sight_of(text)
-            self.assertEqual((sight.back, sight.ahead, sight.values == {YES}, sight.no_edge), (back, ahead, meetings, no_edge), text)
+            self.assertEqual((sight.back, sight.ahead, sight.values == {YES}, sight.no_edge),
+                             (back, ahead, meetings, no_edge), text)
 
     def test_times_that_few_lines_have_are_not_believed(self) -> None:
-        spans = [Span("a", "", {10: [500, 36000, 39000], 11: [400, 39600, 40000]}), Span("b", "", {99: [2, 356400, 356500], 999: [1, 3596400, 3596400]})]
+        spans = [
+            Span("a", "", {10: [500, 36000, 39000], 11: [400, 39600, 40000]}),
+            Span("b", "", {99: [2, 356400, 356500], 999: [1, 3596400, 3596400]})
+        ]
         found = believed(spans, 0)
-        self.assertEqual((found.last, found.beyond, found.greatest), (40000, 3, 3596400))
+        self.assertEqual((found.first, found.last, found.outside, found.farthest), (36000, 40000, 3, 3596400))
         spans.append(Span("c", "", {99: [100, 356400, 356500]}))
         self.assertEqual(believed(spans, 0).last, 356500)
+        early = [Span("a", "", {1: [3, 3600, 3700], 99: [500, 356400, 359000]})]
+        self.assertEqual((believed(early, 0).first, believed(early, 0).outside, believed(early, 0).farthest),
+                         (356400, 3, 3600))
+        self.assertEqual(believed([], 5), Believed(5, 5))
+
+    def test_blocks_are_skipped_copied_or_cut(self) -> None:
+        window, block = Window(100, 200, 0, 1000), Block(10, True, 120, 180, 150)
+        for one, clock, read in (
+            (block, None, Read(COPY, 10, 150, 180)),
+            (block, 200, Read(COPY, 10, 150, 180)),
+            (block, 201, Read(LINES, 10)),
+            (block._replace(begins=False), None, Read(LINES, 10)),
+            (Block(10, True, 1, 0, 0), None, Read(LINES, 10)),
+            (block._replace(greatest=201), None, Read(LINES, 10)),
+            (Block(10, True, 20, 99, 99), None, Read(SKIP, 10, 99, 99)),
+            (Block(10, True, 20, 100, 99), None, Read(LINES, 10)),
+            (Block(10, True, 201, 1000, 300), None, Read(SKIP, 10, 300, 1000)),
+            (Block(10, True, 201, 1001, 300), None, Read(LINES, 10)),
+            (Block(10, True, 1001, 1002, 1002), None, Read(SKIP, 10, 1002)),
+        ):
+            self.assertEqual(read_of(one, window, clock), read, one)
+        self.assertEqual(Block(1, True, 5, 6, 6).joined(Block(2, False, 1, 0, 0)), Block(3, True, 5, 6, 6))
+        self.assertEqual(Block(1, True, 5, 9, 6).joined(Block(2, True, 4, 8, 7)), Block(3, True, 4, 9, 7))
+
+    def test_a_packed_file_is_begun_at_the_member_before_what_is_needed(self) -> None:
+        lines = [stamped(second, b"!x" * 90) + b"\n" for second in range(0, 30000)]
+        name = self.write("log.gz",
+                          b"".join(gzip.compress(b"".join(lines[k:k + 5000]), 1) for k in range(0, 30000, 5000)))
+        span = read_span(name, None)
+        self.assertGreater(len(span.members), 1)
+        window = Window(START + 21000, START + 22000, START, START + 30000)
+        reads = reads_of([span], window, None) or []
+        self.assertEqual(reads[0][0].what, SEEK)
+        cut = Cut(*window, slack=0)
+        self.assertEqual(b"".join(share_of_files([name], reads, cut)), b"".join(lines[21000:22001]))
+        self.assertEqual(read_span(self.write("log", b"".join(lines)), None).hours, span.hours)
 
     def test_a_scenario_of_ranks_says_so(self) -> None:
         self.assertTrue(Scenario(self.write("s.toml", RANKS)).ranks)
@@ -299,9 +392,14 @@ class Parts(InFolder):
 
     def test_each_limit_has_its_number_and_a_next_step(self) -> None:
         # the words of docs/REPORT.md
-        for words, number, step in (("limit: log 1073741824", "1 GiB", "split the log"), ("limit: vessels 4096", "4096", "--tiles"),
-                                    ("limit: pairs 4096", "4096", "subjects"), ("limit: targets 64", "64", "own.range"), ("limit: scenario 1048576", "1 MiB", "shorten"),
-                                    ("limit: rows 16777216", "16 MiB", "rows")):
+        for words, number, step in (
+            ("limit: log 1073741824", "1 GiB", "split the log"),
+            ("limit: vessels 4096", "4096", "--tiles"),
+            ("limit: pairs 4096", "4096", "subjects"),
+            ("limit: targets 64", "64", "own.range"),
+            ("limit: scenario 1048576", "1 MiB", "shorten"),
+            ("limit: rows 16777216", "16 MiB", "rows"),
+        ):
             self.assertIn(number, next_step(7, words))
             self.assertIn(step, next_step(7, words))
         self.assertEqual((next_step(3, "scenario: window.ticks: range"), next_step(7, "")), ("", ""))

@@ -1,4 +1,5 @@
-"""Marks on the meetings of an hour in a strait (strait.py), whose ways say what each pair does, and ship types and statuses in words."""
+"""Marks on the meetings of an hour in a strait (strait.py), whose ways say what each pair does, and ship types and
+statuses in words."""
 import sqlite3
 import unittest
 from typing import Any
@@ -12,10 +13,13 @@ from colregs.model import ships
 class Words(unittest.TestCase):
     def test_types_and_statuses_are_those_of_the_recommendation(self) -> None:
         """ITU-R M.1371-5: table 53 has the types, table 45 the statuses."""
-        self.assertEqual([ships.type_words(kind) for kind in (30, 36, 37, 50, 52, 60, 79, 80, 0, 255)],
-                         ["fishing", "sailing", "pleasure craft", "pilot", "tug", "passenger", "cargo", "tanker", "", ""])
-        self.assertEqual([ships.status_words(status) for status in (0, 1, 2, 5, 7, 8, 15, None)],
-                         ["under way using engine", "at anchor", "not under command", "moored", "engaged in fishing", "under way sailing", "", ""])
+        self.assertEqual(
+            [ships.type_words(kind) for kind in (30, 36, 37, 50, 52, 60, 79, 80, 0, 255)],
+            ["fishing", "sailing", "pleasure craft", "pilot", "tug", "passenger", "cargo", "tanker", "", ""])
+        self.assertEqual([ships.status_words(status) for status in (0, 1, 2, 5, 7, 8, 15, None)], [
+            "under way using engine", "at anchor", "not under command", "moored", "engaged in fishing",
+            "under way sailing", "", ""
+        ])
 
 
 @with_program
@@ -24,7 +28,8 @@ class Strait(InFolder):
         super().setUp()
         self.write("strait.toml", strait.SCENARIO)
         self.write("strait.log", strait.log())
-        status, self.said, error = self.tool("colregs-case", "strait.log", "--scenario", "strait.toml", "--program", PROGRAM, "-o", "made")
+        status, self.said, error = self.tool("colregs-case", "strait.log", "--scenario", "strait.toml", "--program",
+                                             PROGRAM, "-o", "made", "--all")
         self.assertEqual(status, 0, error)
 
     def asked(self, what: str, where: str = "1", values: tuple[int, ...] = ()) -> list[Any]:
@@ -51,7 +56,8 @@ class Strait(InFolder):
 
     def test_the_vanished_pair_is_named_with_how_near_both_would_have_come(self) -> None:
         """By the ways that they were given: 120 m at 22:43:20, after a last report at 22:39:20."""
-        self.assertRegex(self.said, r"(CEDAR and CHERRY|CHERRY and CEDAR): contact lost 22:39:20; .*; if both went on: 120 m at 22:43:(19|20|21) ")
+        self.assertRegex(self.said, r"(CEDAR and CHERRY|CHERRY and CEDAR): contact lost 22:39:20; .*; if both went on: "
+                                    r"120 m at 22:43:(19|20|21) ")
         least, at = self.of(strait.CEDAR, strait.CHERRY, "if_both_went_on, if_both_went_on_at")[0]
         self.assertAlmostEqual(least, strait.LEAST, delta=1)
 
@@ -64,7 +70,8 @@ class Strait(InFolder):
         with browser.Browser() as tab:
             tab.open(self.path("made/case.html"), "")
             rows = "[...document.querySelectorAll('#meetings tbody tr')].map(row => row.textContent)"
-            tick = "(name) => [...document.querySelectorAll('#meetings label')].find(label => label.textContent.trim() === name).querySelector('input').click()"
+            tick = ("(name) => [...document.querySelectorAll('#meetings label')]"
+                    ".find(label => label.textContent.trim() === name).querySelector('input').click()")
             self.assertNotIn("MOORED", tab.value(f"{rows}[0]"))
             self.assertIn("MOORED", tab.value(f"{rows}.join()"))
             tab.value(f"({tick})('without marks')")
@@ -77,7 +84,8 @@ class Strait(InFolder):
             self.assertIn("if both went on: 120 m", tab.value(f"{rows}[0]"))
             self.assertIn("120 if both went on", tab.value(f"{rows}[0]"))
             self.assertIn("CEDAR", tab.value("document.querySelector('#chosen').textContent"))
-            number = tab.value(f"HELD.meetings.findIndex(m => m.pair.some(k => HELD.vessels[k].mmsi === {strait.NORTH})) + 1")
+            number = tab.value("HELD.meetings.findIndex(m => m.pair.some(k => HELD.vessels[k].mmsi === "
+                               f"{strait.NORTH})) + 1")
             tab.value(f"location.hash = '#meeting{number}'")
             tab.value("new Promise(done => setTimeout(done, 200))")
             self.assertIn("NORTH", tab.value("document.querySelector('#chosen').textContent"))

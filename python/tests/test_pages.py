@@ -26,15 +26,18 @@ class Pages(InFolder):
 
     def test_each_page_and_completion_has_every_option_of_help(self) -> None:
         made = pages.pages()
-        self.assertEqual(sorted(path for path in made if path.startswith("man1/")), [f"man1/{name}.1" for name in COMMANDS])
+        self.assertEqual(sorted(path for path in made if path.startswith("man1/")),
+                         [f"man1/{name}.1" for name in COMMANDS])
         for name in COMMANDS:
             text = self.help_of(name)
-            kinds = re.findall(r"(?m)^    (\w+) +\w", text.partition("positional arguments:")[2]) if name == "colregs-many" else []
+            kinds = re.findall(r"(?m)^    (\w+) +\w",
+                               text.partition("positional arguments:")[2]) if name == "colregs-many" else []
             options = options_of(text).union(*(options_of(self.help_of(name, kind)) for kind in kinds))
             self.assertGreater(len(options), 1)
             for path in (f"man1/{name}.1", f"bash/{name}", f"zsh/_{name}", f"fish/{name}.fish"):
                 plain = made[path].replace("\\-", "-").replace("-l ", "--")
-                self.assertEqual([option for option in options if not re.search(re.escape(option) + r"\b", plain)], [], path)
+                self.assertEqual([option for option in options if not re.search(re.escape(option) + r"\b", plain)], [],
+                                 path)
 
     def test_each_help_page_says_what_the_command_does_and_its_statuses(self) -> None:
         for name in COMMANDS:
@@ -62,27 +65,35 @@ class Pages(InFolder):
         command = pages.program_of(text)
         usage = subprocess.run([PROGRAM], capture_output=True, text=True).stderr
         self.assertEqual([part.name for part in command.parts], usage.removeprefix("usage: ").split()[0].split("|"))
-        self.assertEqual({name for option in command.options for name in option.names if name.startswith("--")}, options_of(text))
+        self.assertEqual(
+            {name for option in command.options for name in option.names if name.startswith("--")}, options_of(text)
+        )
         self.assertIn(f"complete -c colregs -n __fish_use_subcommand -a {command.parts[0].name} ", pages.fish(command))
         self.assertIn("'--rows[The file of the rows that a recheck checks]:file:_files'", pages.zsh(command))
 
     def test_an_older_python_ends_with_one_sentence(self) -> None:
-        script = ("import sys; sys.version_info = (3, 9, 2); sys.path.insert(0, sys.argv[1]); from colregs.start import start; start('case')")
-        done = subprocess.run([sys.executable, "-c", script, os.path.join(TOP, "python")], capture_output=True, text=True)
-        self.assertEqual((done.returncode, done.stderr), (1, "case: Python 3.11 or later is needed, and this is Python 3.9\n"))
+        script = ("import sys; sys.version_info = (3, 9, 2); sys.path.insert(0, sys.argv[1]); from colregs.start "
+                  "import start; start('case')")
+        done = subprocess.run([sys.executable, "-c", script, os.path.join(TOP, "python")], capture_output=True,
+                              text=True)
+        self.assertEqual((done.returncode, done.stderr), (1, "case: Python 3.11 or later is needed, and this is Python "
+                                                             "3.9\n"))
 
     @needs("man")
     def test_the_manual_pages_have_no_warning(self) -> None:
         for path, text in pages.pages().items():
             if path.startswith("man1/"):
-                done = subprocess.run(["man", "--warnings", "-E", "UTF-8", "-l", "-Tutf8", "-Z", self.write("page.1", text)], capture_output=True, text=True)
+                done = subprocess.run(
+                    ["man", "--warnings", "-E", "UTF-8", "-l", "-Tutf8", "-Z",
+                     self.write("page.1", text)], capture_output=True, text=True)
                 self.assertEqual((done.returncode, done.stderr), (0, ""), path)
 
     def test_bash_completes_options_commands_and_files(self) -> None:
         def completed(*words: str) -> list[str]:
             script = '. "$0"; COMP_WORDS=("$@"); COMP_CWORD=$(($# - 1)); _${1//-/_}; printf "%s\\n" "${COMPREPLY[@]}"'
             name = self.write("completion", pages.pages()["bash/" + words[0]])
-            return subprocess.run(["bash", "-c", script, name, *words], cwd=self.folder, capture_output=True, text=True).stdout.split("\n")[:-1]
+            return subprocess.run(["bash", "-c", script, name, *words], cwd=self.folder, capture_output=True,
+                                  text=True).stdout.split("\n")[:-1]
 
         self.write("a log", "")
         self.assertEqual(completed("colregs-case", "--ch"), ["--chart"])

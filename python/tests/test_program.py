@@ -20,7 +20,8 @@ class Found(InFolder):
     def asked(self, path: str, *words: str) -> subprocess.CompletedProcess[str]:
         """Asks a Python in the folder of evidence for the program, with this PATH."""
         environment = {"PATH": path, "PYTHONPATH": os.path.dirname(HERE), "PYTHONDONTWRITEBYTECODE": "1"}
-        return subprocess.run([sys.executable, *(words or ("-P", "-c", ASK))], cwd=self.path("evidence"), env=environment, capture_output=True, text=True, timeout=60)
+        return subprocess.run([sys.executable, *(words or ("-P", "-c", ASK))], cwd=self.path("evidence"),
+                              env=environment, capture_output=True, text=True, timeout=60)
 
     def test_one_in_the_current_folder_is_not_run(self) -> None:
         for path in ("/none", ".", "", ":/none", "./", "../evidence"):
@@ -40,7 +41,9 @@ class Found(InFolder):
         for name in ("bin/colregs", "bin/tool"):
             self.write(name, ASK)
             os.chmod(self.path(name), 0o755)
-        self.assertEqual(self.asked(self.path("evidence"), self.path("bin/tool")).stdout.strip(), os.path.realpath(self.path("bin/colregs")))
+        self.assertEqual(
+            self.asked(self.path("evidence"), self.path("bin/tool")).stdout.strip(),
+            os.path.realpath(self.path("bin/colregs")))
 
     def test_a_named_one_that_is_none_is_refused(self) -> None:
         with self.assertRaisesRegex(Fault, "no program that can be run"):

@@ -1,4 +1,5 @@
-"""Whatever the bytes: each reader ends with a value or a named fault, each line is counted, and what `tagged` writes is read again as it is.
+"""Whatever the bytes: each reader ends with a value or a named fault, each line is counted, and what `tagged` writes is
+read again as it is.
 
 The bytes are Hypothesis's (Debian package python3-hypothesis). Its seed is fixed, so that each run tries the same.
 """
@@ -9,11 +10,16 @@ import unittest
 from collections.abc import Callable
 from typing import Any
 
-from given import PROGRAM, text_of, with_program
+from given import PROGRAM, example, text_of, with_program
 from colregs.errors import Fault
 from colregs.io import forms, jsons, packing, receivers, sentences, sieve, tables, tag_blocks
 from colregs.io.sources import Gathered, gather
+from colregs.model.formulas import sight_of
 from colregs.model.reports import Case
+from colregs.model.rows import read_rows
+from colregs.pilot.areas import read_areas
+from colregs.pilot.route import read_route
+from colregs.pilot.scenario import PilotScenario
 from colregs.run.program import Run
 from colregs.shares.jobs import read_jobs
 import passing
@@ -26,12 +32,18 @@ try:
 except ImportError:
     raise unittest.SkipTest("python3-hypothesis is not installed") from None
 
-FEW = settings(max_examples=int(os.environ.get("COLREGS_EXAMPLES", "60")), derandomize=True, deadline=None, database=None,
-               suppress_health_check=list(HealthCheck))
-KNOWN = [line.encode() for line in (
-    *test_times.FORMS, *test_times.UNSURE, *test_tables.CADASTRE.splitlines(), *test_tables.DMA.splitlines(), "$GPRMC,221321,A,4815.0,N,12334.9,W,14,90,141123,,,A*7D",
-    "$GPZDA,221321.00,14,11,2023,00,00*6A", "# a comment", "", '{"class":"TPV","mode":3,"time":"2023-11-14T22:13:21Z","lat":48.0,"lon":-123.0}')]
-CHANGE = some.tuples(some.integers(0, 200), some.one_of(some.just(b""), some.binary(min_size=1, max_size=3), some.sampled_from([b"!", b"\\", b"*", b",", b"{"])))
+FEW = settings(max_examples=int(os.environ.get("COLREGS_EXAMPLES", "60")), derandomize=True, deadline=None,
+               database=None, suppress_health_check=list(HealthCheck))
+KNOWN = [
+    line.encode() for line in (*test_times.FORMS, *test_times.UNSURE, *test_tables.CADASTRE.splitlines(),
+                               *test_tables.DMA.splitlines(), "$GPRMC,221321,A,4815.0,N,12334.9,W,14,90,141123,,,A*7D",
+                               "$GPZDA,221321.00,14,11,2023,00,00*6A", "# a comment", "",
+                               '{"class":"TPV","mode":3,"time":"2023-11-14T22:13:21Z","lat":48.0,"lon":-123.0}')
+]
+CHANGE = some.tuples(
+    some.integers(0, 200),
+    some.one_of(some.just(b""), some.binary(min_size=1, max_size=3),
+                some.sampled_from([b"!", b"\\", b"*", b",", b"{"])))
 
 
 def changed(line: bytes, changes: list[tuple[int, bytes]]) -> bytes:
@@ -42,12 +54,34 @@ def changed(line: bytes, changes: list[tuple[int, bytes]]) -> bytes:
     return line
 
 
-LINES = some.lists(some.one_of(some.binary(max_size=80), some.builds(changed, some.sampled_from(KNOWN), some.lists(CHANGE, max_size=3))), max_size=12)
-JSON = some.recursive(some.one_of(some.none(), some.booleans(), some.integers(), some.floats(), some.text(max_size=8)), lambda inner: some.one_of(
-    some.lists(inner, max_size=4), some.dictionaries(some.sampled_from([
-        "class", "device", "mmsi", "type", "lat", "lon", "speed", "course", "heading", "status", "to_bow", "shipname", "shiptype", "time", "rxuxtime", "updates",
-        "values", "path", "value", "context", "msgs", "mode", "second", "scaled", "nmea"]), inner, max_size=8)), max_leaves=20)
-REPORT = json.dumps({"class": "AIS", "type": 1, "mmsi": 200000301, "lat": 1.0, "lon": 2.0, "speed": 3.0, "course": 4.0, "heading": 5})
+LINES = some.lists(
+    some.one_of(some.binary(max_size=80), some.builds(changed, some.sampled_from(KNOWN),
+                                                      some.lists(CHANGE, max_size=3))), max_size=12)
+JSON = some.recursive(
+    some.one_of(some.none(), some.booleans(), some.integers(), some.floats(), some.text(max_size=8)),
+    lambda inner: some.one_of(
+        some.lists(inner, max_size=4),
+        some.dictionaries(
+            some.sampled_from([
+                "class", "device", "mmsi", "type", "lat", "lon", "speed", "course", "heading", "status", "to_bow",
+                "shipname", "shiptype", "time", "rxuxtime", "updates", "values", "path", "value", "context", "msgs",
+                "mode", "second", "scaled", "nmea"
+            ]), inner, max_size=8)), max_leaves=20)
+REPORT = json.dumps(
+    {"class": "AIS", "type": 1, "mmsi": 200000301, "lat": 1.0, "lon": 2.0, "speed": 3.0, "course": 4.0, "heading": 5})
+ROWS = [
+    "point,200000011,1700000001,-60868486,0,140,900", "meeting,200000011,200000012,crossing_gives,8,40,12166201",
+    "meeting,200000011,200000012,crossing_gives,8,40,12166201,cut", "verdict,200000013,200000014,r15,broken,50,50",
+    "alarm,200000013,200000014,r16,10,22,", 'vessel,200000011,"ELM, \"\"",70,120,76,75', "total,r15,308,307,1,0,1",
+    "plan,80,0,600,140,18,54", "none,100,,,,,", "why,0.1,477553000,domain,18,1,1", "lines,point,304,,,,",
+]
+PILOT = PilotScenario.read(example("pilot.toml"))
+
+
+def changed_row(row: str, at: int, text: str) -> str:
+    """Returns a row with another field at a place."""
+    fields = row.split(",")
+    return ",".join([*fields[:at], text, *fields[at + 1:]])
 
 
 class Properties(unittest.TestCase):
@@ -77,7 +111,8 @@ class Properties(unittest.TestCase):
         except Fault as fault:
             self.assertTrue(str(fault))
             return
-        counted = sum(found.forms.values()) + sum(found.aside.values()) + sum(unread.count for unread in found.unread.values())
+        unread = sum(unread.count for unread in found.unread.values())
+        counted = sum(found.forms.values()) + sum(found.aside.values()) + unread
         self.assertGreaterEqual(counted, found.lines())
         if not any(line.count(b"!") > 1 or b"{" in line or b"[" in line for line in log.splitlines()):
             self.assertEqual(counted, found.lines())
@@ -110,13 +145,17 @@ class Properties(unittest.TestCase):
         self.assertEqual((run.status, sum(run.counts().values())), (0, made.count(b"\n")))
 
     @FEW
-    @given(some.one_of(some.binary(max_size=120), some.builds(changed, some.sampled_from(KNOWN), some.lists(CHANGE, max_size=4))))
+    @given(some.one_of(some.binary(max_size=120),
+                       some.builds(changed, some.sampled_from(KNOWN), some.lists(CHANGE, max_size=4))))
     def test_a_line_is_read_or_refused_by_each_reader(self, line: bytes) -> None:
         times = forms.Times()
         self.only(forms.Unsure, lambda: times.read(line))
         self.only(forms.Unsure, lambda: times.read(line, True))
         self.only(forms.Unsure, lambda: tag_blocks.blocks(line))
-        for reader in (tag_blocks.stamp, sentences.lone_message, sentences.ship_place, receivers.base_time, sieve.Senders().of, tables.table_of):
+        readers: tuple[Callable[[bytes], object],
+                       ...] = (tag_blocks.stamp, sentences.lone_message, sentences.ship_place, receivers.base_time,
+                               sieve.Senders().of, tables.table_of)
+        for reader in readers:
             reader(line)
         receiver = receivers.Receiver(200000031)
         for each in (line, KNOWN[-5], line):
@@ -134,7 +173,8 @@ class Properties(unittest.TestCase):
             self.assertIsInstance(reader.read(held).form, str)
 
     @FEW
-    @given(some.binary(max_size=60), some.sampled_from([magic for magic, _ in packing.MAGIC] + [b"", b"\xff\xfe", b"\xfe\xff"]))
+    @given(some.binary(max_size=60),
+           some.sampled_from([magic for magic, _ in packing.MAGIC] + [b"", b"\xff\xfe", b"\xfe\xff"]))
     def test_a_file_is_unpacked_or_refused(self, rest: bytes, magic: bytes) -> None:
         self.only(Fault, lambda: self.gathered(magic + rest))
 
@@ -151,6 +191,31 @@ class Properties(unittest.TestCase):
             self.only(Fault, lambda: Case(bad, one))
             self.only(Fault, lambda: read_jobs(bad))
             self.assertTrue(text_of(good))
+
+    @FEW
+    @given(some.lists(some.one_of(
+        some.text(max_size=40),
+        some.builds(changed_row, some.sampled_from(ROWS), some.integers(0, 7), some.text(max_size=6))), max_size=8))
+    def test_rows_are_read_each_or_refused_by_the_number_of_their_line(self, rows: list[str]) -> None:
+        try:
+            self.assertLessEqual(len(read_rows("\n".join(rows))), len(rows))
+        except Fault as fault:
+            self.assertRegex(str(fault), r"^the report, line \d+: ")
+
+    @FEW
+    @given(some.text(max_size=60), some.lists(some.lists(some.one_of(some.floats(), some.text(max_size=6)), max_size=4),
+                                              max_size=4), JSON)
+    def test_formulas_routes_and_areas_are_read_or_refused(self, text: str, places: list[list[Any]], tree: Any) -> None:
+        self.only(Fault, lambda: sight_of(text))
+        route = "latitude,longitude,speed\n" + "\n".join(",".join(map(str, place)) for place in places)
+        areas = [{"type": "Polygon", "coordinates": shape} for shape in (tree, places)]
+        with tempfile.TemporaryDirectory() as folder:
+            path = os.path.join(folder, "read")
+            for content in (text, route, json.dumps(tree), *map(json.dumps, areas)):
+                with open(path, "wb") as out:
+                    out.write(content.encode("utf-8", "replace"))
+                self.only(Fault, lambda: read_route(path, 0, 0, 12.0))
+                self.only(Fault, lambda: read_areas(path, PILOT))
 
 
 if __name__ == "__main__":

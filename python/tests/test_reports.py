@@ -18,7 +18,8 @@ class Windows(InFolder):
 
     def texts(self, start: int | None = None, ticks: int | None = None) -> tuple[str, str]:
         options = window_options(start, ticks)
-        points, audit = (report_of(PROGRAM, mode, self.scenario, self.log, options=options) for mode in ("points", "audit"))
+        points, audit = (report_of(PROGRAM, mode, self.scenario, self.log, options=options)
+                         for mode in ("points", "audit"))
         return points, audit
 
     def refused(self, words: str, points: str, audit: str, start: int | None = None, ticks: int | None = None) -> None:

@@ -1,4 +1,5 @@
-"""A suggested scenario: its window, tick and reference by hand reckoning, what it says of its guesses, and that the program takes it."""
+"""A suggested scenario: its window, tick and reference by hand reckoning, what it says of its guesses, and that the
+program takes it."""
 import os
 import tomllib
 import unittest
@@ -11,7 +12,8 @@ from colregs.model.guess import suggested
 
 
 def report(at: int, mmsi: int, latitude: int, longitude: int, way: int = 100) -> bytes:
-    return sentences.block(at) + sentences.sentence(sentences.class_a(mmsi, (latitude, longitude, way, 900, 90, at % 60), 0)) + b"\n"
+    return sentences.block(at) + sentences.sentence(
+        sentences.class_a(mmsi, (latitude, longitude, way, 900, 90, at % 60), 0)) + b"\n"
 
 
 @with_program
@@ -23,7 +25,10 @@ class Suggested(InFolder):
 
     def test_window_tick_and_reference_are_those_of_the_log(self) -> None:
         """Two ships each 6 s for 10 minutes; the middle of 0 to 100 by ones is 50."""
-        log = b"".join(report(1700000000 + 6 * k, mmsi, 600000 + k, 1200000 + k) for k in range(101) for mmsi in (200000001, 200000002))
+        log = b"".join(
+            report(1700000000 + 6 * k, mmsi, 600000 + k, 1200000 + k)
+            for k in range(101)
+            for mmsi in (200000001, 200000002))
         values, reasons = self.values(log)
         self.assertEqual(values["window"], {"start": 1700000000, "tick": 6, "ticks": 100})
         self.assertEqual(values["reference"], {"lat": 600050, "lon": 1200050})
@@ -32,19 +37,27 @@ class Suggested(InFolder):
     def test_a_ship_that_reports_often_does_not_rule_the_tick(self) -> None:
         """Own ship each second beside three that report each 10 s."""
         often = [(1700000000 + k, 200000031) for k in range(301)]
-        log = sorted(often + [(1700000000 + 10 * k, mmsi) for k in range(31) for mmsi in (200000001, 200000002, 200000003)])
-        self.assertEqual(self.values(b"".join(report(at, mmsi, 600000, 1200000) for at, mmsi in log))[0]["window"]["tick"], 10)
+        log = sorted(often + [(1700000000 + 10 * k, mmsi)
+                              for k in range(31)
+                              for mmsi in (200000001, 200000002, 200000003)])
+        self.assertEqual(
+            self.values(b"".join(report(at, mmsi, 600000, 1200000) for at, mmsi in log))[0]["window"]["tick"], 10)
 
     def test_a_log_over_the_date_line_has_its_reference_there(self) -> None:
-        log = b"".join(report(1700000000 + 10 * k, 200000001, -600000, (107999800 + 20 * k + 108000000) % 216000000 - 108000000) for k in range(21))
+        log = b"".join(
+            report(1700000000 + 10 * k, 200000001, -600000, (107999800 + 20 * k + 108000000) % 216000000 - 108000000)
+            for k in range(21))
         self.assertEqual(self.values(log)[0]["reference"], {"lat": -600000, "lon": -108000000})
 
     def test_a_clock_that_was_wrong_for_some_lines_moves_no_window(self) -> None:
-        log = report(1000000000, 200000003, 600000, 1200000) + b"".join(report(1700000000 + 10 * k, 200000001, 600000, 1200000) for k in range(60))
+        log = report(1000000000, 200000003, 600000, 1200000) + b"".join(
+            report(1700000000 + 10 * k, 200000001, 600000, 1200000) for k in range(60))
         self.assertEqual(self.values(log)[0]["window"], {"start": 1700000000, "tick": 10, "ticks": 59})
 
     def test_the_region_with_most_reports_is_taken_and_the_rest_told(self) -> None:
-        log = b"".join(report(1700000000 + 10 * k, 200000001 + (k % 4 == 0), 600000 + (9000000 if k % 4 == 0 else 0), 1200000) for k in range(80))
+        log = b"".join(
+            report(1700000000 + 10 * k, 200000001 + (k % 4 == 0), 600000 + (9000000 if k % 4 == 0 else 0), 1200000)
+            for k in range(80))
         values, reasons = self.values(log)
         self.assertEqual(values["reference"]["lat"], 600000)
         self.assertIn("20 reports lie too far from most others", reasons)
@@ -60,14 +73,16 @@ class Suggested(InFolder):
         Of ordered pairs k apart in the row there are 2 (400 - k).
         """
         step = round(299 / 1852 * 10000)
-        log = b"".join(report(at, 200000001 + k, k * step, 1200000) for at in (1700000000, 1700000060) for k in range(400))
+        log = b"".join(
+            report(at, 200000001 + k, k * step, 1200000) for at in (1700000000, 1700000060) for k in range(400))
         values, reasons = self.values(log)
-        self.assertEqual([sum(2 * (400 - k) for k in range(1, 1 + watch // 299)) for watch in (2000, 1500)], [4758, 3970])
+        self.assertEqual([sum(2 * (400 - k) for k in range(1, 1 + watch // 299)) for watch in (2000, 1500)],
+                         [4758, 3970])
         self.assertEqual(values["detect"]["watch"], 1500)
         self.assertIn("the watch is 1500 m instead of 5000", reasons)
 
     def test_where_no_watch_does_the_window_is_cut(self) -> None:
-        """65 ships in one place, 4160 pairs, of whom the last comes in the second half."""
+        """65 ships in one place, 4160 pairs; the last comes in the second half."""
         log = b"".join(report(1700000000 + 60 * minute, 200000001 + k, 600000, 1200000)
                        for minute in range(21) for k in range(65) if k < 64 or minute > 14)
         values, reasons = self.values(log)

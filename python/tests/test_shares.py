@@ -1,4 +1,5 @@
-"""Shares of an audit: planned, run, kept, resumed and joined; the joined rows are byte for byte those of the whole run."""
+"""Shares of an audit: planned, run, kept, resumed and joined; the joined rows are byte for byte those of the whole
+run."""
 import gzip
 import json
 import os
@@ -7,7 +8,7 @@ import subprocess
 
 import crowd
 import passing
-from given import InFolder, PROGRAM, TOOLS, example, needs, text_of, with_program
+from given import InFolder, PROGRAM, TOOLS, example, text_of, with_program
 from colregs.shares.results import covers_plane
 from colregs.model.scenario import Scenario
 from colregs.io.sieve import Senders, Sieve
@@ -19,9 +20,12 @@ FAULTS = [
     ('{"files": ["log"], "scenario": "s.toml", "start": 0}', "`ticks` is missing or wrong"),
     ('{"files": ["log"], "scenario": "s.toml", "start": 0, "ticks": 20001}', "1 to 20000 ticks"),
     ('{"files": ["log"], "scenario": "s.toml", "start": 0, "ticks": 1, "more": 1}', "`more` is missing or wrong"),
-    ('{"files": ["log"], "scenario": "s.toml", "start": 0, "ticks": 1, "subjects": ["x"]}', "`subjects` has a value of another kind"),
-    ('{"files": ["log"], "scenario": "s.toml", "start": 0, "ticks": 1, "heads": [[1]]}', "`heads` has a value of another kind"),
-    ('{"files": ["log"], "scenario": "s.toml", "start": 0, "ticks": 1, "types": {"x": 36}}', "`types` has a value of another kind"),
+    ('{"files": ["log"], "scenario": "s.toml", "start": 0, "ticks": 1, "subjects": ["x"]}', "`subjects` has a value of "
+                                                                                            "another kind"),
+    ('{"files": ["log"], "scenario": "s.toml", "start": 0, "ticks": 1, "heads": [[1]]}', "`heads` has a value of "
+                                                                                         "another kind"),
+    ('{"files": ["log"], "scenario": "s.toml", "start": 0, "ticks": 1, "types": {"x": 36}}', "`types` has a value of "
+                                                                                             "another kind"),
     ('{"files": ["log"], "scenario": "none.toml", "start": 0, "ticks": 1}', "none.toml cannot be read: no such file"),
     ('{"files": ["none"], "scenario": "s.toml", "start": 0, "ticks": 1}', "none cannot be read: no such file"),
     ('{"files": ["cut.gz"], "scenario": "s.toml", "start": 0, "ticks": 1}', "were not read to their end"),
@@ -70,7 +74,8 @@ class Joined(Shares):
 
     def test_by_subjects_all_but_the_totals_is_there(self) -> None:
         self.plan("--ticks-each", "1000", "--group", "10")
-        self.assertEqual(self.joined().splitlines(), [row for row in self.whole().splitlines() if not row.startswith("total,")])
+        self.assertEqual(self.joined().splitlines(),
+                         [row for row in self.whole().splitlines() if not row.startswith("total,")])
 
     def test_subjects_of_the_scenario_are_kept(self) -> None:
         self.write("own.toml", "subjects = [200000108, 200000113,\n  200000119]\n" + crowd.harbour())
@@ -88,7 +93,8 @@ class Joined(Shares):
         self.assertEqual((done.returncode, done.stderr), (7, b"limit: pairs 4096\n"))
         found = []
         for size, count in (("20", 20), ("40", 10)):
-            self.assertEqual(len(self.plan("--ticks-each", "1000", "--ticks", str(crowd.STEPS), "--group", size)), count)
+            self.assertEqual(len(self.plan("--ticks-each", "1000", "--ticks", str(crowd.STEPS), "--group", size)),
+                             count)
             found.append(self.joined())
         self.assertGreater(len(crowd.stretches(found[0])), 200)
         self.assertEqual(found[0], found[1])
@@ -99,7 +105,8 @@ class Joined(Shares):
         self.plan("--ticks", "10", "--tiles", "2x1", "--ticks-each", "1000")
         found = self.joined().splitlines()
         meetings = [row.split(",") for row in found if row.startswith("meeting,")]
-        self.assertEqual(sorted((int(row[1]), int(row[2])) for row in meetings), [(200000001 + k, 200000001 + (k ^ 1)) for k in range(4200)])
+        self.assertEqual(sorted((int(row[1]), int(row[2])) for row in meetings),
+                         [(200000001 + k, 200000001 + (k ^ 1)) for k in range(4200)])
         self.assertEqual({tuple(row[3:6]) for row in meetings}, {("head_on", "0", "9")})
         self.assertEqual(sum(row.startswith("vessel,") for row in found), 4200)
 
@@ -124,7 +131,8 @@ class Covered(Shares):
     def test_windows_that_overlap_too_little_are_refused(self) -> None:
         self.plan("--ticks-each", "60", "--overlap", "600")
         self.many("jobs", "--jobs", "4")
-        self.assertIn("less than this scenario needs", self.many("plan", "s.toml", "log.gz", "--ticks-each", "60", "--overlap", "300", status=1)[2])
+        self.assertIn("less than this scenario needs",
+                      self.many("plan", "s.toml", "log.gz", "--ticks-each", "60", "--overlap", "300", status=1)[2])
 
     def test_tiles_cover_the_plane(self) -> None:
         self.assertTrue(covers_plane([[None, None, 5, None], [5, None, None, 2], [5, 2, None, None]]))
@@ -167,46 +175,23 @@ class KeptResults(Shares):
             self.assertNotIn("Traceback", error)
 
 
-class Machines(Shares):
-    @needs("parallel")
-    def test_by_gnu_parallel(self) -> None:
-        self.plan("--ticks-each", "1000", "--group", "7")
-        self.many("jobs", "--parallel", "--jobs", "3")
-        logs = [name for name in os.listdir(self.path("jobs.kept")) if name.startswith("joblog.")]
-        self.assertEqual([text_of(self.path("jobs.kept/" + name)).count("colregs-many one") for name in logs], [3])
-        self.assertEqual(crowd.stretches(self.many("join", "jobs")[1]), crowd.stretches(self.whole()))
-        self.write("s.toml", crowd.harbour() + "# another scenario\n")
-        self.many("jobs", "--parallel", "--jobs", "3")
-        self.assertEqual(len([name for name in os.listdir(self.path("jobs.kept")) if name.startswith("joblog.")]), 2)
-        self.assertEqual(crowd.stretches(self.many("join", "jobs")[1]), crowd.stretches(self.whole()))
-
-    def test_a_script_for_slurm_runs_the_job_of_its_number(self) -> None:
-        self.plan("--ticks-each", "1000", "--group", "10")
-        script = self.write("script", self.many("slurm", "jobs")[1])
-        self.assertIn("#SBATCH --array=1-2\n", text_of(script))
-        for number in ("2", "1"):
-            subprocess.run(["sh", script], check=True, env={**os.environ, "SLURM_ARRAY_TASK_ID": number}, cwd=self.folder, timeout=60)
-        self.assertEqual(crowd.stretches(self.many("join", "jobs")[1]), crowd.stretches(self.whole()))
-
-    def test_commands_run_one_job_each(self) -> None:
-        self.plan("--ticks-each", "1000", "--group", "10")
-        for command in self.many("commands", "jobs")[1].splitlines():
-            subprocess.run(["sh", "-c", command], check=True, timeout=60)
-        self.assertIn("2 were kept before, 0 ran", self.many("jobs")[2])
-
-
 class Parts(InFolder):
     def test_whose_a_sentence_is(self) -> None:
         senders = Senders()
         lines = [line.encode() for line in passing.log().splitlines()[:6]]
-        self.assertEqual([senders.of(line) for line in lines], [passing.EAST] * 2 + [passing.WEST] * 2 + [passing.EAST, passing.WEST])
-        self.assertEqual([senders.of(line) for line in (b"", b"!AIVDM,1,1", b"$GPRMC,1", b"!AIVDM,1,1,,A,\x80abcdefg,0*00")], [None] * 4)
+        self.assertEqual([senders.of(line) for line in lines],
+                         [passing.EAST] * 2 + [passing.WEST] * 2 + [passing.EAST, passing.WEST])
+        self.assertEqual(
+            [senders.of(line)
+             for line in (b"", b"!AIVDM,1,1", b"$GPRMC,1", b"!AIVDM,1,1,,A,\x80abcdefg,0*00")], [None] * 4)
 
     def test_a_sieve_keeps_the_times_of_all(self) -> None:
         lines = [line.encode() + b"\n" for line in passing.log().splitlines()]
         left = list(Sieve({passing.WEST}.__contains__, 30).left(lines))
-        self.assertEqual(len(left), len(lines) - 1)                        # the later part of a message has no tag block
-        self.assertEqual([line for line in left if b"!" in line and Senders().of(line) == passing.EAST], lines[:1])    # its first part
+        # the later part of a message has no tag block
+        self.assertEqual(len(left), len(lines) - 1)
+        # its first part
+        self.assertEqual([line for line in left if b"!" in line and Senders().of(line) == passing.EAST], lines[:1])
         self.assertIn(b"\\c:1700000010*5E\\\n", left)
 
     def test_subjects_are_put_in_and_nothing_else_is_changed(self) -> None:

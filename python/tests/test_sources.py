@@ -1,4 +1,5 @@
-"""Logs as receivers, gpsd, AIS-catcher, SignalK and OpenCPN write them; packed files, encodings, order, and what cannot be read."""
+"""Logs as receivers, gpsd, AIS-catcher, SignalK and OpenCPN write them; packed files, encodings, order, and what cannot
+be read."""
 import bz2
 import gzip
 import lzma
@@ -31,7 +32,8 @@ def sentence(body: str) -> str:
     return f"${body}*{total:02X}"
 
 
-def rmc(clock: str, date: str, valid: str = "A", place: str = "4815.0000,N,12334.9406,W", way: str = "14.0,090.0", talker: str = "GP") -> str:
+def rmc(clock: str, date: str, valid: str = "A", place: str = "4815.0000,N,12334.9406,W", way: str = "14.0,090.0",
+        talker: str = "GP") -> str:
     return sentence(f"{talker}RMC,{clock},{valid},{place},{way},{date},,,A")
 
 
@@ -41,9 +43,9 @@ def base_station(second: int, repeat: int = 0) -> str:
 
 
 class Sources(InFolder):
-    def gathered(self, text: str | bytes, **more: int) -> tuple[Gathered, list[str]]:
+    def gathered(self, text: str | bytes, mmsi: int | None = None, offset: int = 0) -> tuple[Gathered, list[str]]:
         """Returns what came of a log, and the log that was made, line by line."""
-        found = gather([self.write("log", text)], self.path("out"), **more)
+        found = gather([self.write("log", text)], self.path("out"), mmsi=mmsi, offset=offset)
         return found, text_of(self.path("out")).splitlines()
 
     def times(self, text: str, **more: int) -> list[int]:
@@ -52,8 +54,12 @@ class Sources(InFolder):
 
 class Receivers(Sources):
     def test_rmc_and_zda_tell_the_time_of_what_follows(self) -> None:
-        log = [rmc("221321.00", "141123"), S, sentence("GPZDA,221331.00,14,11,2023,00,00"), T, sentence("GPGGA,221331,,,,,0,,,,,,,,"),
-               rmc("221341", "141123", talker="GN"), S]
+        log = [
+            rmc("221321.00", "141123"), S,
+            sentence("GPZDA,221331.00,14,11,2023,00,00"), T,
+            sentence("GPGGA,221331,,,,,0,,,,,,,,"),
+            rmc("221341", "141123", talker="GN"), S
+        ]
         found, made = self.gathered("\n".join(log))
         self.assertEqual(made, ["\\c:1700000001*5E\\" + S, "\\c:1700000011*5F\\" + T, "\\c:1700000021*5C\\" + S])
         self.assertEqual(found.aside, {"other sentence (GGA)": 1})
@@ -85,10 +91,12 @@ class Receivers(Sources):
         self.assertEqual(found.unread["a sentence in a gap between two times"], Unread(1, S))
 
     def test_base_stations_tell_the_time_where_nothing_else_does(self) -> None:
-        """Message 4 of 2023-11-14 22:13:21 and :31; of a receiver's clock beside it the receiver's counts, and a repeated one never does."""
+        """Message 4 of 2023-11-14 22:13:21 and :31; of a receiver's clock beside it the receiver's counts, and a
+        repeated one never does."""
         base = [base_station(second) for second in (21, 31)]
         found, made = self.gathered("\n".join([base[0], S, base[1], T]))
-        self.assertEqual([(int(line[3:13]), line[17:]) for line in made], list(zip((1700000001,) * 2 + (1700000011,) * 2, (base[0], S, base[1], T))))
+        self.assertEqual([(int(line[3:13]), line[17:]) for line in made],
+                         list(zip((1700000001,) * 2 + (1700000011,) * 2, (base[0], S, base[1], T))))
         self.assertEqual(found.forms, {"no time of its own: that of a base station (message 4)": 4})
         self.assertEqual(self.times("\n".join([rmc("221351", "141123"), base[0], S])), [1700000031] * 2)
         self.assertEqual(self.times("\n".join(["1700000100 " + T, base[0], S])), [1700000100] * 3)
@@ -108,18 +116,28 @@ class Receivers(Sources):
         log = [rmc("221321", "141123"), sentence("HEHDT,091.4,T"), rmc("221322", "141123"), rmc("221322.5", "141123")]
         found, made = self.gathered("\n".join(log), mmsi=200000031)
         self.assertEqual((found.own, [line[17:23] for line in made]), (2, ["!AIVDO", "!AIVDO"]))
-        read = subprocess.run(["gpsdecode", "-j"], input="".join(line[17:] + "\n" for line in made), capture_output=True, text=True).stdout
+        read = subprocess.run(["gpsdecode", "-j"], input="".join(line[17:] + "\n" for line in made),
+                              capture_output=True, text=True).stdout
         self.assertIn('"mmsi":200000031,"scaled":true,"status":15', read)
-        self.assertIn('"speed":14.0,"accuracy":false,"lon":-123.582343,"lat":48.250000,"course":90.0,"heading":91,"second":22', read)
+        self.assertIn(
+            '"speed":14.0,"accuracy":false,"lon":-123.582343,"lat":48.250000,"course":90.0,"heading":91,"second":22',
+            read)
 
     @with_program
     def test_plan_runs_on_a_log_that_was_only_received(self) -> None:
-        """The log of giving_way without own ship's reports, and a receiver that tells of her each ten seconds, as encounters.py has her."""
-        others = [line for line in text_of(example("giving_way.log")).splitlines() if "12vg27h" not in line and ",52vg27h" not in line]
+        """The log of giving_way without own ship's reports, and a receiver that reports her each ten seconds, as
+        encounters.py has her."""
+        others = [
+            line for line in text_of(example("giving_way.log")).splitlines()
+            if "12vg27h" not in line and ",52vg27h" not in line
+        ]
         log = []
         for k in range(18):
-            log.append(rmc("22%02d%02d" % divmod(13 * 60 + 21 + 10 * k, 60), "141123", place=own_place(1 + 10 * k), way="14.0,000.0"))
-        found = gather([self.write("receiver", "\n".join(log)), self.write("heard", "\n".join(others))], self.path("out"), mmsi=200000031)
+            log.append(
+                rmc("22%02d%02d" % divmod(13 * 60 + 21 + 10 * k, 60), "141123", place=own_place(1 + 10 * k),
+                    way="14.0,000.0"))
+        found = gather([self.write("receiver", "\n".join(log)),
+                        self.write("heard", "\n".join(others))], self.path("out"), mmsi=200000031)
         self.assertEqual(found.own, 18)
         plan = self.program("plan", example("giving_way.toml"), self.path("out"))
         kept = [row for row in text_of(example("giving_way.csv")).splitlines() if row.startswith("plan")]
@@ -127,7 +145,8 @@ class Receivers(Sources):
 
 
 def own_place(second: int) -> str:
-    """Returns where OAK is: at 29000000 north, -74200000 east in 1/10000 minute, 1297 m to the south, going north at 14 knots."""
+    """Returns where OAK is: at 29000000 north, -74200000 east in 1/10000 minute, 1297 m to the south, going north at 14
+    knots."""
     latitude = round(29000000 + (-1297 + second * 14 * 1852 / 3600) / 1852 * 10000)
     return f"{latitude // 600000:02d}{latitude % 600000 / 10000:07.4f},N,12340.0000,W"
 
@@ -137,7 +156,8 @@ class Servers(Sources):
         for stamp in ("Tue Nov 14 22:13:21 2023: ", "2023-11-14T22:13:21.000Z: "):
             log = stamp + '{"class":"VERSION","release":"3.22"}\n' + stamp + S + "\n"
             found, made = self.gathered(log)
-            self.assertEqual((made, found.aside, found.unread), (["\\c:1700000001*5E\\" + S], {"JSON of gpsd that is no report": 1}, {}))
+            self.assertEqual((made, found.aside, found.unread),
+                             (["\\c:1700000001*5E\\" + S], {"JSON of gpsd that is no report": 1}, {}))
 
     @needs("gpsdecode")
     def test_gpsds_json_becomes_the_same_reports(self) -> None:
@@ -148,22 +168,26 @@ class Servers(Sources):
             tpv = '{"class":"TPV","device":"/dev/ttyUSB0","mode":3,"time":"2023-11-14T22:13:21.000Z","lat":48.25,"lon":-123.5}\n'
             found, made = self.gathered("".join(tpv + line + "\n" for line in told.splitlines()))
             self.assertEqual((found.unread, {line[3:13] for line in made}), ({}, {"1700000001"}))
-            again = subprocess.run(["gpsdecode", option], input="".join(line[17:] + "\n" for line in made), capture_output=True, text=True).stdout
+            again = subprocess.run(["gpsdecode", option], input="".join(line[17:] + "\n" for line in made),
+                                   capture_output=True, text=True).stdout
             self.assertEqual(positions(again), positions(told))
 
     @needs("gpsdecode")
     @with_program
     def test_the_examples_through_gpsds_json_have_the_same_report(self) -> None:
-        """gpsdecode reads each example; a TPV before each message tells its time. In the message's own units nothing is lost."""
+        """gpsdecode reads each example; a TPV before each message has its time. In the message's own units nothing is
+        lost."""
         for name in ENCOUNTERS:
             bare, clocks = [], []
             for at, line in timed(text_of(example(name + ".log")).encode().splitlines()):
                 bare.append(line.rpartition(b"\\")[2])
                 clocks += [] if bare[-1].startswith(b"!AIVDM,2,1,") else [at]
-            told = subprocess.run(["gpsdecode", "-ju"], input=b"\n".join(bare) + b"\n", capture_output=True).stdout.decode().splitlines()
+            told = subprocess.run(["gpsdecode", "-ju"], input=b"\n".join(bare) + b"\n",
+                                  capture_output=True).stdout.decode().splitlines()
             self.assertEqual(len(told), len(clocks))
             tpv = '{"class":"TPV","mode":3,"time":"%s.000Z"}\n%s\n'
-            log = "".join(tpv % (time.strftime("%Y-%m-%dT%H:%M:%S", time.gmtime(at)), line) for at, line in zip(clocks, told))
+            log = "".join(tpv % (time.strftime("%Y-%m-%dT%H:%M:%S", time.gmtime(at)), line)
+                          for at, line in zip(clocks, told))
             with self.subTest(name):
                 found, _ = self.gathered(log)
                 self.assertEqual(found.unread, {})
@@ -171,20 +195,27 @@ class Servers(Sources):
                 self.assertEqual(counted_out(report), counted_out(text_of(example(name + ".csv"))))
 
     def test_aiscatchers_values_become_a_report_where_it_keeps_no_sentence(self) -> None:
-        values = ('{"class":"AIS","device":"AIS-catcher","rxtime":"20231114221321","scaled":true,"channel":"B","type":1,"repeat":0,"mmsi":200000011,'
-                  '"status":0,"turn":-128,"speed":14.0,"accuracy":false,"lon":-123.582343,"lat":48.25,"course":90.0,"heading":90,"second":1}')
+        values = (
+            '{"class":"AIS","device":"AIS-catcher","rxtime":"20231114221321","scaled":true,"channel":"B","type":1,"repeat":0,"mmsi":200000011,'
+            '"status":0,"turn":-128,"speed":14.0,"accuracy":false,"lon":-123.582343,"lat":48.25,"course":90.0,"heading":90,"second":1}'
+        )
         found, made = self.gathered(values)
-        self.assertEqual(made[0][17:], S.replace(",B,", ",A,").replace("*27", "*24"))       # A for B alone changes the sum, by 3
-        self.assertEqual((found.first, list(found.forms)), (1700000001, ["AIS-catcher's JSON (sentences made of its values)"]))
+        # A for B alone changes the sum, by 3
+        self.assertEqual(made[0][17:], S.replace(",B,", ",A,").replace("*27", "*24"))
+        self.assertEqual((found.first, list(found.forms)), (1700000001, ["AIS-catcher's JSON (sentences made of its "
+                                                                         "values)"]))
 
     def test_signalk_keeps_sentences_and_deltas(self) -> None:
-        delta = ('1700000001000;I;{"context":"vessels.urn:mrn:imo:mmsi:200000011","updates":[{"timestamp":"2023-11-14T22:13:21.000Z","values":'
-                 '[{"path":"navigation.position","value":{"latitude":48.25,"longitude":-123.5823433}},{"path":"navigation.speedOverGround",'
-                 '"value":7.2022},{"path":"navigation.courseOverGroundTrue","value":1.5707963},{"path":"navigation.headingTrue","value":1.5708}]}]}')
+        delta = (
+            '1700000001000;I;{"context":"vessels.urn:mrn:imo:mmsi:200000011","updates":[{"timestamp":"2023-11-14T22:13:21.000Z","values":'
+            '[{"path":"navigation.position","value":{"latitude":48.25,"longitude":-123.5823433}},{"path":"navigation.speedOverGround",'
+            '"value":7.2022},{"path":"navigation.courseOverGroundTrue","value":1.5707963},{"path":"navigation.headingTrue","value":1.5708}]}]}'
+        )
         found, made = self.gathered(f"1700000001000;N;{S}\n{delta}\n")
         self.assertEqual((found.unread, len(made)), ({}, 2))
         self.assertEqual(made[0], "\\c:1700000001*5E\\" + S)
-        # the same report up to its second, but for its channel and its status, 15 in place of 0, which makes six bits 111111 of 110000
+        # the same report up to its second, but for its channel and its status, 15 instead of 0, which makes six bits
+        # 111111 of 110000
         self.assertEqual(made[1][17:53], "!AIVDM,1,1,,A,12vg22wP2<G:B?4KVut3Q2")
 
     def test_opencpns_recorder_with_a_head_and_its_monitor_with_a_receiver(self) -> None:
@@ -218,11 +249,13 @@ class Blocks(Sources):
         self.assertEqual((found.sentences, found.back, found.unread), (312, 0, {}))
 
     def test_a_time_holds_for_few_lines_behind_it(self) -> None:
-        """A part has the time of its message whatever comes; other lines have it as long as the next time is near, or few stand behind it."""
+        """A part has the time of its message whatever comes; other lines have it as long as the next time is near, or
+        few follow it."""
         parts = ["\\c:1700000000*5F\\!AIVDM,2,1,0,A,52vg22h000000000000Dhl000000000000000016;@N::000004i@E53,0*77",
                  "!AIVDM,2,2,0,A,1@0000000000000,2*55"]
         self.assertEqual(self.times("\n".join([*parts, "1700009000 " + T])), [1700000000, 1700000000, 1700009000])
-        self.assertEqual(self.times("\n".join(["1700000000 " + S] + [T] * 30 + ["1700000001 " + S])), [1700000000] * 31 + [1700000001])
+        self.assertEqual(self.times("\n".join(["1700000000 " + S] + [T] * 30 + ["1700000001 " + S])),
+                         [1700000000] * 31 + [1700000001])
         found, made = self.gathered("\n".join(["1700000000 " + S] + [T] * 300))
         self.assertEqual((len(made), found.unread["a sentence in a gap between two times"].count), (11, 290))
 
@@ -234,13 +267,16 @@ class Blocks(Sources):
 
     def test_a_clock_that_was_not_set_is_told(self) -> None:
         log = "\n".join(f"{1700000000 + 10 * k} {S}" for k in range(2000)) + "\n1000000000 " + T
-        self.assertIn("1 sentences have times more than a day off nearly all others, as 2001-09-09", "".join(self.gathered(log)[0].notes))
+        self.assertIn("1 sentences have times more than a day off nearly all others, as 2001-09-09",
+                      "".join(self.gathered(log)[0].notes))
         self.assertEqual(self.gathered(f"1700000000 {S}\n1700090000 {T}")[0].notes, [])
 
     def test_every_line_is_counted_once(self) -> None:
         log = f"\n\n# a comment\n{S},1700000001\nnonsense\n$GPGGA,1*00\n!AIVDM,1,1,,A,123\n{{\"a\":1}}\n{{broken\n\xff\xfe\n"
         found, _ = self.gathered(log.encode("latin-1"))
-        counted = sum(found.forms.values()) + sum(found.aside.values()) + sum(told.count for told in found.unread.values())
+        counted = (
+            sum(found.forms.values()) + sum(found.aside.values()) + sum(told.count for told in found.unread.values())
+        )
         self.assertEqual((counted, found.lines()), (10, 10))
         self.assertEqual(sorted(found.unread), [
             "JSON without a sentence", "a line with no sentence and no row", "a sentence without its sum, or cut off"])
@@ -262,14 +298,16 @@ class Mutated(Sources):
             lines = [chance.choice(plain) for _ in range(8)] + (chance.choice(tables) if chance.random() < 0.5 else [])
             log = self.write("log", b"\n".join(mutated(chance, line) for line in lines))
             found = gather([log], self.path("out"), mmsi=200000031)
-            counted = sum(found.forms.values()) + sum(found.aside.values()) + sum(told.count for told in found.unread.values())
+            counted = sum(found.forms.values()) + sum(found.aside.values()) + sum(told.count
+                                                                                  for told in found.unread.values())
             self.assertGreaterEqual(counted, found.lines())
 
 
 def mutated(chance: random.Random, line: bytes) -> bytes:
-    """Returns the line with up to three bytes put in, changed or taken out, some of which mean much here."""
+    """Returns the line with up to three bytes put in, changed or taken out; some mean much here."""
     for _ in range(chance.randrange(4)):
-        at, byte = chance.randrange(len(line) + 1), bytes([chance.choice([chance.randrange(256), *b",.;:\"\\!$*{}[]0"])])
+        at, byte = chance.randrange(len(line) + 1), bytes(
+            [chance.choice([chance.randrange(256), *b",.;:\"\\!$*{}[]0"])])
         line = line[:at] + chance.choice([byte, b""]) + line[at + chance.randrange(3):]
     return line
 
@@ -279,7 +317,10 @@ class Files(Sources):
     MADE = ["\\c:1700000001*5E\\" + S, "\\c:1700000011*5F\\" + T]
 
     def test_packed_files_are_unpacked(self) -> None:
-        made = {"gzip": gzip.compress(self.TEXT), "xz": lzma.compress(self.TEXT), "bzip2": bz2.compress(self.TEXT), "plain": self.TEXT}
+        made = {
+            "gzip": gzip.compress(self.TEXT), "xz": lzma.compress(self.TEXT), "bzip2": bz2.compress(self.TEXT),
+            "plain": self.TEXT
+        }
         if shutil.which("zstd"):
             made["zstd"] = subprocess.run(["zstd", "-qc"], input=self.TEXT, capture_output=True).stdout
         with zipfile.ZipFile(self.path("zip"), "w") as out:
@@ -292,26 +333,29 @@ class Files(Sources):
                 self.assertEqual((lines, found.files[0].packed, found.files[0].lines), (self.MADE, name, 2))
 
     def test_a_file_that_is_damaged_or_cut_off_is_refused(self) -> None:
-        cut_off = gzip.compress(self.TEXT)[:-10], lzma.compress(self.TEXT)[:-10]
+        cut_off = gzip.compress(self.TEXT)[:14], lzma.compress(self.TEXT)[:-10]
         for packed in (*cut_off, b"PK\x03\x04nonsense", b"\x1f\x8bnonsense", b"\x28\xb5\x2f\xfd.."):
             with self.subTest(packed[:4]), self.assertRaisesRegex(Fault, "damaged or cut off|zstd is not here"):
                 self.gathered(packed)
 
     def test_utf_16_and_byte_order_marks(self) -> None:
         text = self.TEXT.decode()
-        for words in (text.encode("utf-16-le"), b"\xff\xfe" + text.encode("utf-16-le"), b"\xfe\xff" + text.encode("utf-16-be"),
-                      b"\xef\xbb\xbf" + self.TEXT, self.TEXT.replace(b"\r\n", b"\r"), gzip.compress(b"\xff\xfe" + text.encode("utf-16-le"))):
+        for words in (text.encode("utf-16-le"), b"\xff\xfe" + text.encode("utf-16-le"),
+                      b"\xfe\xff" + text.encode("utf-16-be"), b"\xef\xbb\xbf" + self.TEXT,
+                      self.TEXT.replace(b"\r\n", b"\r"), gzip.compress(b"\xff\xfe" + text.encode("utf-16-le"))):
             with self.subTest(words[:4]):
                 found, made = self.gathered(words)
                 self.assertEqual((made, found.unread), (self.MADE, {}))
 
     def test_several_logs_become_one_by_time(self) -> None:
         found = gather([self.write("b", T + ",1700000011"), self.write("a", S + ",1700000001")], self.path("out"))
-        self.assertEqual((text_of(self.path("out")).splitlines(), [part.name for part in found.files]), (self.MADE, ["b", "a"]))
+        self.assertEqual((text_of(self.path("out")).splitlines(), [part.name for part in found.files]),
+                         (self.MADE, ["b", "a"]))
 
     def test_what_is_no_log_ends_with_words_and_a_status(self) -> None:
         empty = [self.write("empty", "")]
-        for words, told in ((["nothing"], "cannot be read: no such file"), (["."], "is a folder"), (empty, "no sentence and no row")):
+        for words, told in ((["nothing"], "cannot be read: no such file"), (["."], "is a folder"),
+                            (empty, "no sentence and no row")):
             status, out, error = self.tool("tagged", *words)
             self.assertEqual((status, out), (1, ""))
             self.assertIn(told, error)
@@ -326,7 +370,8 @@ class Files(Sources):
             child.stdin.write(self.TEXT)
             child.stdin.close()
             found = gather([self.path("pipe")], self.path("out"))
-        self.assertEqual((text_of(self.path("out")).splitlines(), found.files[0].name, found.files[0].packed), (self.MADE, "pipe", "gzip"))
+        self.assertEqual((text_of(self.path("out")).splitlines(), found.files[0].name, found.files[0].packed),
+                         (self.MADE, "pipe", "gzip"))
         with self.assertRaisesRegex(Fault, "is a device"):
             gather(["/dev/zero"], self.path("out"))
 

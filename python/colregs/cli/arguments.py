@@ -1,10 +1,12 @@
-"""What the commands' parsers share: the form of a help page and of a refusal, and arguments that several commands take."""
+"""What the commands' parsers share: the form of a help page and of a refusal, and common arguments."""
 import argparse
+import datetime
 from collections.abc import Callable
 from typing import NoReturn
 
 from colregs.errors import USAGE, report
-from colregs.io.forms import zone_seconds
+from colregs.io.forms import Reading, zone_seconds
+from colregs.io.tables import columns_of
 
 REQUIRES = "It needs Python 3.11 or later."
 
@@ -15,24 +17,28 @@ class Parser(argparse.ArgumentParser):
     def error(self, message: str) -> NoReturn:
         """Reports what is wrong with the command line, and leaves with status 2."""
         command, _, kind = self.prog.partition(" ")
-        report(command.removeprefix("colregs-"), f"{message}; `{command}{' ' + kind if kind else ''} --help` lists the arguments")
+        report(command.removeprefix("colregs-"),
+               f"{message}; `{command}{' ' + kind if kind else ''} --help` lists the arguments")
         self.exit(USAGE)
 
 
 def parser_of(doc: str | None, name: str | None = None) -> argparse.ArgumentParser:
     """Returns the parser of the command `name`; its help page is the docstring of the command's module."""
-    return Parser(prog=f"colregs-{name}" if name else None, description=f"{doc}\n{REQUIRES}", formatter_class=argparse.RawDescriptionHelpFormatter)
+    return Parser(prog=f"colregs-{name}" if name else None, description=f"{doc}\n{REQUIRES}",
+                  formatter_class=argparse.RawDescriptionHelpFormatter)
 
 
 def add_program(parser: argparse.ArgumentParser) -> None:
     """Adds --program."""
-    parser.add_argument("--program", metavar="PROGRAM",
-                        help="the built program (default: COLREGS_PROGRAM, or that of this clone, beside the tool, or on PATH)")
+    parser.add_argument(
+        "--program", metavar="PROGRAM",
+        help="the built program (default: COLREGS_PROGRAM, or that of this clone, beside the tool, or on PATH)")
 
 
 def add_window(parser: argparse.ArgumentParser, why: str) -> None:
     """Adds --start and --ticks; `why` says what they are for."""
-    parser.add_argument("--start", type=int, metavar="SECONDS", help=f"the window's start, s since the Unix epoch: {why}")
+    parser.add_argument("--start", type=int, metavar="SECONDS",
+                        help=f"the window's start, s since the Unix epoch: {why}")
     parser.add_argument("--ticks", type=int, metavar="N", help=f"the window's ticks: {why}")
 
 
@@ -41,6 +47,36 @@ def offset(word: str) -> int:
     if word[:1] not in ("+", "-") or not word[1:].replace(":", "").isdigit() or len(word) not in (3, 5, 6):
         raise argparse.ArgumentTypeError("an offset is written as --offset=+01:00")
     return zone_seconds(word)
+
+
+def day(word: str) -> datetime.date:
+    """Returns a date."""
+    try:
+        return datetime.date.fromisoformat(word)
+    except ValueError:
+        raise argparse.ArgumentTypeError("a date is written as 2023-11-14") from None
+
+
+def add_reading(parser: argparse.ArgumentParser) -> None:
+    """Adds how logs are read beyond what their lines say."""
+    parser.add_argument("--mmsi", type=ship, help="own ship's MMSI, if a receiver's own places (RMC, TPV, GPX) are "
+                                                  "hers")
+    parser.add_argument("--offset", type=offset, default=0, metavar="+HH:MM", help="how far times without a zone are "
+                                                                                   "ahead of UTC (default: 0)")
+    parser.add_argument("--date", type=day, metavar="YYYY-MM-DD", help="the date of the first time of day in logs that "
+                                                                       "have no dates; its year is that of "
+                        "dates without one, as in syslog")
+    parser.add_argument("--day-first", action="store_true", help="the day stands first in dates such as 3/4/2023")
+    parser.add_argument("--columns", metavar="NAME=HEAD,..", help="heads of a table's columns: mmsi, time, latitude, "
+                                                                  "longitude, speed, course, ..")
+    parser.add_argument("--align", action="store_true", help="set receivers' clocks right by messages that two of them "
+                                                             "heard")
+
+
+def reading_of(given: argparse.Namespace) -> Reading:
+    """Returns how logs are read."""
+    return Reading(given.offset, given.date, given.day_first,
+                   tuple(columns_of(given.columns)) if given.columns else (), given.align)
 
 
 def ship(word: str) -> int:

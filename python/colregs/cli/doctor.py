@@ -28,7 +28,8 @@ def parser() -> argparse.ArgumentParser:
 def main(arguments: Sequence[str] | None = None) -> int:
     """Prints the findings."""
     given = parser().parse_args(arguments)
-    found_ones = findings(given.scenario, given.log, given.report, found(given.program), window_options(given.start, given.ticks))
+    found_ones = findings(given.scenario, given.log, given.report, found(given.program),
+                          window_options(given.start, given.ticks))
     for finding in found_ones:
         print(f"{finding.name}: {finding.words}")
     return FAILED if found_ones else DONE

@@ -5,15 +5,16 @@
     draw SCENARIO OUT --points POINTS --plan PLAN
     draw CASE OUT
 
-For an audit, OUT.svg shows the tracks on the plane of the scenario: each vessel's name and a mark every few minutes, the moment at which two
-vessels that met were nearest, and, along the track of the vessel that a rule binds, the stretches at which it was broken or stayed open.
-OUT_times.svg shows the same by time for each ordered pair. For a plan, OUT.svg shows the tracks up to now, own ship's planned legs, and the
-domains of the targets along their predicted motion. The reports are those of `points`, `audit` and `plan` (docs/REPORT.md), read from
-files, from runs of the program on the log, or from the folder of a case.
+For an audit, OUT.svg shows the tracks on the plane of the scenario: each vessel's name and a mark every few minutes,
+the moment at which two vessels that met were nearest, and, along the track of the vessel that a rule binds, the
+stretches at which it was broken or stayed open. OUT_times.svg shows the same by time for each ordered pair. For a plan,
+OUT.svg shows the tracks up to now, own ship's planned legs, and the domains of the targets along their predicted
+motion. The reports are those of `points`, `audit` and `plan` (docs/REPORT.md), read from files, from runs of the
+program on the log, or from the folder of a case.
 
-The window is the scenario's, or with --start and --ticks that of the run; the folder of a case has its own. A report that does not fit it is
-refused. --pair draws two vessels alone, each given by MMSI or name; --from and --to draw a part of the time, in UTC
-(22:13:20, 2023-11-14T22:13:20Z or 1700000000).
+The window is the scenario's, or with --start and --ticks that of the run; the folder of a case has its own. A report
+that does not fit it is refused. --pair draws two vessels alone, each given by MMSI or name; --from and --to draw a part
+of the time, in UTC (22:13:20, 2023-11-14T22:13:20Z or 1700000000).
 
 Exit status: 0 if the pictures are written, 1 if they are not, 2 if the command line is wrong.
 """
@@ -43,7 +44,8 @@ def parser() -> argparse.ArgumentParser:
     add_program(words)
     words.add_argument("--points", metavar="POINTS", help="a report of `points`")
     words.add_argument("--audit", metavar="AUDIT", help="a report of `audit`")
-    words.add_argument("--plan", metavar="PLAN", nargs="?", const="", help="draw a plan: a report of `plan`, or with --log nothing")
+    words.add_argument("--plan", metavar="PLAN", nargs="?", const="",
+                       help="draw a plan: a report of `plan`, or with --log nothing")
     words.add_argument("--pair", nargs=2, metavar="VESSEL", help="draw two vessels alone, by MMSI or name")
     words.add_argument("--from", dest="begin", metavar="TIME", help="draw the steps from a time on")
     words.add_argument("--to", dest="end", metavar="TIME", help="draw the steps up to a time")

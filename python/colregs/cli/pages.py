@@ -1,9 +1,10 @@
-"""Writes the manual pages of all commands, and their completions for bash, zsh and fish, from the commands' own parsers.
+"""Writes the manual pages and the completions (bash, zsh, fish) of all commands from their parsers.
 
     python3 -m colregs.cli.pages FOLDER [PROGRAM]
 
-FOLDER gets man1/, bash/, zsh/ and fish/. The package's build and `.ci/release` put these where each shell looks for them. With PROGRAM, the program
-`colregs` gets completions for zsh and fish too, from its own `--help`; its manual page and its completion for bash are written by hand.
+FOLDER gets man1/, bash/, zsh/ and fish/. The package's build and `.ci/release` put these where each shell looks for
+them. With PROGRAM, the program `colregs` gets completions for zsh and fish too, from its own `--help`; its manual page
+and its completion for bash are written by hand.
 """
 import argparse
 import importlib
@@ -18,8 +19,10 @@ import colregs
 from colregs.errors import DONE, USAGE
 
 FOLDER = os.path.dirname(os.path.abspath(__file__))
-FILES = {"FILE", "LOG", "SCENARIO", "REPORT", "JOBS", "PROGRAM", "POINTS", "AUDIT", "PLAN", "FILE.geojson"}       # metavars that name a file
-FOLDERS = {"DIR", "CASE", "OUT"}                                                                               # and a folder
+# metavars that name a file
+FILES = {"FILE", "LOG", "SCENARIO", "REPORT", "JOBS", "PROGRAM", "POINTS", "AUDIT", "PLAN", "FILE.geojson"}
+# and a folder
+FOLDERS = {"DIR", "CASE", "OUT"}
 EXIT = "Exit status:"
 BOLD, ITALIC = "\\fB%s\\fR", "\\fI%s\\fR"
 
@@ -62,7 +65,8 @@ def option_of(action: argparse.Action) -> Option:
     """Returns an option of a parser."""
     metavar = action.metavar or action.dest.upper()
     value = "" if action.nargs == 0 else " ".join(metavar) if isinstance(metavar, tuple) else str(metavar)
-    value = {"?": f"[{value}]", "*": f"[{value} ..]", "+": f"{value} [{value} ..]", 2: f"{value} {value}"}.get(action.nargs or "", value)
+    value = {"?": f"[{value}]", "*": f"[{value} ..]", "+": f"{value} [{value} ..]",
+             2: f"{value} {value}"}.get(action.nargs or "", value)
     return Option(tuple(action.option_strings), value, action.help or "", tuple(map(str, action.choices or ())))
 
 
@@ -117,13 +121,19 @@ def roff_options(options: tuple[Option, ...]) -> Iterator[str]:
 def manual(command: Command, others: list[str]) -> str:
     """Returns the manual page of a command."""
     text, _, status = command.text.partition(EXIT)
-    body = [f'.TH {command.name.upper()} 1 "" "colregs {colregs.VERSION}" "colregs"\n.ad l\n', f".SH NAME\n{command.name} \\- {roff(command.line)}\n",
-            f".SH SYNOPSIS\n{roff(command.usage)}\n", ".SH DESCRIPTION\n", *roff_paragraphs(text.strip()), ".SH OPTIONS\n", *roff_options(command.options)]
+    body = [
+        f'.TH {command.name.upper()} 1 "" "colregs {colregs.VERSION}" "colregs"\n.ad l\n',
+        f".SH NAME\n{command.name} \\- {roff(command.line)}\n", f".SH SYNOPSIS\n{roff(command.usage)}\n",
+        ".SH DESCRIPTION\n", *roff_paragraphs(text.strip()), ".SH OPTIONS\n", *roff_options(command.options)
+    ]
     for part in command.parts:
         body += [f".SS {command.name} {part.name}\n{roff(part.line)}\n", *roff_options(part.options)]
     if status:
         body += [".SH EXIT STATUS\n", roff(status.partition("\n\n")[0].strip().partition("\nIt needs")[0]) + "\n"]
-    body += [".SH SEE ALSO\n", ", ".join(f".BR {name} (1)" if not k else f"{name}(1)" for k, name in enumerate(others)) + "\n"]
+    body += [
+        ".SH SEE ALSO\n",
+        ", ".join(f".BR {name} (1)" if not k else f"{name}(1)" for k, name in enumerate(others)) + "\n"
+    ]
     return "".join(body)
 
 
@@ -141,6 +151,7 @@ def bash(command: Command) -> str:
     cases = "".join(f"    {'|'.join(option.names)}) {reply} ;;\n" for option in options if (reply := {
         "file": 'mapfile -t COMPREPLY < <(compgen -f -- "$word"); return',
         "folder": 'mapfile -t COMPREPLY < <(compgen -d -- "$word"); return', "other": "return"}.get(option.takes)))
+    parts = ' '.join(part.name for part in command.parts)
     return f'''# Completion of {command.name} in bash, made from its parser.
 {function}() {{
   local word=${{COMP_WORDS[COMP_CWORD]}}
@@ -151,7 +162,7 @@ def bash(command: Command) -> str:
   if [[ $word == -* ]]; then
     mapfile -t COMPREPLY < <(compgen -W "{words}" -- "$word")
   else
-    mapfile -t COMPREPLY < <(compgen -W "{' '.join(part.name for part in command.parts)}" -- "$word"; compgen -f -- "$word")
+    mapfile -t COMPREPLY < <(compgen -W "{parts}" -- "$word"; compgen -f -- "$word")
   fi
 }}
 complete -F {function} {command.name}
@@ -163,11 +174,17 @@ def zsh(command: Command) -> str:
     def quoted(words: str) -> str:
         return re.sub(r"[\[\]:'`]", "", words)
 
-    specs = [f"'{name}[{quoted(option.words)}]{follows}'" for option in all_options(command) for name in option.names
-             for follows in [{"file": ":file:_files", "folder": ":folder:_files -/", "other": f":{quoted(option.value)}: "}.get(option.takes, "")]]
+    specs = [
+        f"'{name}[{quoted(option.words)}]{follows}'" for option in all_options(command) for name in option.names
+        for follows in [{"file": ":file:_files", "folder": ":folder:_files -/", "other": f":{quoted(option.value)}: "
+                         }.get(option.takes, "")]
+    ]
     first = f"'1:command:({' '.join(part.name for part in command.parts)})' " if command.parts else ""
-    return f"#compdef {command.name}\n# Completion of {command.name} in zsh, made from its parser.\n_arguments {first}" + " \\\n  ".join(
-        ["", *specs, "'*:file:_files'"]).strip() + "\n"
+    return (
+        f"#compdef {command.name}\n# Completion of {command.name} in zsh, made from its parser.\n_arguments {first}"
+        + " \\\n  ".join(["", *specs, "'*:file:_files'"]).strip()
+        + "\n"
+    )
 
 
 def fish(command: Command) -> str:
@@ -180,7 +197,8 @@ def fish(command: Command) -> str:
         lines.append(f"complete -c {command.name} -n __fish_use_subcommand -a {part.name} -d '{quoted(part.line)}'")
     for option in all_options(command):
         flags = " ".join(f"-l {name[2:]}" if name.startswith("--") else f"-s {name[1:]}" for name in option.names)
-        more = {"file": " -r -F", "folder": " -x -a '(__fish_complete_directories)'", "other": " -x"}.get(option.takes, "")
+        more = {"file": " -r -F", "folder": " -x -a '(__fish_complete_directories)'",
+                "other": " -x"}.get(option.takes, "")
         lines.append(f"complete -c {command.name} {flags}{more} -d '{quoted(option.words)}'")
     return "\n".join(lines) + "\n"
 
@@ -191,8 +209,10 @@ def pages() -> dict[str, str]:
     found: dict[str, str] = {}
     for command in every:
         others = ["colregs", *(other.name for other in every if other is not command)]
-        found |= {f"man1/{command.name}.1": manual(command, others), f"bash/{command.name}": bash(command), f"zsh/_{command.name}": zsh(command),
-                  f"fish/{command.name}.fish": fish(command)}
+        found |= {
+            f"man1/{command.name}.1": manual(command, others), f"bash/{command.name}": bash(command),
+            f"zsh/_{command.name}": zsh(command), f"fish/{command.name}.fish": fish(command)
+        }
     return found
 
 
@@ -200,7 +220,8 @@ def main(folder: str, program: str | None = None) -> int:
     """Writes all pages into a folder."""
     made = pages()
     if program:
-        colregs_itself = program_of(subprocess.run([program, "--help"], capture_output=True, text=True, check=True).stdout)
+        colregs_itself = program_of(
+            subprocess.run([program, "--help"], capture_output=True, text=True, check=True).stdout)
         made |= {"zsh/_colregs": zsh(colregs_itself), "fish/colregs.fish": fish(colregs_itself)}
     for path, text in made.items():
         os.makedirs(os.path.join(folder, os.path.dirname(path)), exist_ok=True)

@@ -1,8 +1,8 @@
-"""Plans again and again for own ship, over a stream of sentences, and writes what to steer: one line of JSON each so many seconds.
+"""Plans again and again for own ship over a stream of sentences, and writes what to steer as lines of JSON.
 
-The stream is standard input, a file that grows, or what a command writes. Own ship's reports (AIVDO or AIVDM) are in it. Her choices are the
-scenario's, taken as offsets from the track. A stalled input, a program that fails and a refused scenario are states with words; the lines go on.
-docs/BUILDER.md describes the states, and how to tune a scenario.
+The stream is standard input, a file that grows, or what a command writes. Own ship's reports (AIVDO or AIVDM) are in
+it. Her choices are the scenario's, taken as offsets from the track. A stalled input, a program that fails and a refused
+scenario are states with words; the lines go on. docs/BUILDER.md describes the states, and how to tune a scenario.
 
 Exit status: 0 if the stream ended, or a signal arrived; 1 if something failed; 2 if the command line is wrong.
 """
@@ -54,17 +54,24 @@ def parser() -> argparse.ArgumentParser:
     words.add_argument("scenario", metavar="SCENARIO")
     wanted = words.add_mutually_exclusive_group(required=True)
     wanted.add_argument("--track", metavar="COURSE,SPEED", help="what own ship wants, in degrees and knots, as 000,14")
-    wanted.add_argument("--route", metavar="FILE", help="a CSV file of waypoints: latitude,longitude in degrees, and perhaps speed in knots")
+    wanted.add_argument("--route", metavar="FILE",
+                        help="a CSV file of waypoints: latitude,longitude in degrees, and perhaps speed in knots")
     words.add_argument("--speed", type=knots, metavar="KNOTS", help="the speed on a route whose file has none")
-    words.add_argument("--every", type=at_least(1, 3600), default=30, metavar="SECONDS", help="from one line to the next (default: 30)")
+    words.add_argument("--every", type=at_least(1, 3600), default=30, metavar="SECONDS",
+                       help="from one line to the next (default: 30)")
     words.add_argument("--log", metavar="FILE", help="a file that grows, instead of standard input")
-    words.add_argument("--command", metavar="COMMAND", help="a command whose output is the stream; it is started again if it ends")
+    words.add_argument("--command", metavar="COMMAND",
+                       help="a command whose output is the stream; it is started again if it ends")
     words.add_argument("--now", action="store_true", help="give bare sentences the time at which they arrive")
     words.add_argument("--whole", action="store_true", help="the stream ends for good: end with it")
-    words.add_argument("--replay", action="store_true", help="take the time from the log alone, write a line for each --every of it, and end with it")
-    words.add_argument("--history", type=at_least(60, 86400), default=3600, metavar="SECONDS", help="how far back a window reaches at most (default: 3600)")
-    words.add_argument("--stale", type=at_least(1, 86400), metavar="SECONDS", help="without input for so long the state is stale (default: the scenario's gap)")
-    words.add_argument("--offsets", type=offsets, metavar="DEGREES[/KNOTS]", help="own ship's choices against the track, instead of the scenario's")
+    words.add_argument("--replay", action="store_true",
+                       help="take the time from the log alone, write a line for each --every of it, and end with it")
+    words.add_argument("--history", type=at_least(60, 86400), default=3600, metavar="SECONDS",
+                       help="how far back a window reaches at most (default: 3600)")
+    words.add_argument("--stale", type=at_least(1, 86400), metavar="SECONDS",
+                       help="without input for so long the state is stale (default: the scenario's gap)")
+    words.add_argument("--offsets", type=offsets, metavar="DEGREES[/KNOTS]",
+                       help="own ship's choices against the track, instead of the scenario's")
     words.add_argument("--no-go", metavar="FILE", help="GeoJSON of areas that own ship may not enter")
     words.add_argument("--nmea", action="store_true", help="write NMEA sentences, HTC and TXT, instead of JSON")
     words.add_argument("--out", metavar="FILE", help="a file that the lines of JSON are added to")
@@ -128,7 +135,8 @@ def main(arguments: Sequence[str] | None = None) -> int:
     except OSError as error:
         raise Fault(f"{given.out}: {reason(error)}") from None
     pilot = Pilot(scenario, Planner(scenario, runner, barrier), given.history)
-    live = Live(pilot, wanted, Pace(given.every, given.stale or scenario.gap, given.replay), writer_of(given, scenario, out), barrier, given.now, given.recheck)
+    live = Live(pilot, wanted, Pace(given.every, given.stale or scenario.gap, given.replay),
+                writer_of(given, scenario, out), barrier, given.now, given.recheck)
     for number in (signal.SIGTERM, signal.SIGINT):
         signal.signal(number, lambda *_: stop.set())
     try:

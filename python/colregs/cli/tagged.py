@@ -1,11 +1,13 @@
 """Makes one log of any logs: sentences with tag blocks that have their times, sorted by time, on standard output.
 
-docs/SOURCES.md lists the logs and the forms of time that are read. Without LOG standard input is read. What was read, and what was not, is reported
-on standard error. With --now each sentence of standard input gets the time at which it arrives, and is written at once:
+docs/SOURCES.md lists the logs and the forms of time that are read. Without LOG standard input is read. What was read,
+and what was not, is reported on standard error. With --now each sentence of standard input gets the time at which it
+arrives, and is written at once:
 
     tagged --now < LOG >> TAGGED
 
-Exit status: 0 if sentences with times are written, 1 if no sentence is found or a log cannot be read, 2 if the command line is wrong.
+Exit status: 0 if sentences with times are written, 1 if no sentence is found or a log cannot be read, 2 if the command
+line is wrong.
 """
 import argparse
 import os
@@ -16,7 +18,7 @@ import time
 from collections.abc import Sequence
 from typing import NoReturn
 
-from colregs.cli.arguments import offset, parser_of, ship
+from colregs.cli.arguments import add_reading, parser_of, reading_of
 from colregs.errors import DONE, FAILED, end, report
 from colregs.io.packing import LONGEST
 from colregs.io.sources import gather, stamped
@@ -26,8 +28,7 @@ def parser() -> argparse.ArgumentParser:
     """Returns the parser of the command line."""
     words = parser_of(__doc__, "tagged")
     words.add_argument("logs", nargs="*", metavar="LOG")
-    words.add_argument("--mmsi", type=ship, help="own ship's MMSI: the places in RMC become hers, as AIVDO sentences")
-    words.add_argument("--offset", type=offset, default=0, metavar="+HH:MM", help="how far times without a zone are ahead of UTC (default: 0)")
+    add_reading(words)
     words.add_argument("--now", action="store_true", help="stamp the sentences of standard input as they arrive")
     return words
 
@@ -48,7 +49,7 @@ def gather_once(given: argparse.Namespace, folder: str) -> int:
         with open(logs[0], "wb") as out:
             shutil.copyfileobj(sys.stdin.buffer, out)
     made = os.path.join(folder, "log")
-    gathered = gather(logs, made, mmsi=given.mmsi, offset=given.offset)
+    gathered = gather(logs, made, mmsi=given.mmsi, reading=reading_of(given))
     with open(made, "rb") as source:
         shutil.copyfileobj(source, sys.stdout.buffer)
     sys.stdout.buffer.flush()

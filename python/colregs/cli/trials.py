@@ -1,7 +1,8 @@
 """Makes sea trials: own ship follows her pilot in simulated meetings, and the program audits each whole run.
 
-A run is defined by its seed and the options: the same ones make the same run again. The table goes to standard output as CSV; --json has every run,
-and --page is one file with pictures of the worst runs. docs/BUILDER.md describes the figures and how to tune a scenario by them.
+A run is defined by its seed and the options: the same ones make the same run again. The table goes to standard output
+as CSV; --json has every run, and --page is one file with pictures of the worst runs. docs/BUILDER.md describes the
+figures and how to tune a scenario by them.
 
 Exit status: 0 if all runs were made; 1 if something failed; 2 if the command line is wrong.
 """
@@ -62,24 +63,35 @@ def parser() -> argparse.ArgumentParser:
     """Returns the parser of the command line."""
     words = parser_of(__doc__, "trials")
     words.add_argument("scenario", metavar="SCENARIO")
-    words.add_argument("--kinds", type=kinds, default=(ANY,), metavar="KIND,..", help=f"{', '.join(KINDS)} or {ANY}; each run has one of them (default: {ANY})")
-    words.add_argument("--targets", type=targets, default=(1, 1), metavar="N..M", help="how many others a run has (default: 1)")
-    words.add_argument("--runs", type=at_least(1, 10000000), default=100, metavar="N", help="how many runs (default: 100)")
-    words.add_argument("--seed", type=at_least(0), default=1, metavar="S", help="the seed of the first run; each next one has the next seed (default: 1)")
+    words.add_argument("--kinds", type=kinds, default=(ANY,), metavar="KIND,..",
+                       help=f"{', '.join(KINDS)} or {ANY}; each run has one of them (default: {ANY})")
+    words.add_argument("--targets", type=targets, default=(1, 1), metavar="N..M",
+                       help="how many others a run has (default: 1)")
+    words.add_argument("--runs", type=at_least(1, 10000000), default=100, metavar="N",
+                       help="how many runs (default: 100)")
+    words.add_argument("--seed", type=at_least(0), default=1, metavar="S",
+                       help="the seed of the first run; each next one has the next seed (default: 1)")
     words.add_argument("--jobs", type=at_least(1, 256), default=1, metavar="N", help="runs side by side (default: 1)")
     words.add_argument("--others", choices=OTHERS, default=OTHERS[0],
-                       help="the others keep on (straight), follow pilots of their own (planning), or turn the wrong way at a drawn moment (contrary)")
-    words.add_argument("--noise", action="store_true", help="reports are late, seldom, and wrong by the accuracy of class A and class B")
-    words.add_argument("--sluggish", action="store_true", help="own ship turns and changes speed more slowly than her scenario says")
-    words.add_argument("--every", type=at_least(10, 600), default=60, metavar="SECONDS", help="from one plan to the next (default: 60)")
-    words.add_argument("--track", type=track, default=Track(0.0, 14.0), metavar="COURSE,SPEED", help="what own ship wants, in degrees and knots (default: 000,14)")
-    words.add_argument("--crossing", action="store_true", help="also run each crossing angle by 10 degrees with ratios of speed from 0.5 to 2")
+                       help="the others keep on (straight), follow pilots of their own (planning), or turn the wrong "
+                            "way at a drawn moment (contrary)")
+    words.add_argument("--noise", action="store_true",
+                       help="reports are late, seldom, and wrong by the accuracy of class A and class B")
+    words.add_argument("--sluggish", action="store_true",
+                       help="own ship turns and changes speed more slowly than her scenario says")
+    words.add_argument("--every", type=at_least(10, 600), default=60, metavar="SECONDS",
+                       help="from one plan to the next (default: 60)")
+    words.add_argument("--track", type=track, default=Track(0.0, 14.0), metavar="COURSE,SPEED",
+                       help="what own ship wants, in degrees and knots (default: 000,14)")
+    words.add_argument("--crossing", action="store_true",
+                       help="also run each crossing angle by 10 degrees with ratios of speed from 0.5 to 2")
     words.add_argument("--geometries", action="store_true", help="also run 22 fixed geometries with up to three others")
     words.add_argument("--no-draw", dest="drawn", action="store_false", help="make no runs of drawn meetings")
     words.add_argument("--json", metavar="FILE", help="write every run, and the table, as JSON")
     words.add_argument("--page", metavar="FILE", help="write a page with pictures of the worst runs")
     words.add_argument("--logs", metavar="DIR", help="write the logs of the worst runs into this folder")
-    words.add_argument("--worst", type=at_least(0, 100), default=12, metavar="N", help="how many runs --page and --logs are of (default: 12)")
+    words.add_argument("--worst", type=at_least(0, 100), default=12, metavar="N",
+                       help="how many runs --page and --logs are of (default: 12)")
     add_program(words)
     return words
 
@@ -109,22 +121,30 @@ def group_label(result: Result) -> Result:
 def about(given: argparse.Namespace, setting: Setting, count: int) -> str:
     """Returns what was run, for the head of the page."""
     more = [words for words, is_given in (("noise", setting.noise), ("sluggish", setting.sluggish)) if is_given]
-    return (f"{count} runs of {os.path.basename(given.scenario)} from seed {given.seed}: the others {setting.others}"
-            f"{', with ' + ' and '.join(more) if more else ''}, a plan each {setting.every} s, track {setting.track.course:05.1f} at {setting.track.speed:g} knots.")
+    return (
+        f"{count} runs of {os.path.basename(given.scenario)} from seed {given.seed}: the others {setting.others}"
+        f"{', with ' + ' and '.join(more) if more else ''}, a plan each {setting.every} s, track "
+        f"{setting.track.course:05.1f} at {setting.track.speed:g} knots."
+    )
 
 
 def made_again(given: argparse.Namespace, jobs: list[Job], results: list[Result]) -> list[Result]:
     """Returns the worst runs, made again for their tracks and logs."""
     by_key = {(job.seed, job.setting.label): job for job in jobs}
-    again = [replace(by_key[result.seed, result.kind if result.kind.startswith(FIXED) else ""], pictured=True) for result in worst(results, given.worst)]
+    again = [
+        replace(by_key[result.seed, result.kind if result.kind.startswith(FIXED) else ""], pictured=True)
+        for result in worst(results, given.worst)
+    ]
     return list(run_all(given.scenario, given.program, again, 1))
 
 
-def write_page(given: argparse.Namespace, scenario: PilotScenario, setting: Setting, results: list[Result], pictured: list[Result]) -> None:
+def write_page(given: argparse.Namespace, scenario: PilotScenario, setting: Setting, results: list[Result],
+               pictured: list[Result]) -> None:
     """Writes the page."""
     groups = groups_of([group_label(result) for result in results])
     crossing = [result for result in results if result.kind.startswith("crossing ")]
-    text = page(f"Sea trials of {os.path.basename(given.scenario)}", about(given, setting, len(results)), scenario, groups, pictured, crossing)
+    text = page(f"Sea trials of {os.path.basename(given.scenario)}", about(given, setting, len(results)), scenario,
+                groups, pictured, crossing)
     replace_file(given.page, text.encode())
 
 
@@ -145,14 +165,21 @@ def main(arguments: Sequence[str] | None = None) -> int:
     results = list(with_progress(run_all(given.scenario, given.program, jobs, given.jobs), len(jobs), "trials"))
     faults = [result for result in results if result.fault]
     if faults:
-        report("trials", f"{len(faults)} runs had an answer that is neither a plan nor none; first, seed {faults[0].seed}: {faults[0].fault}")
+        report(
+            "trials",
+            f"{len(faults)} runs had an answer that is neither a plan nor none; first, seed {faults[0].seed}: "
+            f"{faults[0].fault}"
+        )
     grouped = [group_label(result) for result in results]
     sys.stdout.write(rows_of(groups_of(grouped)))
     times = measured(results)
     if "median" in times:
-        report("trials", f"{times['plans']} plans, {times['median']} s each by their median, {times['greatest']} s the longest")
+        report("trials",
+               f"{times['plans']} plans, {times['median']} s each by their median, {times['greatest']} s the longest")
     if given.json:
-        replace_file(given.json, (json.dumps(report_json(os.path.basename(given.scenario), setting, results), indent=1) + "\n").encode())
+        replace_file(
+            given.json,
+            (json.dumps(report_json(os.path.basename(given.scenario), setting, results), indent=1) + "\n").encode())
     if given.page or given.logs:
         pictured = made_again(given, jobs, results)
         if given.page:

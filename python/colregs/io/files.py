@@ -44,7 +44,8 @@ def sum_of(path: str) -> tuple[str, int]:
 
 
 def replace(path: str, words: bytes) -> None:
-    """Writes a file with these bytes, all of them or none, also if the power fails: they are on the disk before they have the name."""
+    """Writes a file with these bytes, all of them or none, also if the power fails: they are on the disk before they
+    have the name."""
     folder = os.path.dirname(os.path.abspath(path))
     with tempfile.NamedTemporaryFile(dir=folder, delete=False) as out:
         try:

@@ -1,11 +1,13 @@
 """The forms in which a line of a log has its time, before a sentence or after it.
 
-A time without a zone is taken to be in UTC, less an offset if the user gives one. A time that can be read in two ways, or that lacks its
-date, is reported by its name and not guessed.
+A time without a zone is taken to be in UTC, less an offset if the user gives one. A time that can be read in two ways,
+or that lacks its date, is reported by its name and not guessed.
 """
 import datetime
 import re
+from dataclasses import dataclass
 
+Rollover = tuple[datetime.date, int]        # the date of the latest time of day, and its seconds
 Form = tuple[str, re.Pattern[bytes]]      # a form's name, and what finds it
 MONTHS = {name: k + 1 for k, name in enumerate("jan feb mar apr may jun jul aug sep oct nov dec".split())}
 EPOCH = datetime.date(1970, 1, 1).toordinal()
@@ -13,7 +15,8 @@ CLOCK = r"(?P<hour>\d\d):(?P<minute>\d\d):(?P<second>\d\d)(?:[.,]\d{1,9})?"
 ZONE = r"(?: ?(?P<zone>Z|UTC|GMT|[+-]\d\d(?::?\d\d)?)(?!\w))?"
 BEGIN, END = r"(?<![\w./-])", r"(?![\w/-])"
 MONTH = r"(?P<month>Jan|Feb|Mar|Apr|May|Jun|Jul|Aug|Sep|Oct|Nov|Dec)[a-z]*"
-LOCAL = "CET CEST EET EEST WET WEST BST MSK EST EDT CST CDT MST MDT PST PDT AKST AKDT HST JST KST IST AEST AEDT NZST NZDT SGT HKT AM PM am pm"
+LOCAL = ("CET CEST EET EEST WET WEST BST MSK EST EDT CST CDT MST MDT PST PDT AKST AKDT HST JST KST IST AEST AEDT NZST "
+         "NZDT SGT HKT AM PM am pm")
 
 
 def form(name: str, pattern: str, flags: int = re.I) -> Form:
@@ -23,10 +26,13 @@ def form(name: str, pattern: str, flags: int = re.I) -> Form:
 
 DATED = [
     form("date and time", r"(?P<year>\d{4})([-/.])(?P<month>\d\d)\2(?P<day>\d\d)(?:T|[ _,;\t]+)" + CLOCK + ZONE),
-    form("date and time without separators",
-         r"(?P<year>\d{4})(?P<month>\d\d)(?P<day>\d\d)[T _-]?(?P<hour>\d\d)(?P<minute>\d\d)(?P<second>\d\d)(?:[.,]\d{1,9})?" + ZONE),
-    form("date with the month's name", r"(?P<day>\d{1,2})[- ]" + MONTH + r"[- ](?P<year>\d{4})(?:T|[ _,;\t]+)" + CLOCK + ZONE),
-    form("date as ctime writes it", MONTH + r" +(?P<day>\d{1,2}) " + CLOCK + r"(?: (?P<zone>UTC|GMT|Z))? (?P<year>\d{4})"),
+    form(
+        "date and time without separators", r"(?P<year>\d{4})(?P<month>\d\d)(?P<day>\d\d)[T "
+        r"_-]?(?P<hour>\d\d)(?P<minute>\d\d)(?P<second>\d\d)(?:[.,]\d{1,9})?" + ZONE),
+    form("date with the month's name",
+         r"(?P<day>\d{1,2})[- ]" + MONTH + r"[- ](?P<year>\d{4})(?:T|[ _,;\t]+)" + CLOCK + ZONE),
+    form("date as ctime writes it",
+         MONTH + r" +(?P<day>\d{1,2}) " + CLOCK + r"(?: (?P<zone>UTC|GMT|Z))? (?P<year>\d{4})"),
     form("date with points", r"(?P<day>\d\d?)\.(?P<month>\d\d?)\.(?P<year>\d{4})(?:T|[ _,;\t]+)" + CLOCK + ZONE),
 ]
 COUNTED = [
@@ -35,11 +41,26 @@ COUNTED = [
     form("microseconds", r"(?P<count>[1-3]\d{15})(?:\.\d*)?"),
     form("nanoseconds", r"(?P<count>[1-3]\d{18})"),
 ]
+HALF = r"(?P<hour>\d\d?):(?P<minute>\d\d)(?::(?P<second>\d\d)(?:[.,]\d{1,9})?)? ?(?P<half>[AaPp])\.?[Mm]\.?"
+TWELVE = [
+    form("date and time of twelve hours", r"(?P<year>\d{4})([-/.])(?P<month>\d\d)\2(?P<day>\d\d)[T _,;\t]+" + HALF),
+    form("date with the month's name and time of twelve hours",
+         r"(?P<day>\d{1,2})[- ]" + MONTH + r"[- ](?P<year>\d{4})[ _,;\t]+" + HALF),
+]
+DAY_FIRST = [
+    form("date with the day first and time of twelve hours", r"(?P<day>\d\d?)([/-])(?P<month>\d\d?)\2(?P<year>\d{4})[T "
+                                                             r",;_\t]+" + HALF),
+    form("date with the day first", r"(?P<day>\d\d?)([/-])(?P<month>\d\d?)\2(?P<year>\d{4})[T ,;_\t]+" + CLOCK + ZONE),
+]
+WITHOUT_YEAR = form("date of syslog, with the year of --date", MONTH + r" +(?P<day>\d{1,2}) " + CLOCK)
+OF_DAY = [form("time of day of twelve hours, with --date", HALF), form("time of day, with --date", CLOCK + ZONE)]
+HALF_DAY = 43200
 DIGIT = re.compile(rb"\d")
-NAMED = re.compile(rb" ?(?:%s)(?!\w)" % LOCAL.replace(" ", "|").encode())
+NAMED = re.compile(rb" ?(?:%s|[AaPp]\.[Mm]\.?)(?!\w)" % LOCAL.replace(" ", "|").encode())
 PER_SECOND = {"seconds": 1, "milliseconds": 10 ** 3, "microseconds": 10 ** 6, "nanoseconds": 10 ** 9}
 UNSURE = [
-    form("a time with a zone in letters, or of twelve hours", rf"\d\d?:\d\d(?::\d\d(?:[.,]\d+)?)?(?: \d{{4}})? ?(?:{'|'.join(LOCAL.split())})", 0),
+    form("a time with a zone in letters, or of twelve hours", rf"\d\d?:\d\d(?::\d\d(?:[.,]\d+)?)?(?: \d{{4}})? "
+                                                              rf"?(?:{'|'.join(LOCAL.split())})", 0),
     form("a ctime date with a zone in letters", MONTH + r" +\d{1,2} \d\d:\d\d:\d\d [A-Z]{3,4} \d{4}", 0),
     form("a date whose day and month may be exchanged", r"\d\d?[/-]\d\d?[/-]\d{4}[T ,;_\t]*\d\d?:\d\d"),
     form("a date that is none", r"\d{4}[-/.]\d\d[-/.]\d\d(?:T|[ _,;\t]+)\d\d:\d\d:\d\d\S*"),
@@ -48,6 +69,19 @@ UNSURE = [
     form("a time of day without a date", r"\d\d:\d\d(?::\d\d)?(?:[.,]\d+)?"),
     form("a date without a time of day", r"\d{4}-\d\d-\d\d"),
 ]
+
+
+@dataclass(frozen=True)
+class Reading:
+    """How logs are read beyond what their lines say: how far times without a zone are ahead of UTC, the date of times
+    of day, whether the day stands first in a date, the columns of a table by their heads, and whether receivers' clocks
+    are aligned."""
+
+    offset: int = 0
+    date: datetime.date | None = None
+    day_first: bool = False
+    columns: tuple[tuple[str, str], ...] = ()
+    align: bool = False
 
 
 class Unsure(Exception):
@@ -72,6 +106,16 @@ def zone_seconds(word: str) -> int:
     return -size if digits[0] == "-" else size
 
 
+def hour_of(parts: dict[str, str]) -> int:
+    """Returns the hour of a time of 24 or of twelve hours; raises ValueError if it is none."""
+    hour = int(parts["hour"])
+    if "half" not in parts:
+        return hour
+    if not 1 <= hour <= 12:
+        raise ValueError(hour)
+    return hour % 12 + (12 if parts["half"] in "Pp" else 0)
+
+
 def moment(name: str, found: re.Match[bytes], offset: int) -> tuple[int, str]:
     """Returns the time of a match, and the name of its form."""
     parts = {key: value.decode() for key, value in found.groupdict().items() if value is not None}
@@ -81,15 +125,20 @@ def moment(name: str, found: re.Match[bytes], offset: int) -> tuple[int, str]:
     month = MONTHS.get(parts["month"][:3].lower()) or int(parts["month"])
     shift = offset if zone is None else zone_seconds(zone)
     named = name + (" with its offset" if zone and zone[0] in "+-" else "")
-    day, hour, minute, second = (int(parts[key]) for key in ("day", "hour", "minute", "second"))
+    day, hour, minute, second = int(parts["day"]), hour_of(parts), int(parts["minute"]), int(parts.get("second", 0))
     return seconds_of(int(parts["year"]), month, day, hour, minute, second, shift), named
 
 
 class Times:
-    """Reads the times of a log's lines; the form that was read last is tried first."""
+    """Reads the times of a log's lines; the form that was read last is tried first.
 
-    def __init__(self, offset: int = 0) -> None:
-        self.offset, self.order = offset, DATED + COUNTED
+    With a date, times of day have it, and the next one after each midnight; dates without a year have its year. With
+    `day_first`, 3/4/2023 is in April.
+    """
+
+    def __init__(self, offset: int = 0, date: datetime.date | None = None, day_first: bool = False) -> None:
+        self.offset, self.order = offset, DATED + COUNTED + TWELVE + (DAY_FIRST if day_first else [])
+        self.date, self.rollover = date, None if date is None else (date, 0)
         self.latest: tuple[bytes | None, tuple[int, str] | None] = None, None
 
     def tried(self, text: bytes, last: bool) -> tuple[int, str] | None:
@@ -109,20 +158,55 @@ class Times:
             return answer
         return None
 
+    def without_date(self, text: bytes) -> tuple[int, str] | None:
+        """Returns the time of a text that has a date without a year, or a time of day alone; None if it has none or no
+        date was given."""
+        if self.date is None or self.rollover is None:
+            return None
+        name, pattern = WITHOUT_YEAR
+        found = pattern.search(text)
+        if found:
+            month = MONTHS[found["month"][:3].decode().lower()]
+            hour, minute, second = (int(found[key]) for key in ("hour", "minute", "second"))
+            return seconds_of(self.date.year, month, int(found["day"]), hour, minute, second, self.offset), name
+        for name, pattern in OF_DAY:
+            found = pattern.search(text)
+            if found:
+                return self.of_day(
+                    {key: value.decode()
+                     for key, value in found.groupdict().items()
+                     if value is not None}, self.rollover), name
+        return None
+
+    def of_day(self, parts: dict[str, str], rollover: Rollover) -> int:
+        """Returns the time of a time of day: on the date of the one before, or on the next one if it is more than half
+        a day earlier."""
+        date, before = rollover
+        second = hour_of(parts) * 3600 + int(parts["minute"]) * 60 + int(parts.get("second", 0))
+        if second < before - HALF_DAY:
+            date += datetime.timedelta(1)
+        self.rollover = date, second
+        shift = zone_seconds(parts["zone"]) if "zone" in parts else self.offset
+        return seconds_of(date.year, date.month, date.day, 0, 0, 0, shift) + second
+
     @staticmethod
     def doubted(text: bytes, found: re.Match[bytes]) -> bool:
         """Returns whether a name after a date says that it is not in UTC."""
-        if "hour" not in found.re.groupindex or found["zone"] is not None:
+        if "zone" not in found.re.groupindex or found["zone"] is not None:
             return False
         return NAMED.match(text, found.end()) is not None
 
     def read(self, text: bytes, last: bool = False) -> tuple[int, str] | None:
-        """Returns the first or the last time in a text and the name of its form, or None; raises Unsure if there is one that is not read."""
+        """Returns the first or the last time in a text and the name of its form, or None; raises Unsure if there is one
+        that is not read."""
         if not text or not DIGIT.search(text):
             return None
         if text == self.latest[0] and not last:
             return self.latest[1]
-        answer = self.tried(text, last)
+        try:
+            answer = self.tried(text, last) or self.without_date(text)
+        except ValueError:
+            answer = None
         if answer is None:
             for name, pattern in UNSURE:
                 if pattern.search(text):

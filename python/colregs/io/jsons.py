@@ -1,7 +1,8 @@
-"""Logs whose lines are JSON: AIS-catcher, gpsd (`gpspipe -w`), SignalK's deltas, and others that hold a sentence and a time.
+"""Logs whose lines are JSON: AIS-catcher, gpsd (`gpspipe -w`), SignalK's deltas, and others that hold a sentence and a
+time.
 
-An object that holds sentences gives them as they are. One that holds a ship's values alone becomes a position report, message 18 of class B and else
-message 1, and message 24.
+An object that holds sentences gives them as they are. One that holds a ship's values alone becomes a position report,
+message 18 of class B and else message 1, and message 24.
 """
 import json
 import math
@@ -12,18 +13,21 @@ from typing import Any
 from colregs.io import units
 from colregs.io.forms import Times, Unsure
 from colregs.io.sentences import Report
+from colregs.io.tables import RowFault, Table
 
 TIMES = ("rxuxtime", "rxtime", "timestamp", "@timestamp", "time", "received_at", "receivedAt", "datetime", "toa", "ts")
+AISSTREAM_PLACES = ("PositionReport", "StandardClassBPositionReport", "ExtendedClassBPositionReport")
 KNOTS = 3600 / 1852
 FIX = "gpsd's TPV"
 HELD = re.compile(r"![A-Z0-9]{2}VD[MO],")
 
 
 class Held:
-    """What an object holds: a time or nothing, sentences as they are, or sentences made; or the name of what it is, where it holds neither."""
+    """What an object holds: a time or nothing, sentences as they are, or sentences made; or the name of what it is,
+    where it holds neither."""
 
-    def __init__(self, form: str, time: int | None = None, raw: Sequence[bytes] = (), made: Sequence[bytes] = (), fix: Report | None = None,
-                 aside: bool = False) -> None:
+    def __init__(self, form: str, time: int | None = None, raw: Sequence[bytes] = (), made: Sequence[bytes] = (),
+                 fix: Report | None = None, aside: bool = False) -> None:
         self.form, self.time, self.raw, self.made, self.fix, self.aside = form, time, raw, made, fix, aside
 
 
@@ -69,10 +73,12 @@ class Objects:
 
     def __init__(self, times: Times) -> None:
         self.times, self.ship = times, units.Ship()
+        self.tables: dict[tuple[str, ...], Table] = {}
 
     def read(self, held: dict[str, Any]) -> Held:
         """Returns what an object holds."""
-        name = {"AIS-catcher": "AIS-catcher's JSON"}.get(str(held.get("device")), "gpsd's JSON" if "class" in held else "JSON with a sentence")
+        name = {"AIS-catcher": "AIS-catcher's JSON"}.get(str(held.get("device")),
+                                                         "gpsd's JSON" if "class" in held else "JSON with a sentence")
         try:
             time = time_of(held, self.times)
         except Unsure as doubt:
@@ -87,42 +93,91 @@ class Objects:
                 return self.ais(held, time, name)
             if "updates" in held:
                 return self.delta(held)
-        except (ValueError, TypeError, KeyError, AttributeError, OverflowError, Unsure):
+            if "MetaData" in held and "Message" in held:
+                return self.aisstream(held)
+            if "MMSI" in held and "LATITUDE" in held:
+                return self.hub(held)
+        except (ValueError, TypeError, KeyError, AttributeError, OverflowError, Unsure, RowFault):
             return Held("JSON with a field that is not what it should be")
-        return Held("JSON of gpsd that is no report" if "class" in held else "JSON without a sentence", aside="class" in held)
+        return Held("JSON of gpsd that is no report" if "class" in held else "JSON without a sentence", aside="class"
+                    in held)
+
+    def hub(self, held: dict[str, Any]) -> Held:
+        """Returns the sentences of a vessel of AISHub's JSON, whose fields are those of its tables."""
+        heads = tuple(held)
+        if heads not in self.tables:
+            self.tables[heads] = Table(heads, ",")
+        table = self.tables[heads]
+        time, made = table.fields({name: str(held[heads[at]]).strip() for name, at in table.at.items()}, self.times)
+        return Held("AISHub's JSON (sentences made of its values)", time, made=made)
+
+    def aisstream(self, held: dict[str, Any]) -> Held:
+        """Returns the sentences of a message of aisstream.io, in knots and degrees."""
+        kind, about = str(held["MessageType"]), held["MetaData"]
+        told, time = held["Message"][kind], self.times.read(str(about["time_utc"]).encode())
+        mmsi, made = int(told.get("UserID", about["MMSI"])), list[bytes]()
+        if kind in AISSTREAM_PLACES:
+            report = (units.latitude(told["Latitude"]),
+                      units.longitude(told["Longitude"]), units.speed(told.get("Sog")), units.course(told.get("Cog")),
+                      units.heading(told.get("TrueHeading")), int(told.get("Timestamp", 60)) & 63)
+            made += self.ship.static(mmsi, str(about.get("ShipName", "")).strip(), 0, (0, 0, 0, 0))
+            made.append(
+                self.ship.position(mmsi, report, kind != "PositionReport",
+                                   units.status(told.get("NavigationalStatus", 15))))
+        elif kind in ("ShipStaticData", "StaticDataReport"):
+            for part in (told, told.get("ReportA") or {}, told.get("ReportB") or {}):
+                size = part.get("Dimension") or {}
+                hull = units.hull([units.number(size.get(side)) for side in "ABCD"], None, None)
+                made += self.ship.static(mmsi,
+                                         str(part.get("Name", "")).strip(),
+                                         units.kind(part.get("Type", part.get("ShipType", ""))), hull,
+                                         str(part.get("CallSign", "")).strip())
+        if not made or time is None:
+            return Held("aisstream.io's message without a place or a ship's data", aside=True)
+        return Held("aisstream.io's JSON (sentences made of its values)", time[0], made=made)
 
     def fix(self, held: dict[str, Any], time: int | None) -> Held:
         """Returns own ship's time and place from gpsd, which has metres per second and degrees."""
         if time is None or held.get("mode", 0) < 2 and "lat" in held:
             return Held("gpsd's TPV without a valid fix", aside=True)
         track, way = held.get("track"), held.get("speed")
-        report = (units.latitude(held.get("lat")), units.longitude(held.get("lon")), units.speed(way if way is None else way * KNOTS),
-                  units.course(track), units.heading(None), time % 60)
+        report = (units.latitude(held.get("lat")), units.longitude(held.get("lon")),
+                  units.speed(way if way is None else way * KNOTS), units.course(track), units.heading(None), time % 60)
         return Held(FIX, time, fix=report if "lat" in held and "lon" in held else None)
 
     def ais(self, held: dict[str, Any], time: int | None, name: str) -> Held:
-        """Returns the sentences of an AIS message from gpsd or AIS-catcher, in knots and degrees, or unscaled in the message's own units."""
+        """Returns the sentences of an AIS message from gpsd or AIS-catcher, in knots and degrees, or unscaled in the
+        message's own units."""
         mmsi, made = int(held["mmsi"]), []
         if not 0 <= mmsi < 1 << 30:
             raise ValueError(mmsi)
         sides = [units.number(held.get("to_" + side, "")) for side in ("bow", "stern", "port", "starboard")]
-        made += self.ship.static(mmsi, held.get("shipname", ""), units.kind(held.get("shiptype", "")), units.hull(sides, 0, 0),
-                                 held.get("callsign", ""))
+        made += self.ship.static(mmsi, held.get("shipname", ""), units.kind(held.get("shiptype", "")),
+                                 units.hull(sides, 0, 0), held.get("callsign", ""))
         if held.get("type") in (1, 2, 3, 18, 19):
             whole = held.get("scaled", True) is False
             place, part = (600000, 10) if whole else (1, 1)
-            read = {key: units.number("" if held.get(key) in ("fast", None) else held[key]) for key in ("lat", "lon", "speed", "course", "heading")}
-            scaled = {key: value if value is None else value / (place if key in ("lat", "lon") else part) for key, value in read.items()}
+            read = {
+                key: units.number("" if held.get(key) in ("fast", None) else held[key])
+                for key in ("lat", "lon", "speed", "course", "heading")
+            }
+            scaled = {
+                key: value if value is None else value / (place if key in ("lat", "lon") else part)
+                for key, value in read.items()
+            }
             way = 1022 if held.get("speed") == "fast" else units.speed(scaled["speed"])
-            report = (units.latitude(scaled["lat"]), units.longitude(scaled["lon"]), way, units.course(scaled["course"]),
-                      units.heading(read["heading"]), int(held.get("second", 60)) & 63)
-            made.append(self.ship.position(mmsi, report, held["type"] in (18, 19), units.status(held.get("status", 15))))
+            report = (units.latitude(scaled["lat"]), units.longitude(scaled["lon"]), way,
+                      units.course(scaled["course"]), units.heading(read["heading"]), int(held.get("second", 60)) & 63)
+            made.append(
+                self.ship.position(mmsi, report, held["type"] in (18, 19), units.status(held.get("status", 15)))
+            )
         if not made:
             return Held("JSON of gpsd that is no report", aside=True)
         return Held(name + " (sentences made of its values)", time, made=made)
 
     def delta(self, held: dict[str, Any]) -> Held:
-        """Returns the sentences of a delta of SignalK, which has metres per second and radians. Own ship, which it calls self, has no MMSI."""
+        """Returns the sentences of a delta of SignalK, which has metres per second and radians. Own ship, which it
+        calls self, has no MMSI."""
         found = re.search(r"mmsi:(\d{9})$", str(held.get("context", "")))
         if not found:
             return Held("SignalK's delta of own ship or of no ship", aside=True)
@@ -140,11 +195,14 @@ class Objects:
         """Returns the sentences of one update of a delta."""
         length = (told.get("design.length") or {}).get("overall")
         kind = (told.get("design.aisShipType") or {}).get("id", "")
-        made = self.ship.static(mmsi, (told.get("") or {}).get("name", ""), units.kind(kind), units.hull((), length, told.get("design.beam")))
+        made = self.ship.static(mmsi, (told.get("") or {}).get("name", ""), units.kind(kind),
+                                units.hull((), length, told.get("design.beam")))
         place = told.get("navigation.position")
         if place:
-            way, course, heading = (told.get("navigation." + name) for name in ("speedOverGround", "courseOverGroundTrue", "headingTrue"))
-            report = (units.latitude(place["latitude"]), units.longitude(place["longitude"]), units.speed(way if way is None else way * KNOTS),
+            way, course, heading = (told.get("navigation." + name)
+                                    for name in ("speedOverGround", "courseOverGroundTrue", "headingTrue"))
+            report = (units.latitude(place["latitude"]), units.longitude(place["longitude"]),
+                      units.speed(way if way is None else way * KNOTS),
                       units.course(course if course is None else math.degrees(course)),
                       units.heading(heading if heading is None else round(math.degrees(heading)) % 360), time % 60)
             made.append(self.ship.position(mmsi, report, told.get("sensors.ais.class") == "B", 15))

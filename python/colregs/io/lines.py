@@ -1,4 +1,5 @@
-"""Reads lines exactly as the program does: stamps of tag blocks, sentences, and the parts that make a message (docs/LOG.md)."""
+"""Reads lines exactly as the program does: stamps of tag blocks, sentences, and the parts that make a message
+(docs/LOG.md)."""
 import collections
 import functools
 import operator
@@ -12,8 +13,10 @@ KNOWN = 1 << 16                     # tag blocks and heads of payloads that are 
 MILLISECONDS = 10 ** 11             # from here on a stamp is in milliseconds
 FIELD = rb"(?:c:\d{1,15}|(?!c:)[^,*\\]+)"
 TAG_BLOCK = re.compile(rb"\\(" + FIELD + rb"(?:," + FIELD + rb")*)\*([0-9A-Fa-f]{2})\\", re.S)
+TAGS = re.compile(rb"\n(\\[^\\\n]*\\)")         # what may be the tag block of a line, after the line feed before it
 TIME = re.compile(rb"(?:^|,)c:(\d+)")
-SENTENCE = re.compile(rb"!([A-Z0-9]{2}VD[MO],([1-9]),([1-9]),(\d?),([A-Za-z0-9]?),([^,]+),([0-5]))\*([0-9A-Fa-f]{2})(?:[, \t].*)?", re.S)
+SENTENCE = re.compile(
+    rb"!([A-Z0-9]{2}VD[MO],([1-9]),([1-9]),(\d?),([A-Za-z0-9]?),([^,]+),([0-5]))\*([0-9A-Fa-f]{2})(?:[, \t].*)?", re.S)
 SIX = {letter: value for value, letter in enumerate(bytes(range(48, 88)) + bytes(range(96, 120)))}
 
 
@@ -29,29 +32,18 @@ def line_of(line: bytes) -> bytes:
 
 
 class Stamps:
-    """Reads the stamps of lines, and remembers those of the last tag blocks."""
-
-    def __init__(self) -> None:
-        self.known: dict[bytes, int | None] = {}
+    """Reads the stamps of lines."""
 
     def of(self, line: bytes) -> int | None:
-        """Returns the stamp of a line, with or without its line feed, in seconds since the Unix epoch; None if it has none."""
+        """Returns the stamp of a line, with or without its line feed, in seconds since the Unix epoch; None if it has
+        none."""
         if line[:1] != b"\\":
             return None
-        block = line[:line.find(b"\\", 1) + 1]
-        if block in self.known:
-            at = self.known[block]
-        else:
-            at = self.remember(block)
+        at = stamp_of_block(line[:line.find(b"\\", 1) + 1])
         return at if len(line) <= LONGEST or len(line_of(line)) <= LONGEST else None
 
-    def remember(self, block: bytes) -> int | None:
-        if len(self.known) >= KNOWN:
-            self.known.clear()
-        self.known[block] = at = stamp_of_block(block)
-        return at
 
-
+@functools.lru_cache(KNOWN)
 def stamp_of_block(block: bytes) -> int | None:
     """Returns the stamp of a tag block with both of its backslashes; None if the block is damaged or has no time."""
     found = TAG_BLOCK.fullmatch(block)
@@ -64,7 +56,8 @@ def stamp_of_block(block: bytes) -> int | None:
 
 @dataclass(frozen=True, slots=True)
 class Sentence:
-    """A sentence that the program reads: how many parts its message has, which one it is, the key of its parts, its payload and fill."""
+    """A sentence that the program reads: how many parts its message has, which one it is, the key of its parts, its
+    payload and fill."""
 
     total: int
     number: int
@@ -124,7 +117,8 @@ class Message:
 
 
 class Joiner:
-    """Joins parts to messages by their key, as the program does: the last k sentences of a key have to be its parts 1 to k."""
+    """Joins parts to messages by their key, as the program does: the last k sentences of a key have to be its parts 1
+    to k."""
 
     def __init__(self) -> None:
         self.taken: dict[tuple[bytes, bytes], collections.deque[tuple[Sentence, int]]] = {}
@@ -144,12 +138,14 @@ class Joiner:
 def is_run(run: list[tuple[Sentence, int]]) -> bool:
     """Returns whether these are the parts 1, 2, .. of one total, none more than 30 seconds later than the first."""
     first, begin = run[0]
-    return all(part.total == first.total and part.number == k and at <= begin + JOINED_WITHIN for k, (part, at) in enumerate(run, 1))
+    return all(part.total == first.total and part.number == k and at <= begin + JOINED_WITHIN
+               for k, (part, at) in enumerate(run, 1))
 
 
 @functools.lru_cache(KNOWN)
 def sender_of(head: bytes) -> int | None:
-    """Returns the MMSI that the first seven letters of a payload hold; None if they are fewer, or no letters of a payload."""
+    """Returns the MMSI that the first seven letters of a payload hold; None if they are fewer, or no letters of a
+    payload."""
     value = 0
     for letter in head[:7]:
         if letter not in SIX:

@@ -11,7 +11,8 @@ LONGEST = 1025              # bytes of a line: the program drops longer ones
 
 
 def timed(lines: Iterable[bytes]) -> Iterator[tuple[int | None, bytes]]:
-    """Yields each line with its time: that of its tag block, or else of the nearest line before; None before the first."""
+    """Yields each line with its time: that of its tag block, or else of the nearest line before; None before the
+    first."""
     time = None
     for line in lines:
         own = stamp(line)

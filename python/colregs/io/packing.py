@@ -1,7 +1,7 @@
 """Opens a log as it was given, packed or not, in bytes or in UTF-16, and gives its lines one by one.
 
-A file that is not there, is damaged or is cut off ends in a Fault with words for its reader, and never in anything else. Python unpacks gzip, xz,
-bzip2 and zip by itself; for zstd the command `zstd` is needed (tools/PACKAGES).
+A file that is not there, is damaged or is cut off ends in a Fault with words for its reader, and never in anything
+else. Python unpacks gzip, xz, bzip2 and zip by itself; for zstd the command `zstd` is needed (tools/PACKAGES).
 """
 import bz2
 import contextlib
@@ -10,7 +10,6 @@ import gzip
 import io
 import lzma
 import os
-import shlex
 import shutil
 import stat
 import subprocess
@@ -21,11 +20,12 @@ from collections.abc import Callable, Iterable, Iterator
 from typing import IO, Any
 
 from colregs.errors import Fault, reason
+from colregs.io import captures
 
 LONGEST = 1 << 20          # bytes: a longer line is no sentence and no row
-MAGIC = ((b"\x1f\x8b", "gzip"), (b"\xfd7zXZ\x00", "xz"), (b"\x28\xb5\x2f\xfd", "zstd"), (b"BZh", "bzip2"), (b"PK\x03\x04", "zip"))
+MAGIC = ((b"\x1f\x8b", "gzip"), (b"\xfd7zXZ\x00", "xz"), (b"\x28\xb5\x2f\xfd", "zstd"), (b"BZh", "bzip2"),
+         (b"PK\x03\x04", "zip"))
 CAPTURES = (b"\xd4\xc3\xb2\xa1", b"\xa1\xb2\xc3\xd4", b"\x4d\x3c\xb2\xa1", b"\xa1\xb2\x3c\x4d", b"\x0a\x0d\x0d\x0a")
-CAPTURE = "is a capture of a network, and no log: `tshark -r {} -T fields -e frame.time_epoch -e data.text -o data.show_as_text:TRUE` writes its lines with times"
 MARKS = ((b"\xff\xfe", "utf-16-le"), (b"\xfe\xff", "utf-16-be"))
 DAMAGE = (EOFError, zlib.error, lzma.LZMAError, zipfile.BadZipFile, gzip.BadGzipFile, RuntimeError, NotImplementedError)
 TOO_LONG = b"\xff too long"       # stands for such a line; no line of a log begins so
@@ -35,7 +35,7 @@ class Part:
     """A log within a file: its name, how the file was packed, its encoding, and its lines once it was read."""
 
     def __init__(self, name: str, packed: str) -> None:
-        self.name, self.packed, self.encoding, self.lines = name, packed, "bytes", 0
+        self.name, self.packed, self.encoding, self.lines, self.is_cut = name, packed, "bytes", 0, False
 
 
 def packing(path: str) -> str:
@@ -48,7 +48,7 @@ def packing(path: str) -> str:
     except OSError as error:
         raise Fault(f"{path} cannot be read: {reason(error)}") from None
     if head.startswith(CAPTURES):
-        raise Fault(f"{path} {CAPTURE.format(shlex.quote(os.path.basename(path)))}")
+        return "a capture"
     return next((name for magic, name in MAGIC if head.startswith(magic)), "plain")
 
 
@@ -67,6 +67,15 @@ def zstd(path: str) -> Iterator[IO[bytes]]:
             child.kill()
 
 
+@contextlib.contextmanager
+def captured(path: str) -> Iterator[IO[bytes]]:
+    """Opens a capture of a network as the lines of its UDP payloads with their times."""
+    with open(path, "rb") as source, tempfile.TemporaryFile() as out:
+        out.writelines(captures.lines(source, os.path.basename(path)))
+        out.seek(0)
+        yield out
+
+
 def members(path: str, packed: str) -> Iterator[tuple[str, Callable[[], Any]]]:
     """Yields the name of each log in a file, and a way to open it."""
     if packed == "zip":
@@ -77,7 +86,7 @@ def members(path: str, packed: str) -> Iterator[tuple[str, Callable[[], Any]]]:
         return
     openers: dict[str, Callable[[], Any]] = {
         "plain": lambda: open(path, "rb"), "gzip": lambda: gzip.open(path, "rb"), "xz": lambda: lzma.open(path, "rb"),
-        "bzip2": lambda: bz2.open(path, "rb"), "zstd": lambda: zstd(path)}
+        "bzip2": lambda: bz2.open(path, "rb"), "zstd": lambda: zstd(path), "a capture": lambda: captured(path)}
     yield os.path.basename(path), openers[packed]
 
 
@@ -104,7 +113,8 @@ def raw_lines(stream: Any) -> Iterator[bytes]:
 
 
 def wide_lines(stream: Any, name: str) -> Iterator[bytes]:
-    """Yields the lines of a text in UTF-16, as UTF-8. Half a letter at the end becomes a mark, as does anything that is no letter."""
+    """Yields the lines of a text in UTF-16, as UTF-8. Half a letter at the end becomes a mark, as does anything that is
+    no letter."""
     text = io.TextIOWrapper(stream, encoding=name, errors="replace", newline="\n")
     whole = True
     while line := text.readline(LONGEST):
@@ -142,9 +152,14 @@ def told(path: str, packed: str) -> Iterator[None]:
 
 
 def whole_lines(path: str, stream: Any, part: Part) -> Iterator[bytes]:
-    """Yields the lines of a part of a file."""
+    """Yields the lines of a part of a file; of a gzip that is cut off those that are there."""
     with told(path, part.packed):
-        yield from stream_lines(stream, part)
+        try:
+            yield from stream_lines(stream, part)
+        except EOFError:
+            if part.packed != "gzip" or not part.lines:
+                raise
+            part.is_cut = True
 
 
 @contextlib.contextmanager

@@ -8,13 +8,15 @@ from collections.abc import Sequence
 from colregs.io.forms import seconds_of
 from colregs.io.sentences import NO_COURSE, NO_HEADING, NO_SPEED, Report, class_a, has_sum, lone_message, sentence
 
-PLAIN = re.compile(rb"\$([A-Z]{2}(?:RMC|ZDA|HDT),[^*$!\\]*)\*([0-9A-Fa-f]{2})")
-DAY, WEEKS = 86400, 1024 * 7 * 86400     # a date that lags at midnight; the weeks that GPS counts before it begins anew
-LONGEST_GAP = 60                         # s: between two times of the receiver farther apart than this, nobody knows the time
+PLAIN = re.compile(rb"\$([A-Z]{2}(?:RMC|ZDA|HDT),[^*$!\\]*|PGHP,1,[^*$!\\]*)\*([0-9A-Fa-f]{2})")
+# a date that lags at midnight; the weeks that GPS counts before it begins again
+DAY, WEEKS = 86400, 1024 * 7 * 86400
+# s: between two times of the receiver farther apart than this, nobody knows the time
+LONGEST_GAP = 60
 DAMAGED = "a sentence of the receiver with a wrong sum", "RMC with too few fields"
 HEADING = "own ship's heading (HDT)"
 BASE_STATION = 4 << 2                    # type 4, not repeated, in the first 8 bits
-OLDEST = 852076800                       # 1 January 1997, before there was AIS: a clock that tells less is not set
+OLDEST = 852076800                       # 1 January 1997, before there was AIS: an earlier clock is not set
 
 
 def time_of(day: bytes | Sequence[int], clock: bytes) -> int | None:
@@ -44,12 +46,14 @@ def tenths(field: bytes, none: int, most: int) -> int:
 
 
 def base_time(line: bytes) -> int | None:
-    """Returns the UTC of a base station in a sentence, or None. One that another station repeated comes late, and is skipped."""
+    """Returns the UTC of a base station in a sentence, or None. One that another station repeated comes late, and is
+    skipped."""
     message = lone_message(line)
     if message is None or message.length < 168 or message.number(0, 8) != BASE_STATION:
         return None
     try:
-        time = seconds_of(*(message.number(first, width) for first, width in ((38, 14), (52, 4), (56, 5), (61, 5), (66, 6), (72, 6))))
+        time = seconds_of(*(message.number(first, width)
+                            for first, width in ((38, 14), (52, 4), (56, 5), (61, 5), (66, 6), (72, 6))))
     except ValueError:
         return None
     return time if time >= OLDEST else None
@@ -85,17 +89,29 @@ class Receiver:
         self.latest: Fix | None = None
 
     def take(self, line: bytes) -> tuple[str, int | None] | None:
-        """Returns the name of a sentence's form, and its time if it has one; or None if the line has no such sentence."""
+        """Returns the name of a sentence's form, and its time if it has one; or None if the line has no such
+        sentence."""
         found = PLAIN.search(line)
         if not found:
             return None
         if not has_sum(found[1], found[2]):
             return DAMAGED[0], None
         fields = found[1].split(b",")
+        if fields[0] == b"PGHP":
+            return self.gatehouse(fields)
         kind = fields[0][2:]
         if kind == b"HDT":
             return self.head(fields)
         return self.fix(fields) if kind == b"RMC" else self.date(fields)
+
+    def gatehouse(self, fields: Sequence[bytes]) -> tuple[str, int | None]:
+        """Takes a PGHP, with which Gatehouse's base stations, as the Danish ones, say when the next sentence was
+        heard."""
+        parts = [int(field) for field in fields[2:8] if re.fullmatch(rb"\d{1,4}", field)]
+        try:
+            return "PGHP", seconds_of(parts[0], parts[1], parts[2], parts[3], parts[4], parts[5])
+        except (ValueError, IndexError):
+            return "PGHP without a time", None
 
     def head(self, fields: Sequence[bytes]) -> tuple[str, int | None]:
         """Takes own ship's heading."""
@@ -127,7 +143,8 @@ class Receiver:
         return "ZDA", self.rolled_over(time)
 
     def rolled_over(self, time: int) -> int:
-        """Returns the time, set forward if the date lags: by a day at midnight, or by the 1024 weeks after which GPS counts from 0 again."""
+        """Returns the time, set forward if the date lags: by a day at midnight, or by the 1024 weeks after which GPS
+        counts from 0 again."""
         if self.time is not None:
             for lag in (DAY, WEEKS):
                 if 0 <= time + lag - self.time <= LONGEST_GAP:

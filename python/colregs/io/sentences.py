@@ -1,17 +1,20 @@
-"""AIS messages as bits (ITU-R M.1371-5) and as sentences (IEC 61162-1) with tag blocks (NMEA 0183 4.10), written and read."""
+"""AIS messages as bits (ITU-R M.1371-5) and as sentences (IEC 61162-1) with tag blocks (NMEA 0183 4.10), written and
+read."""
 import base64
 import functools
 import operator
 import re
 
 Fields = list[tuple[int, int]]                      # values, each with its width in bits
-Report = tuple[int, int, int, int, int, int]        # latitude, longitude, speed, course, heading and second, in the units of message 1
+# latitude, longitude, speed, course, heading and second, in the units of message 1
+Report = tuple[int, int, int, int, int, int]
 Hull = tuple[int, int, int, int]                    # metres to bow, stern, port and starboard
 
 LONE = re.compile(rb"!([A-Z0-9]{2}VD[MO],1,1,\d?,[A-Za-z0-9]?,([0-W`-w]+),([0-5]))\*([0-9A-Fa-f]{2})")
 NO_SPEED, NO_COURSE, NO_HEADING, NO_LATITUDE, NO_LONGITUDE = 1023, 3600, 511, 91 * 600000, 181 * 600000
 LETTERS = b"ABCDEFGHIJKLMNOPQRSTUVWXYZabcdefghijklmnopqrstuvwxyz0123456789+/"
-PLACES = {1: (61, 89), 2: (61, 89), 3: (61, 89), 18: (57, 85), 19: (57, 85)}      # the first bit of longitude and latitude
+# the first bit of longitude and latitude
+PLACES = {1: (61, 89), 2: (61, 89), 3: (61, 89), 18: (57, 85), 19: (57, 85)}
 LONGEST_PART = 56                # letters of a part, as stations send them
 SIX = bytes(range(48, 88)) + bytes(range(96, 120))
 TO_64, FROM_64 = bytes.maketrans(SIX, LETTERS), bytes.maketrans(LETTERS, SIX)
@@ -48,12 +51,14 @@ def payload_of(fields: Fields) -> tuple[bytes, int]:
         value = value << size | number & (1 << size) - 1
         width += size
     fill, units = -width % 6, -(-width // 6)
-    value <<= fill + 6 * (-units % 4)                     # so that six bits by six bits make whole groups of three bytes
+    # so that six bits by six bits make whole groups of three bytes
+    value <<= fill + 6 * (-units % 4)
     letters = base64.b64encode(value.to_bytes(-(-units // 4) * 3, "big"))[:units]
     return letters.translate(FROM_64), fill
 
 
-def part(payload: bytes, fill: int, talker: bytes = b"AIVDM", channel: bytes = b"A", count: int = 1, number: int = 1, sequence: bytes = b"") -> bytes:
+def part(payload: bytes, fill: int, talker: bytes = b"AIVDM", channel: bytes = b"A", count: int = 1, number: int = 1,
+         sequence: bytes = b"") -> bytes:
     """Returns one sentence, the part `number` of `count`, of a payload."""
     body = b"%s,%d,%d,%s,%s,%s,%d" % (talker, count, number, sequence, channel, payload, fill)
     return b"!%s*%02X" % (body, total(body))
@@ -68,29 +73,31 @@ def sentences(fields: Fields, sequence: int, channel: bytes = b"A") -> list[byte
     """Returns the sentences of a message that needs more than one: 336 bits in each but the last."""
     payload, fill = payload_of(fields)
     pieces = [payload[at:at + LONGEST_PART] for at in range(0, len(payload), LONGEST_PART)]
-    return [part(piece, fill if number == len(pieces) else 0, channel=channel, count=len(pieces), number=number, sequence=b"%d" % (sequence % 10))
-            for number, piece in enumerate(pieces, 1)]
+    return [
+        part(piece, fill if number == len(pieces) else 0, channel=channel, count=len(pieces), number=number,
+             sequence=b"%d" % (sequence % 10)) for number, piece in enumerate(pieces, 1)
+    ]
 
 
 def class_a(mmsi: int, report: Report, status: int = 15) -> Fields:
     """Returns a position report of message 1."""
     latitude, longitude, speed, course, heading, second = report
-    return [(1, 6), (0, 2), (mmsi, 30), (status, 4), (128, 8), (speed, 10), (0, 1), (longitude, 28), (latitude, 27), (course, 12),
-            (heading, 9), (second, 6), (0, 25)]
+    return [(1, 6), (0, 2), (mmsi, 30), (status, 4), (128, 8), (speed, 10), (0, 1), (longitude, 28), (latitude, 27),
+            (course, 12), (heading, 9), (second, 6), (0, 25)]
 
 
 def class_b(mmsi: int, report: Report) -> Fields:
     """Returns a position report of message 18."""
     latitude, longitude, speed, course, heading, second = report
-    return [(18, 6), (0, 2), (mmsi, 30), (0, 8), (speed, 10), (0, 1), (longitude, 28), (latitude, 27), (course, 12), (heading, 9),
-            (second, 6), (0, 29)]
+    return [(18, 6), (0, 2), (mmsi, 30), (0, 8), (speed, 10), (0, 1), (longitude, 28), (latitude, 27), (course, 12),
+            (heading, 9), (second, 6), (0, 29)]
 
 
 def voyage(mmsi: int, name: str, kind: int, hull: Hull, destination: str = "") -> Fields:
     """Returns message 5: name, type of ship, size, and destination."""
     sides = list(zip(hull, (9, 9, 6, 6)))
-    return ([(5, 6), (0, 2), (mmsi, 30), (0, 32)] + six_bit_text("", 7) + six_bit_text(name, 20) + [(kind, 8)] + sides + [(0, 32)]
-            + six_bit_text(destination, 20) + [(0, 2)])
+    return ([(5, 6), (0, 2), (mmsi, 30), (0, 32)] + six_bit_text("", 7) + six_bit_text(name, 20) + [(kind, 8)] + sides
+            + [(0, 32)] + six_bit_text(destination, 20) + [(0, 2)])
 
 
 def name_part(mmsi: int, name: str) -> Fields:
@@ -124,7 +131,8 @@ def lone_message(line: bytes) -> Message | None:
 
 
 def place_of(message: Message) -> tuple[int, int] | None:
-    """Returns latitude and longitude in 1/10000 minute of a position report, or None if the message is none or has no place."""
+    """Returns latitude and longitude in 1/10000 minute of a position report, or None if the message is none or has no
+    place."""
     first = PLACES.get(message.number(0, 6))
     if first is None or message.length < 168:
         return None

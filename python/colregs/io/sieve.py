@@ -1,21 +1,25 @@
 """Leaves the lines of some vessels, and of all others what the program needs to read those as in the whole log.
 
-A line is left out only if the program reads it as a sentence of another vessel, or drops it whatever stands before it. Of such a line the tag block
-stays, which keeps the clock. Of another vessel's message in parts the last one is left out: the parts before it stay, since they also end what came
-before with the same identifier and channel.
+A line is left out only if the program reads it as a sentence of another vessel, or drops it whatever stands before it.
+Of such a line the tag block stays, which keeps the clock. Of another vessel's message in parts the last one is left
+out: the parts before it stay, since they also end what came before with the same identifier and channel.
 """
 import re
 from collections.abc import Callable, Iterable, Iterator
 
 from colregs.io.lines import LONGEST, Joiner, Message, Stamps, bits_of, line_of, sender_of, sentence_of
 
-LONE = re.compile(rb"(\\[^\\\n]*\\)?![A-Z0-9]{2}VD[MO],1,1,\d?,[A-Za-z0-9]?,([0-W`-w]{7})[^,\n]*,[0-5]\*[0-9A-Fa-f]{2}(?=[, \t\r\n]|$)")
+LONE = re.compile(
+    rb"(\\[^\\\n]*\\)?![A-Z0-9]{2}VD[MO],1,1,\d?,[A-Za-z0-9]?,([0-W`-w]{7})[^,\n]*,[0-5]\*[0-9A-Fa-f]{2}(?=[, "
+    rb"\t\r\n]|$)"
+)
 PART = re.compile(rb"(\\[^\\\n]*\\)?![A-Z0-9]{2}VD[MO],[2-9],")
 SENDER = 8, 30                      # first bit and width of a message's MMSI
 
 
 class Senders:
-    """Returns which vessel a sentence is of, where its own letters or the first part with its identifier and channel say so."""
+    """Returns which vessel a sentence is of, where its own letters or the first part with its identifier and channel
+    say so."""
 
     def __init__(self) -> None:
         self.parts: dict[tuple[bytes, bytes], int | None] = {}

@@ -1,8 +1,10 @@
-"""Makes one log of any logs: `gather` writes sentences with tag blocks, sorted by time, and counts each line by the form in which it was read.
+"""Makes one log of any logs: `gather` writes sentences with tag blocks, sorted by time, and counts each line by the
+form in which it was read.
 
-A sentence takes its time from its tag block, else from behind its sum, else from before it. A line without a time has that of the receiver's own
-clock (RMC, ZDA) or of the line before, whichever came last, and if there is neither, that of base stations (message 4). A line that gives nothing
-is counted too: `aside` where it is known and of no use here, `unread` with an example where it is not understood.
+A sentence takes its time from its tag block, else from behind its sum, else from before it. A line without a time has
+that of the receiver's own clock (RMC, ZDA) or of the line before, whichever came last, and if there is neither, that of
+base stations (message 4). A line that gives nothing is counted too: `aside` where it is known and of no use here,
+`unread` with an example where it is not understood.
 """
 import collections
 import os
@@ -13,11 +15,12 @@ import tempfile
 import time
 from collections.abc import Callable, Iterable, Iterator, Mapping, Sequence
 from dataclasses import dataclass
-from typing import IO
+from typing import IO, Any
 
 from colregs.errors import Fault, reason
-from colregs.io import jsons, tables
-from colregs.io.forms import Times, Unsure
+from colregs.io import clocks, jsons, tables
+from colregs.io.forms import Reading, Times, Unsure
+from colregs.io.gpx import Gpx
 from colregs.io.packing import TOO_LONG, Part, parts
 from colregs.io.receivers import DAMAGED, HEADING, LONGEST_GAP, Receiver, base_time
 from colregs.io.sentences import block
@@ -30,9 +33,14 @@ CUT = re.compile(rb"![A-Z0-9]{2}VD[MO],")
 HEAD = re.compile(rb"\w[\w \"]*(?:[,;\t]\w[\w \"]*)+")
 PROSE = re.compile(rb"\s*(?:#|//|--)")
 NMEA = re.compile(rb"[$!]([A-Z0-9]{2,6}),")
-SLOTS = 4500                    # of two channels in a minute: more sentences were never heard between two times of a receiver
+# of two channels in a minute: more sentences were never heard between two times of a receiver
+SLOTS = 4500
 DAY = 86400                     # s
-LINES, RECEIVER, BASE = "that of the line before", "the receiver's (RMC, ZDA or TPV)", "that of a base station (message 4)"
+LINES, RECEIVER, BASE = (
+    "that of the line before",
+    "the receiver's (RMC, ZDA or TPV)",
+    "that of a base station (message 4)",
+)
 SAMPLE = 200                    # letters of an example
 
 OwnTime = tuple[int, str, bytes]        # a line's own time, the name of its form, and the other fields of its tag block
@@ -47,7 +55,8 @@ class Unread:
 
 
 class Gathered:
-    """What came of the logs: counts by form, files, first and last time, how many sentences were written, and words for the reader."""
+    """What came of the logs: counts by form, files, first and last time, how many sentences were written, and words for
+    the reader."""
 
     def __init__(self) -> None:
         self.files: list[Part] = []
@@ -83,6 +92,30 @@ class Gathered:
         """Notes the last time."""
         self.last = latest if self.first is not None else None
 
+    def as_json(self) -> dict[str, Any]:
+        """Returns all of it as values of JSON."""
+        return {
+            "files": [vars(part) for part in self.files], "first": self.first, "last": self.last,
+            "forms": dict(self.forms), "of_no_use": dict(self.aside), "not_understood": {
+                name: {"count": unread.count, "example": unread.example}
+                for name, unread in self.unread.items()
+            }, "sentences": self.sentences, "untimed": self.untimed, "notes": self.notes
+        }
+
+    @classmethod
+    def of_json(cls, told: dict[str, Any]) -> "Gathered":
+        """Returns what values of JSON say; raises KeyError or TypeError if they are of something else."""
+        made = cls()
+        for entry in told["files"]:
+            part = Part(entry["name"], entry["packed"])
+            part.encoding, part.lines = entry["encoding"], entry["lines"]
+            made.files.append(part)
+        made.first, made.last, made.notes = told["first"], told["last"], list(told["notes"])
+        made.forms, made.aside = collections.Counter(told["forms"]), collections.Counter(told["of_no_use"])
+        made.unread = {name: Unread(entry["count"], entry["example"]) for name, entry in told["not_understood"].items()}
+        made.sentences, made.untimed = told["sentences"], told["untimed"]
+        return made
+
     def lines(self) -> int:
         """Returns how many lines were read."""
         return sum(part.lines for part in self.files)
@@ -91,7 +124,8 @@ class Gathered:
         """Yields what came of the logs, line by line."""
         for part in self.files:
             packed = "" if part.packed == "plain" else ", packed by " + part.packed
-            yield f"{part.name}: {part.lines} lines{packed}{'' if part.encoding == 'bytes' else ', in ' + part.encoding}"
+            encoding = "" if part.encoding == "bytes" else ", in " + part.encoding
+            yield f"{part.name}: {part.lines} lines{packed}{encoding}"
         for name, count in sorted(self.forms.items(), key=lambda entry: (-entry[1], entry[0])):
             yield f"read: {count} x {name}"
         for name, count in sorted(self.aside.items(), key=lambda entry: (-entry[1], entry[0])):
@@ -102,7 +136,8 @@ class Gathered:
 
 
 class Log:
-    """The log that is written: lines with their times go on as they come, and are sorted at the end where times run back."""
+    """The log that is written: lines with their times go on as they come, and are sorted at the end where times run
+    back."""
 
     def __init__(self, out: IO[bytes], gathered: Gathered) -> None:
         self.out, self.gathered, self.latest = out, gathered, 0
@@ -119,7 +154,8 @@ class Log:
 class Waiting:
     """Sentences without a time between two times: they get the first one if both are near to each other.
 
-    If they are not, or no time follows, as many get it as there usually are between two times. In a gap of a receiver's clock none gets it.
+    If they are not, or no time follows, as many get it as there usually are between two times. In a gap of a receiver's
+    clock none gets it.
     """
 
     def __init__(self, put: Callable[[int, bytes], None], cannot: Callable[[str, bytes], None]) -> None:
@@ -163,9 +199,13 @@ class Waiting:
 class Reader:
     """Reads the lines of one file into the log."""
 
-    def __init__(self, part: Part, log: Log, gathered: Gathered, untimed: IO[bytes], mmsi: int | None, offset: int) -> None:
+    def __init__(self, part: Part, log: Log, gathered: Gathered, untimed: IO[bytes], mmsi: int | None,
+                 reading: Reading) -> None:
         self.part, self.log, self.gathered, self.untimed = part, log, gathered, untimed
-        self.times, self.receiver, self.offset = Times(offset), Receiver(mmsi), offset
+        self.times, self.receiver, self.reading = Times(reading.offset, reading.date,
+                                                        reading.day_first), Receiver(mmsi), reading
+        self.unknown: str | None = None         # what a head lacks that is none of a table of positions
+        self.track = Gpx(self.times)
         self.json, self.waiting = jsons.Objects(self.times), Waiting(self.clocked, gathered.cannot)
         self.table: tables.Table | None = None
         self.head: bytes | None = None
@@ -207,18 +247,30 @@ class Reader:
             return
         elif CUT.search(line):
             self.sentences(line)
+        elif self.track.takes(line):
+            self.of_track()
         else:
             self.other(line)
 
+    def of_track(self) -> None:
+        """Writes own ship's reports of a line of GPX, if her MMSI is given."""
+        for at, report in self.track.found():
+            if self.receiver.mmsi is None:
+                self.gathered.aside["point of a GPX track, which is own ship's with --mmsi"] += 1
+            else:
+                self.gathered.forms["point of a GPX track"] += 1
+                self.own_ship(at, self.receiver.placed(report, at))
+
     def other(self, line: bytes) -> None:
-        """Reads a line without a sentence: a sentence of the receiver, JSON after a time, a head, or nothing that is known."""
+        """Reads a line without a sentence: a sentence of the receiver, JSON after a time, a head, or nothing that is
+        known."""
         told = self.receiver.take(line)
         if told:
             return self.of_receiver(line, *told)
         at = line.find(b"{")
         if at > 0 and self.value(line[at:], line[:at]):
             return None
-        table, nmea = tables.table_of(line), NMEA.search(line)
+        table, nmea = tables.table_of(line, self.reading.columns), NMEA.search(line)
         if table:
             self.table, self.head = table, line
             self.gathered.aside[f"head of a table ({table.name})"] += 1
@@ -228,14 +280,18 @@ class Reader:
             self.gathered.aside[f"other sentence ({nmea[1].decode()[-3:]})"] += 1
         elif PROSE.match(line):
             self.gathered.aside["comment"] += 1
-        elif self.part.lines == 1 and HEAD.fullmatch(line):
+        elif self.part.lines == 1 and (HEAD.fullmatch(line) or tables.unknown_head(line)):
+            self.unknown = tables.unknown_head(line)
             self.gathered.aside["head of a table of sentences"] += 1
+        elif self.unknown and not self.gathered.sentences:
+            self.gathered.cannot(f"a row of a table whose head is not known: {self.unknown}", line)
         else:
             self.gathered.cannot("a line with no sentence and no row", line)
         return None
 
     def of_receiver(self, line: bytes, name: str, time: int | None) -> None:
-        """Takes a sentence of the receiver: its time sets the clock; if the line has a time of its own, notes how far that is off."""
+        """Takes a sentence of the receiver: its time sets the clock; if the line has a time of its own, notes how far
+        that is off."""
         if name in DAMAGED:
             self.gathered.cannot(name, line)
             return
@@ -398,7 +454,8 @@ def told_apart(reader: Reader, name: str, gathered: Gathered) -> None:
 
 
 def far_off(days: Mapping[int, int]) -> tuple[int, int | None]:
-    """Returns how many sentences have times more than a day before or after nearly all others, and one of their days."""
+    """Returns how many sentences have times more than a day before or after nearly all others, and one of their
+    days."""
     most, seen, kept = sum(days.values()), 0, []
     for day in sorted(days):
         seen += days[day]
@@ -415,11 +472,15 @@ def sort(path: str) -> None:
         raise Fault(f"{path} cannot be sorted: is there room on the disk")
 
 
-def gather(paths: Sequence[str], out: str, *, mmsi: int | None = None, offset: int = 0) -> Gathered:
-    """Writes the logs as one at the path `out`; returns what came of them. With an MMSI the receiver's own places become own ship's.
+def gather(paths: Sequence[str], out: str, *, mmsi: int | None = None, offset: int = 0,
+           reading: Reading | None = None) -> Gathered:
+    """Writes the logs as one at the path `out`; returns what came of them. With an MMSI the receiver's own places
+    become own ship's.
 
-    Times without a zone are UTC, less `offset` seconds. If no line of any log has a time, the sentences are written as they are.
+    Times without a zone are UTC, less `offset` seconds; `reading` says more of how logs are read. If no line of any log
+    has a time, the sentences are written as they are.
     """
+    reading = reading or Reading(offset)
     if any(os.path.exists(path) and os.path.exists(out) and os.path.samefile(path, out) for path in paths):
         raise Fault(f"{out} is a log that is read, and cannot be written too")
     gathered = Gathered()
@@ -427,20 +488,34 @@ def gather(paths: Sequence[str], out: str, *, mmsi: int | None = None, offset: i
         with open(out, "wb", buffering=1 << 20) as made, tempfile.TemporaryFile() as untimed:
             log = Log(made, gathered)
             for path in paths:
-                read_file(path, log, untimed, mmsi, offset)
+                read_file(path, log, untimed, mmsi, reading)
             leave_untimed(gathered, untimed, made)
         ended(out, gathered, log, mmsi)
+        compare_clocks(out, gathered, reading.align)
     except OSError as error:
         raise Fault(f"{out} cannot be written: {reason(error)}") from None
     return gathered
 
 
-def read_file(path: str, log: Log, untimed: IO[bytes], mmsi: int | None, offset: int) -> None:
+def compare_clocks(out: str, gathered: Gathered, is_aligned: bool) -> None:
+    """Notes receivers whose clocks differ, and takes that out of the log if it is asked for."""
+    found = clocks.ahead(out) if gathered.first is not None else []
+    if found and is_aligned:
+        clocks.align(out, {each.name: each.seconds for each in found})
+        sort(out)
+    gathered.notes += [
+        f"{clocks.words(each)}{', and was set right' if is_aligned else ': --align sets it right'}" for each in found
+    ]
+
+
+def read_file(path: str, log: Log, untimed: IO[bytes], mmsi: int | None, reading: Reading) -> None:
     """Reads each log in a file."""
     for part, lines in parts(path):
         log.gathered.files.append(part)
-        reader = Reader(part, log, log.gathered, untimed, mmsi, offset)
+        reader = Reader(part, log, log.gathered, untimed, mmsi, reading)
         reader.read(lines)
+        if part.is_cut:
+            log.gathered.notes.append(f"{part.name} is cut off: it was read as far as it goes, {part.lines:,} lines")
         told_apart(reader, part.name, log.gathered)
 
 
@@ -460,7 +535,8 @@ def ended(out: str, gathered: Gathered, log: Log, mmsi: int | None) -> None:
     count, day = far_off(log.days) if gathered.sentences else (0, None)
     if count:
         date = time.strftime("%Y-%m-%d", time.gmtime((day or 0) * DAY))
-        gathered.notes.append(f"{count} sentences have times more than a day off nearly all others, as {date}: was a clock not set")
+        gathered.notes.append(f"{count} sentences have times more than a day off nearly all others, as {date}: was a "
+                              "clock not set")
     if gathered.back:
         sort(out)
         gathered.notes.append(f"{gathered.back} sentences were out of order: the log is sorted by time")

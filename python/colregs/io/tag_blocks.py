@@ -1,4 +1,5 @@
-"""The one reader of tag blocks (NMEA 0183 4.10): the time that they have, their other fields, and what is outside them."""
+"""The one reader of tag blocks (NMEA 0183 4.10): the time that they have, their other fields, and what is outside
+them."""
 import re
 
 from colregs.io.forms import Unsure
@@ -18,13 +19,15 @@ def seconds(digits: bytes) -> int:
 
 
 def stamp(line: bytes) -> int | None:
-    """Returns the time in the tag block at the beginning of a line, as the program has it (docs/LOG.md), or None; sums are not checked."""
+    """Returns the time in the tag block at the beginning of a line, as the program has it (docs/LOG.md), or None; sums
+    are not checked."""
     found = FIRST.match(line)
     return seconds(found[1]) if found else None
 
 
 def blocks(text: bytes) -> tuple[int | None, bytes, bytes]:
-    """Returns the first time in the tag blocks of a text, their other fields, and what is outside them; raises Unsure if a block is damaged."""
+    """Returns the first time in the tag blocks of a text, their other fields, and what is outside them; raises Unsure
+    if a block is damaged."""
     time, more = None, []
     for found in BLOCK.finditer(text):
         if not has_sum(found[1], found[2]):

@@ -1,20 +1,27 @@
-"""Fields of tables and of JSON in knots, degrees and metres, as the numbers of AIS messages. An empty field has no value."""
+"""Fields of tables and of JSON in knots, degrees and metres, as the numbers of AIS messages. An empty field has no
+value."""
+import re
 from collections.abc import Sequence
 
-from colregs.io.sentences import (NO_COURSE, NO_HEADING, NO_LATITUDE, NO_LONGITUDE, NO_SPEED, Hull, Report, class_a, class_b, hull_part, name_part,
-                                  sentence)
+from colregs.io.sentences import (NO_COURSE, NO_HEADING, NO_LATITUDE, NO_LONGITUDE, NO_SPEED, Hull, Report, class_a,
+                                  class_b, hull_part, name_part, sentence)
 
 NOTHING = ("", "nan", "null", "none", "n/a", "na", "\\n", "undefined", "unknown")
-STATUSES = {"under way using engine": 0, "at anchor": 1, "not under command": 2, "restricted maneuverability": 3,
-            "restricted manoeuvrability": 3, "constrained by her draught": 4, "constrained by draught": 4, "moored": 5, "aground": 6,
-            "engaged in fishing": 7, "under way sailing": 8}
-KINDS = {"fishing": 30, "towing": 31, "towing long/wide": 32, "dredging": 33, "diving": 34, "military": 35, "sailing": 36, "pleasure": 37,
-         "hsc": 40, "pilot": 50, "sar": 51, "tug": 52, "port tender": 53, "anti-pollution": 54, "law enforcement": 55, "medical": 58,
-         "passenger": 60, "cargo": 70, "tanker": 80, "other": 90, "reserved": 0}
+STATUSES = {
+    "under way using engine": 0, "at anchor": 1, "not under command": 2, "restricted maneuverability": 3,
+    "restricted manoeuvrability": 3, "constrained by her draught": 4, "constrained by draught": 4, "moored": 5,
+    "aground": 6, "engaged in fishing": 7, "under way sailing": 8
+}
+KINDS = {
+    "fishing": 30, "towing": 31, "towing long/wide": 32, "dredging": 33, "diving": 34, "military": 35, "sailing": 36,
+    "pleasure": 37, "hsc": 40, "pilot": 50, "sar": 51, "tug": 52, "port tender": 53, "anti-pollution": 54,
+    "law enforcement": 55, "medical": 58, "passenger": 60, "cargo": 70, "tanker": 80, "other": 90, "reserved": 0
+}
 
 
 def number(text: str | float | None) -> float | None:
-    """Returns the number of a field, or None if the field is empty; raises ValueError if it is no number, or not finite."""
+    """Returns the number of a field, or None if the field is empty; raises ValueError if it is no number, or not
+    finite."""
     if text is None:
         return None
     try:
@@ -28,6 +35,34 @@ def number(text: str | float | None) -> float | None:
     if abs(value) > 1e12:
         raise ValueError(text)
     return value
+
+
+SEXAGESIMAL = re.compile(r"([NSEWnsew])?\s*(-?\d{1,3})(?:\s*[\u00b0\u00ba]\s*|\s+)(\d{1,2}(?:[.,]\d+)?)\s*['\u2032]?\s*"
+                         r"(?:(\d{1,2}(?:[.,]\d+)?)\s*[\"\u2033]?\s*)?([NSEWnsew])?")
+DECIMAL = re.compile(r"([NSEWnsew])?\s*(-?\d+(?:[.,]\d+)?)\s*[\u00b0\u00ba]?\s*([NSEWnsew])?")
+
+
+def decimal(text: str) -> float | None:
+    """Returns the number of a field that may have a decimal comma."""
+    return number(text.replace(",", ".") if re.fullmatch(r"\s*-?\d+,\d+\s*", text) else text)
+
+
+def degrees(text: str) -> float | None:
+    """Returns degrees of a field with degrees, or degrees and minutes, or seconds too, and perhaps N, S, E or W."""
+    plain = text.strip()
+    found = DECIMAL.fullmatch(plain)
+    if found:
+        value, sides = float(found[2].replace(",", ".")), (found[1], found[3])
+    elif found := SEXAGESIMAL.fullmatch(plain):
+        minutes, seconds = (float((part or "0").replace(",", ".")) for part in (found[3], found[4]))
+        if minutes >= 60 or seconds >= 60:
+            raise ValueError(text)
+        size = abs(int(found[2])) + minutes / 60 + seconds / 3600
+        value, sides = -size if found[2].startswith("-") else size, (found[1], found[5])
+    else:
+        return number(text)
+    side = (sides[0] or sides[1] or "").upper()
+    return -value if side in ("S", "W") else value
 
 
 def latitude(degrees: float | None) -> int:
@@ -78,7 +113,8 @@ def kind(text: object) -> int:
 
 
 def hull(sides: Sequence[float | None], length: float | None, width: float | None) -> Hull:
-    """Returns metres to bow, stern, port and starboard. If only length and width are known, those to bow and port are 0, as in ITU-R M.1371."""
+    """Returns metres to bow, stern, port and starboard. If only length and width are known, those to bow and port are
+    0, as in ITU-R M.1371."""
     if any(sides):
         bow, stern, port, starboard = (min(most, round(side or 0)) for side, most in zip(sides, (511, 511, 63, 63)))
         return bow, stern, port, starboard

@@ -1,4 +1,5 @@
-"""Where on the earth a place of the scenario's plane is (docs/PLANE.md), and how moments and features are written for a map."""
+"""Where on the earth a place of the scenario's plane is (docs/PLANE.md), and how moments and features are written for a
+map."""
 import json
 import math
 import time
@@ -17,11 +18,16 @@ class Earth:
 
     def degrees(self, x: float, y: float) -> list[float]:
         """Returns longitude and latitude in degrees, exact to 1/10000 minute as in the log."""
-        return [round((self.longitude + round(x * self.east)) / 600000, 7), round((self.latitude + round(y * self.north)) / 600000, 7)]
+        return [
+            round((self.longitude + round(x * self.east)) / 600000, 7),
+            round((self.latitude + round(y * self.north)) / 600000, 7)
+        ]
 
     def words(self, xs: Iterable[float], ys: Iterable[float]) -> str:
         """Returns places as GeoJSON writes a line of them."""
-        places = [f"[{(self.longitude + round(x * self.east)) / 600000:.7f},{(self.latitude + round(y * self.north)) / 600000:.7f}]" for x, y in zip(xs, ys)]
+        easts = ((self.longitude + round(x * self.east)) / 600000 for x in xs)
+        norths = ((self.latitude + round(y * self.north)) / 600000 for y in ys)
+        places = [f"[{east:.7f},{north:.7f}]" for east, north in zip(easts, norths)]
         return f"[{','.join(places)}]"
 
 

@@ -1,6 +1,8 @@
-"""What a formula of a scenario's own can see of a trace (docs/FORMULAS.md): how far it looks, and whether it speaks of meetings alone.
+"""What a formula of a scenario's own can see of a trace (docs/FORMULAS.md): how far it looks, and whether it speaks of
+meetings alone.
 
-A join of windows needs that. A window may begin a pair's trace later than the whole audit does, with positions missing at which the two are not engaged.
+A join of windows needs that. A window may begin a pair's trace later than the whole audit does, with positions missing
+at which the two are not engaged.
 """
 import re
 from collections.abc import Callable
@@ -11,27 +13,23 @@ from colregs.errors import Fault
 TOKEN = re.compile(r" *([a-z][a-z0-9_]*|[A-Z]|[0-9]+|->|[!&|()\[\],]|$)")
 NO, OPEN, YES = 0, 1, 2
 ANY = frozenset((NO, OPEN, YES))
-OF_MEETINGS = frozenset((        # these atoms are No wherever the two are not engaged (docs/AUDIT.md)
-    "risk", "engaged", "begin", "overtaking", "overtaken", "head_on", "crossing_gives", "crossing_stands", "passing", "unclassified", "age", "alters",
-    "apparent", "to_starboard", "to_port", "other_apparent", "rank_gives", "rank_stands", "both_power"))
+OF_MEETINGS = frozenset((  # these atoms are No wherever the two are not engaged (docs/AUDIT.md)
+    "risk", "engaged", "begin", "overtaking", "overtaken", "head_on", "crossing_gives", "crossing_stands", "passing",
+    "unclassified", "age", "alters", "apparent", "to_starboard", "to_port", "other_apparent", "rank_gives",
+    "rank_stands", "both_power"))
 ONE_NUMBER = ("clear", "close", "age")
 DEEPEST = 200                    # parentheses and operators within one another; the program takes 64
 
 
 @dataclass(frozen=True)
 class Sight:
-    """What is known of a formula: seconds that it looks back and ahead, its values where the two are not engaged, and whether a missing
-    position before the trace is to it as one at which they are not engaged."""
+    """What is known of a formula: seconds that it looks back and ahead, its values where the two are not engaged, and
+    whether a missing position before the trace is to it as one at which they are not engaged."""
 
     back: int
     ahead: int
     values: frozenset[int]
     no_edge: bool
-
-    @property
-    def is_of_meetings(self) -> bool:
-        """Whether the formula is Yes at each position about which the two are not engaged."""
-        return self.values == {YES}
 
 
 def sight_of(text: str) -> Sight:

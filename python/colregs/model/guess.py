@@ -1,4 +1,5 @@
-"""Suggests a scenario for a log: window, tick and reference by what the program reads of it, every other number as in the worked encounters."""
+"""Suggests a scenario for a log: window, tick and reference by what the program reads of it, every other number as in
+the worked encounters."""
 import bisect
 import math
 import re
@@ -18,8 +19,10 @@ from colregs.run.program import Run, run_text
 TICKS = [1, 2, 3, 5, 6, 10, 15, 30, 60]
 LONGEST = 20000                                              # ticks of a window at most
 REACH = 1200000                                              # 1/10000 minute: how far north or south the plane goes
-MOST_PAIRS, WATCHES = 4096, (5000, 3000, 2000, 1500, 1000)   # the pairs that the program follows; the distances in m that are tried
-MARGIN = 3600                                                # s: what of a log may lie before or behind the times of these places
+# the pairs that the program follows; the distances in m that are tried
+MOST_PAIRS, WATCHES = 4096, (5000, 3000, 2000, 1500, 1000)
+# s: what of a log may lie before or behind the times of these places
+MARGIN = 3600
 LOOK = """version = 1
 window = {{ start = {start}, tick = 60, ticks = {ticks} }}
 reference = {{ lat = {lat}, lon = {lon} }}
@@ -28,7 +31,8 @@ detect = {{ watch = 1, risk = 1, clear = 1, horizon = 60, doubt = 0, ahead = 0, 
 act = {{ steady_turn = 0, apparent_turn = 1, steady_speed = 0, apparent_speed = 1 }}
 rules = {{ safe = 1, overtake = 1, close = 1, t8 = 0, ta = 0, tl = 0, tw = 0, te = 0 }}
 """
-TEXT = """# A scenario to start from, by tools/scenario. The window, the tick and the reference are guessed from the log; every other number is
+TEXT = """# A scenario to start from, by tools/scenario. \
+The window, the tick and the reference are guessed from the log; every other number is
 # that of the worked encounters, whatever the log: go through them. docs/SCENARIO.md describes each key.
 version = 1
 
@@ -42,7 +46,8 @@ lat = {lat}
 lon = {lon}
 
 [log]
-gap = {gap}             # s: between two reports farther apart than this a vessel is not seen. At anchor they come each 3 minutes
+gap = {gap}             # s: between two reports farther apart than this a vessel is not seen. \
+At anchor they come each 3 minutes
 slack = 30            # s: a sentence that comes later than this behind the latest is dropped
 max_speed = 500       # 50 knots: a report that asks for a faster vessel is dropped as a jump
 
@@ -86,7 +91,8 @@ class Asked:
     vessels: Sequence[str] = ()
 
     def window(self, first: int, last: int) -> tuple[int, int]:
-        """Returns the first and last second, which are the given ones unless others are asked for; raises Fault if none lies between."""
+        """Returns the first and last second, which are the given ones unless others are asked for; raises Fault if none
+        lies between."""
         begin = first if self.begin is None else moment(self.begin, first)
         end = last if self.end is None else moment(self.end, begin)
         if begin >= end:
@@ -95,7 +101,8 @@ class Asked:
 
 
 def ends(times: Sequence[int], reasons: list[str], what: str | None) -> tuple[int, int]:
-    """Returns the first and last time, except for a few that lie more than a day off, as of a receiver without its clock."""
+    """Returns the first and last time, except for a few that lie more than a day off, as of a receiver without its
+    clock."""
     times = sorted(times)
     few = max(1, len(times) // 1000) if len(times) > 10 else 0
     begin, end = bisect.bisect_left(times, times[few] - 86400), bisect.bisect_right(times, times[-1 - few] + 86400)
@@ -135,7 +142,8 @@ class Guess:
 
 
 class Found:
-    """What the program read of the log: places and times of accepted reports, and of each vessel under way the median seconds between hers."""
+    """What the program read of the log: places and times of accepted reports, and of each vessel under way the median
+    seconds between hers."""
 
     def __init__(self, done: Run, reference: tuple[int, int]) -> None:
         if done.status != 0:
@@ -157,33 +165,39 @@ class Found:
         for values, unit in ((sorted(self.norths), 1852), (sorted(self.easts), 1852 * cosine / 1000000)):
             count = len(values)
             middles.append([round(values[k] / unit) for k in ((count - 1) // 2, count // 2)])
-        latitude, longitude = (math.floor(sum(first + more for more in pair) / 2) for first, pair in zip(self.first, middles))
+        latitude, longitude = (math.floor(sum(first + more
+                                              for more in pair) / 2)
+                               for first, pair in zip(self.first, middles))
         return latitude, (longitude + 108000000) % 216000000 - 108000000
 
 
-def look(log: str, program: str, reasons: list[str]) -> tuple[Found, bool]:
-    """Returns what the program reads in the log, on a plane and in a window that hold most of it; and whether any line has a time."""
+def look(log: str, program: str, reasons: list[str]) -> tuple[Found, int | None]:
+    """Returns what the program reads in the log, on a plane and in a window that hold most of it; and the last time, or
+    None if no line has one."""
     reference, times = where(log), [at for at in map(stamp, sampled(log)) if at is not None]
     first, last = ends(times, reasons, None) if times else (0, 0)
     first = max(0, first - MARGIN)
     ticks = max(1, min(LONGEST, (last + MARGIN - first) // 60 + 1))
-    return Found(run_text(program, "points", LOOK.format(start=first, ticks=ticks, lat=reference[0], lon=reference[1]), log), reference), bool(times)
+    return Found(
+        run_text(program, "points", LOOK.format(start=first, ticks=ticks, lat=reference[0], lon=reference[1]), log),
+        reference), last if times else None
 
 
-def window(found: Found, timed: bool, reasons: list[str], asked: Asked) -> tuple[int, int, int, float | None]:
-    """Returns start, tick, ticks and the interval between reports, from which the tick is guessed."""
-    if not timed:
-        reasons.append("no tag block has a time: every line counts as of the window's start, and a vessel gives one point. Give times first"
+def window(found: Found, latest: int | None, reasons: list[str], asked: Asked) -> tuple[int, int, int, float | None]:
+    """Returns start, tick, ticks and the interval between reports, from which the tick is guessed. `latest` is the
+    log's last time, if it has any."""
+    if latest is None:
+        reasons.append("no tag block has a time: every line counts as of the window's start, and a vessel gives one "
+                       "point. Give times first"
                        " (docs/SOURCES.md)")
         return 0, 10, 1, None
     interval = statistics.median(found.apart) if found.apart else 10
     tick = next((k for k in TICKS if k >= interval), 60)
-    first, last = asked.window(*ends(found.times, reasons, "reports"))
-    ticks = max(1, (last - first) // tick)
-    if ticks > LONGEST or found.counts.get("outside", 0) > len(found.times):
-        reasons.append(Cut(f"the log is {ticks} ticks long or more, and a window may have 20000: this is its beginning. tools/colregs-many audits"
-                           " all of it"))
-    return first, tick, min(ticks, LONGEST), interval
+    first, last = ends(found.times, reasons, "reports")
+    if found.counts.get("outside", 0) > len(found.times):       # the look has but the beginning of a long log
+        last = max(last, latest)
+    first, last = asked.window(first, last)
+    return first, tick, max(1, (last - first) // tick), interval
 
 
 def reference(found: Found, reasons: list[str]) -> tuple[int, int]:
@@ -202,16 +216,24 @@ def text_of(guess: Guess) -> str:
     tick, ticks, interval = guess.tick, guess.ticks, guess.interval
     times = {name: -(-value // tick) * tick for name, value in (
         ("horizon", 900), ("t8", 60), ("ta", 120), ("tl", 30), ("tw", 120), ("te", 600))}
-    known = "nothing shows how far reports are apart" if interval is None else f"reports of vessels under way are about {interval:g} s apart"
-    text = TEXT.format(**{
-        "start": guess.start, "tick": tick, "ticks": ticks, "lat": guess.latitude, "lon": guess.longitude, "watch": guess.watch, **times,
-        "interval": known, "clock": time.strftime("%Y-%m-%d %H:%M:%S UTC", time.gmtime(guess.start)),
-        "length": f"{ticks * tick // 60} minutes" if ticks * tick >= 120 else f"{ticks * tick} s", "gap": max(200, tick)})
+    known = (
+        "nothing shows how far reports are apart"
+        if interval is None
+        else f"reports of vessels under way are about {interval:g} s apart"
+    )
+    text = TEXT.format(
+        **{
+            "start": guess.start, "tick": tick, "ticks": min(ticks, LONGEST), "lat": guess.latitude,
+            "lon": guess.longitude, "watch": guess.watch, **times, "interval": known, "clock": time.strftime(
+                "%Y-%m-%d %H:%M:%S UTC", time.gmtime(guess.start)), "length": f"{ticks * tick // 60} minutes" if ticks
+            * tick >= 120 else f"{ticks * tick} s", "gap": max(200, tick)
+        })
     return re.sub(r"(?m)^([a-z0-9_]+ = \S+) +# ", lambda line: f"{line[1]:<22}# ", text)
 
 
 def fitted(guess: Guess, vessels: int, log: str, program: str, reasons: list[str]) -> Guess:
-    """Returns the guess with a watch, and if need be a window, in which no more pairs come into contact than the program follows."""
+    """Returns the guess with a watch, and if need be a window, in which no more pairs come into contact than the
+    program follows."""
     if vessels * (vessels - 1) <= MOST_PAIRS:
         return guess
     for watch in WATCHES:
@@ -222,10 +244,12 @@ def fitted(guess: Guess, vessels: int, log: str, program: str, reasons: list[str
     while guess.ticks > 1 and guess.watch == WATCHES[-1] and not fits(guess, log, program):
         guess = replace(guess, ticks=guess.ticks // 2)
     if guess.ticks < whole:
-        reasons.append(Cut(f"the window is cut to {guess.ticks} of {whole} ticks: more than {MOST_PAIRS} pairs come into contact. "
+        reasons.append(Cut(f"the window is cut to {guess.ticks} of {whole} ticks: more than {MOST_PAIRS} pairs come "
+                           "into contact. "
                            "tools/colregs-many audits such a log by subjects and windows"))
     if guess.watch != WATCHES[0]:
-        reasons.append(Cut(f"the watch is {guess.watch} m instead of {WATCHES[0]}: more than {MOST_PAIRS} pairs would come into contact, so meetings "
+        reasons.append(Cut(f"the watch is {guess.watch} m instead of {WATCHES[0]}: more than {MOST_PAIRS} pairs would "
+                           "come into contact, so meetings "
                            "begin later"))
     return guess
 
@@ -236,33 +260,60 @@ def fits(guess: Guess, log: str, program: str) -> bool:
     return not (done.status == 7 and "pairs" in done.words)
 
 
-def suggested(log: str, program: str, asked: Asked = Asked()) -> tuple[str, list[str]]:
-    """Returns a scenario's text for a log with tag blocks, and the reasons for what was guessed; raises a Fault if no position report is found.
+def guessed(log: str, program: str, reasons: list[str], asked: Asked = Asked()) -> tuple[Guess, int]:
+    """Returns the numbers for all of a log with tag blocks, or for the part that is asked for, and how many vessels
+    there are.
 
-    A reason that is a `Cut` says what of the log, or of the part that is asked for, is not audited.
+    The ticks may be more than a scenario takes. Raises a Fault if no position report is found.
     """
-    reasons: list[str] = []
     try:
-        found, timed = look(log, program, reasons)
+        found, latest = look(log, program, reasons)
     except OSError as error:
         raise Fault(f"{log} cannot be read: {reason(error)}") from None
     if not found.times:
         raise Fault("the program accepts no position report of the log")
-    start, tick, ticks, interval = window(found, timed, reasons, asked)
+    start, tick, ticks, interval = window(found, latest, reasons, asked)
     latitude, longitude = reference(found, reasons)
-    guess = fitted(Guess(start, tick, ticks, interval, latitude, longitude), found.vessels, log, program, reasons)
     reasons.append(f"{len(found.times)} position reports of {found.vessels} vessels")
-    if interval is not None:
-        whole = "to the last" if guess.ticks == ticks else "on, and is cut"
-        begin = "as asked" if asked.begin or asked.end else f"from the first report {whole}"
-        reasons.append(f"the window is {begin}: {guess.ticks * tick} s from {start} on")
-        reasons.append(f"the tick is {tick} s: reports of vessels under way are {interval:g} s apart, by their median")
-    reasons.append(f"the reference is the middle of the places: latitude {latitude}, longitude {longitude}")
-    return text_of(guess), reasons
+    return Guess(start, tick, ticks, interval, latitude, longitude), found.vessels
+
+
+def window_reasons(guess: Guess, ticks: int, asked: Asked = Asked()) -> list[str]:
+    """Returns why a guess has its window, tick and reference; `ticks` are those of all of the log."""
+    found = []
+    if guess.interval is not None:
+        begin = (
+            "as asked"
+            if asked.begin or asked.end
+            else f"from the first report {'to the last' if guess.ticks == ticks else 'on, and is cut'}"
+        )
+        found = [f"the window is {begin}: {guess.ticks * guess.tick} s from {guess.start} on",
+                 f"the tick is {guess.tick} s: reports of vessels under way are {guess.interval:g} s apart, by their "
+                 "median"]
+    return [*found, f"the reference is the middle of the places: latitude {guess.latitude}, longitude "
+                    f"{guess.longitude}"]
+
+
+def suggested(log: str, program: str) -> tuple[str, list[str]]:
+    """Returns a scenario's text for a log with tag blocks that one run takes, and the reasons for what was guessed.
+
+    A reason that is a `Cut` says what of the log is not audited.
+    """
+    reasons: list[str] = []
+    guess, vessels = guessed(log, program, reasons)
+    ticks = guess.ticks
+    if ticks > LONGEST:
+        reasons.append(Cut(f"the log is {ticks} ticks long, and a window may have 20000: this is its beginning. "
+                           "tools/colregs-case and "
+                           "tools/colregs-many audit all of it"))
+        guess = replace(guess, ticks=LONGEST)
+    guess = fitted(guess, vessels, log, program, reasons)
+    return text_of(guess), reasons + window_reasons(guess, ticks)
 
 
 def named(log: str, program: str, vessels: Sequence[str]) -> list[int]:
-    """Returns the MMSIs of vessels that are given by MMSI, or by name as the log has it; raises a Fault if a name has none or several."""
+    """Returns the MMSIs of vessels that are given by MMSI, or by name as the log has it; raises a Fault if a name has
+    none or several."""
     names: dict[str, list[int]] = {}
     if not all(word.isdecimal() for word in vessels):
         latitude, longitude = where(log)
@@ -276,13 +327,15 @@ def named(log: str, program: str, vessels: Sequence[str]) -> list[int]:
     for word in vessels:
         ships = [int(word)] if word.isdecimal() else names.get(word.casefold(), [])
         if len(ships) != 1:
-            raise Fault(f"--vessel {word}: {'several vessels have this name: ' + ', '.join(map(str, ships)) if ships else 'no vessel of the log has this name'}")
+            several = "several vessels have this name: " + ", ".join(map(str, ships))
+            raise Fault(f"--vessel {word}: {several if ships else 'no vessel of the log has this name'}")
         found += ships
     return found
 
 
 def with_subjects(text: str, subjects: Sequence[int]) -> str:
-    """Returns a scenario's text with vessels one of which at least is of each pair that is audited; raises a Fault if it has such vessels already."""
+    """Returns a scenario's text with subjects, so that only pairs with one of them are audited; raises a Fault if it
+    has such vessels already."""
     if re.search(r"(?m)^\s*subjects\s*=", text):
         raise Fault("the scenario has `subjects` already: change them there instead of giving --vessel")
     version = re.search(r"(?m)^\s*version\s*=.*$", text)

@@ -9,8 +9,11 @@ from typing import Any
 from colregs.errors import Fault
 from colregs.run.program import TOP
 
-PAGES = os.path.join(TOP, "docs", "SCENARIO.md"), os.path.join(os.path.dirname(os.path.abspath(__file__)), "SCENARIO.md")     # the latter of a wheel
-NO_KEYS = {"document", "formulas"}      # what the table tells of the text as a whole, and of all formulas together
+# the latter of a wheel
+PAGES = os.path.join(TOP, "docs", "SCENARIO.md"), os.path.join(
+    os.path.dirname(os.path.abspath(__file__)), "SCENARIO.md"
+)
+NO_KEYS = {"document", "formulas"}      # rows of the table for the text as a whole, and of all formulas together
 PILOT = "pilot."      # the table that colregs-pilot and colregs-trials read (docs/BUILDER.md); the program ignores it
 
 
@@ -54,9 +57,13 @@ def likeness(one: str, two: str) -> float:
 
 
 def nearest(name: str) -> str | None:
-    """Returns the key or table whose name is nearest to this one, or None; in its own table a key is a little nearer."""
+    """Returns the key or table whose name is nearest to this one, or None; in its own table a key is a little
+    nearer."""
     head, _, tail = name.rpartition(".")
-    scores = {key: likeness(tail, key.rpartition(".")[2]) + (key.rpartition(".")[0] == head) / 10 for key in [*units(), *tables()]}
+    scores = {
+        key: likeness(tail, key.rpartition(".")[2]) + (key.rpartition(".")[0] == head) / 10
+        for key in [*units(), *tables()]
+    }
     best = max(sorted(scores), key=lambda key: scores[key])
     return best if scores[best] >= 0.65 else None
 

@@ -1,4 +1,5 @@
-"""What a doctor sees in a log itself, before the program reads it: how it is packed, whether it has sentences and times, who shares an MMSI."""
+"""What a doctor sees in a log itself, before the program reads it: how it is packed, whether it has sentences and
+times, who shares an MMSI."""
 import collections
 import re
 import statistics
@@ -15,10 +16,13 @@ from colregs.io.tag_blocks import stamp
 
 MOST_SPEED = 102.2 * 1852 / 3600         # metres a second: what no ship makes
 Report = tuple[int, int, int]            # time, latitude and longitude
-STATIONS = {4: "a base station's time", 9: "an aircraft's report", 11: "a base station's time", 21: "an aid to navigation's report"}
+STATIONS = {
+    4: "a base station's time", 9: "an aircraft's report", 11: "a base station's time",
+    21: "an aid to navigation's report"
+}
 FLOATS = re.compile(r"\bBUOY|\bBEACON|\bNETS?\b|\bNETMARK|\d+ ?%|\d\d?\.\d ?V\b")
 STEADY = 3                               # so many reports of either of two tracks make two ships
-CLOCKS = 4, 11                           # messages that tell the UTC of their sender
+CLOCKS = 4, 11                           # messages with the UTC of their sender
 OFF = 60                                 # s: a log's clock that is farther off than this is reported
 MOVED = 600                              # s: a track without a report for so long has gone over into the other
 
@@ -37,7 +41,11 @@ def form_of(log: str) -> Iterator[Finding]:
         yield Finding("log in UTF-16", "the log is a text in UTF-16: tools/tagged reads it")
     elif not any(CUT.search(line) for line in sampled(log)):
         table = next((table for table in map(table_of, head.split(b"\n")[:5]) if table), None)
-        words = f"is a table ({table.name}): tools/tagged makes sentences of it" if table else "has no AIVDM or AIVDO sentence"
+        words = (
+            f"is a table ({table.name}): tools/tagged makes sentences of it"
+            if table
+            else "has no AIVDM or AIVDO sentence"
+        )
         yield Finding("no sentences", "the log " + words)
 
 
@@ -48,7 +56,8 @@ def times_of(log: str) -> tuple[int, list[int]]:
 
 
 class Track:
-    """The reports of one MMSI: the latest, and the latest that does not fit to it. Where both go on side by side, two ships send them."""
+    """The reports of one MMSI: the latest, and the latest that does not fit to it. Where both go on side by side, two
+    ships send them."""
 
     def __init__(self, report: Report) -> None:
         self.main, self.fits, self.most, self.reports = report, [0, 0], 0, 1
@@ -73,7 +82,8 @@ class Track:
 
 def near(one: Report, two: Report) -> bool:
     """Returns whether a ship can have come from one report to the other: roughly, on a sphere without its poles."""
-    metres = 1852 / 10000 * max(abs(two[1] - one[1]), min(abs(two[2] - one[2]), 216000000 - abs(two[2] - one[2])) * 0.25)
+    metres = 1852 / 10000 * max(abs(two[1] - one[1]),
+                                min(abs(two[2] - one[2]), 216000000 - abs(two[2] - one[2])) * 0.25)
     return metres <= MOST_SPEED * (abs(two[0] - one[0]) + 10) + 200
 
 
@@ -105,7 +115,9 @@ class Senders:
 
     def compare(self, at: int, message: Message) -> None:
         """Notes how far a line's time is from the UTC in its base station's message."""
-        fields = [message.number(first, width) for first, width in ((38, 14), (52, 4), (56, 5), (61, 5), (66, 6), (72, 6))]
+        fields = [
+            message.number(first, width) for first, width in ((38, 14), (52, 4), (56, 5), (61, 5), (66, 6), (72, 6))
+        ]
         try:
             self.apart.append(at - seconds_of(*fields))
         except ValueError:
@@ -116,7 +128,8 @@ class Senders:
         apart = round(statistics.median(self.apart)) if self.apart else 0
         if abs(apart) > OFF:
             side = "ahead of" if apart > 0 else "behind"
-            yield Finding("clock that is off", f"the log's times are {abs(apart)} s ({abs(apart) / 3600:.2f} hours) {side} the UTC that base stations tell "
+            yield Finding("clock that is off", f"the log's times are {abs(apart)} s ({abs(apart) / 3600:.2f} hours) "
+                                               f"{side} the UTC that base stations send "
                           f"in {len(self.apart)} messages")
 
     def lost(self, points: Mapping[int, int]) -> Iterator[tuple[int, int, int]]:
@@ -135,7 +148,8 @@ class Senders:
         """Yields stations that are judged as vessels."""
         for mmsi in sorted(set(self.stations) & set(vessels)):
             kind = max(self.stations[mmsi], key=lambda kind: self.stations[mmsi][kind])
-            yield Finding("station that is no ship", f"{mmsi} is judged as a vessel, and sends {STATIONS[kind]} (message {kind})")
+            yield Finding("station that is no ship", f"{mmsi} is judged as a vessel, and sends {STATIONS[kind]} "
+                                                     f"(message {kind})")
         for mmsi, name in sorted(vessels.items()):
             if FLOATS.search(name):
                 yield Finding("station that is no ship", f"{mmsi} is judged as a vessel, and is called {name}")

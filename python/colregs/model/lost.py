@@ -1,8 +1,10 @@
-"""Which meetings end because one of the two vessels is no longer heard, and how near the two would have come if both had gone on.
+"""Which meetings end because one of the two vessels is no longer heard, and how near the two would have come if both
+had gone on.
 
-The program follows two vessels only while both are seen, with at most `log.gap` seconds between two reports. If one falls silent, the meeting ends
-with the last step at which both are seen, and its least distance is that of the part that was heard: no row says that the two went on. What would
-have followed is computed here, from the last reports' positions, courses and speeds. It is an estimate of this tool, not a row of the program.
+The program follows two vessels only while both are seen, with at most `log.gap` seconds between two reports. If one
+falls silent, the meeting ends with the last step at which both are seen, and its least distance is that of the part
+that was heard: no row says that the two went on. What would have followed is computed here, from the last reports'
+positions, courses and speeds. It is an estimate of this tool, not a row of the program.
 """
 import bisect
 import math
@@ -19,7 +21,8 @@ LONGEST = 3600          # s: both are taken to keep course and speed for at most
 
 @dataclass(frozen=True, slots=True)
 class Ahead:
-    """The least distance in metres if both keep course and speed, and its moment in seconds after the window's start."""
+    """The least distance in metres if both keep course and speed, and its moment in seconds after the window's
+    start."""
 
     least: float
     at: float
@@ -27,7 +30,8 @@ class Ahead:
 
 @dataclass(frozen=True, slots=True)
 class Lost:
-    """The end of a meeting whose vessels are no longer both heard: who fell silent, and the last report in seconds after the window's start.
+    """The end of a meeting whose vessels are no longer both heard: who fell silent, and the last report in seconds
+    after the window's start.
 
     `ahead` is None if a last report has no course or speed and no report shortly before it shows them.
     """
@@ -37,12 +41,14 @@ class Lost:
     ahead: Ahead | None
 
     def still_closing(self, least: float) -> bool:
-        """Returns whether the two would have come nearer than the least distance that was heard, or whether that is unknown."""
+        """Returns whether the two would have come nearer than the least distance that was heard, or whether that is
+        unknown."""
         return self.ahead is None or self.ahead.least < least and self.ahead.at > self.at
 
 
 def silent_after(track: Track, moment: int, gap: int) -> int | None:
-    """Returns the number of the vessel's last report before a silence of more than the gap that holds the moment, or None if she is seen then."""
+    """Returns the number of the vessel's last report before a silence of more than the gap that holds the moment, or
+    None if she is seen then."""
     k = bisect.bisect_right(track.times, moment) - 1
     if k < 0 or (k + 1 < len(track.times) and track.times[k + 1] - track.times[k] <= gap):
         return None
@@ -52,7 +58,8 @@ def silent_after(track: Track, moment: int, gap: int) -> int | None:
 
 
 def velocity(track: Track, k: int, gap: int) -> Place | None:
-    """Returns metres per second east and north at report `k`: as reported, otherwise by the way from the report before it; None if neither is known."""
+    """Returns metres per second east and north at report `k`: as reported, otherwise by the way from the report before
+    it; None if neither is known."""
     speed, course = track.speeds[k], track.courses[k]
     if speed == 0:
         return 0.0, 0.0
@@ -66,7 +73,8 @@ def velocity(track: Track, k: int, gap: int) -> Place | None:
 
 
 def nearest_ahead(one: Track, two: Track, at: int, gap: int) -> Ahead | None:
-    """Returns the closest point of approach from a moment on, by each vessel's last report at or before it; None if a velocity is unknown."""
+    """Returns the closest point of approach from a moment on, by each vessel's last report at or before it; None if a
+    velocity is unknown."""
     numbers = [bisect.bisect_right(track.times, at) - 1 for track in (one, two)]
     if min(numbers) < 0:
         return None
@@ -85,12 +93,15 @@ def nearest_ahead(one: Track, two: Track, at: int, gap: int) -> Ahead | None:
 def lost(tracks: Mapping[int, Track], row: Stretch, tick: int, steps: int, gap: int) -> Lost | None:
     """Returns how the meeting of a row ends if one of the two is no longer heard, or None if it ends otherwise.
 
-    A meeting that the end of the window or of the whole log ends is none of these: a vessel is lost only if others are heard later than a gap.
+    A meeting that the end of the window or of the whole log ends is none of these: a vessel is lost only if others are
+    heard later than a gap.
     """
     if row.last + 2 > steps:
         return None
     moment, until = (row.last + 2) * tick, max((track.times[-1] for track in tracks.values() if track.times), default=0)
-    silent = {mmsi: tracks[mmsi].times[k] for mmsi in row.pair if (k := silent_after(tracks[mmsi], moment, gap)) is not None}
+    silent = {
+        mmsi: tracks[mmsi].times[k] for mmsi in row.pair if (k := silent_after(tracks[mmsi], moment, gap)) is not None
+    }
     silent = {mmsi: at for mmsi, at in silent.items() if until - at > gap}
     if not silent:
         return None
@@ -100,10 +111,12 @@ def lost(tracks: Mapping[int, Track], row: Stretch, tick: int, steps: int, gap: 
 
 
 def words(found: Lost, least: float, start: int) -> str:
-    """Returns the end of a meeting in words, with the least distance in metres that was heard and the window's start since the Unix epoch."""
+    """Returns the end of a meeting in words, with the least distance in metres that was heard and the window's start
+    since the Unix epoch."""
     told = f"contact lost {clock(start + found.at)}; nearest while both were heard {least:,.0f} m; "
     if found.ahead is None:
         return told + "how near they came cannot be computed, for the last reports show no course or speed"
     if not found.still_closing(least):
         return told + "by the last reports they were not closing to less"
-    return told + f"if both went on: {found.ahead.least:,.0f} m at {clock(round(start + found.ahead.at))} (computed from their last reports)"
+    at = clock(round(start + found.ahead.at))
+    return told + f"if both went on: {found.ahead.least:,.0f} m at {at} (computed from their last reports)"

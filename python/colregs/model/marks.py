@@ -1,12 +1,15 @@
-"""Marks on meetings and verdicts that help to tell a false alarm. Each has its test in words; nothing is dropped, and no row of the report changes."""
+"""Marks on meetings and verdicts that help to recognise a false alarm. Each has its test in words; nothing is dropped,
+and no row of the report changes."""
 import bisect
 import math
-from collections.abc import Iterator
+from collections.abc import Iterator, Mapping, Sequence
 from dataclasses import dataclass
+from typing import Protocol
 
 from colregs.model import ships
-from colregs.model.reports import Case
-from colregs.model.rows import Stretch
+from colregs.model.lost import Lost
+from colregs.model.rows import Stretch, Vessel
+from colregs.model.tracks import Places
 
 KNOT = 1852 / 3600              # metres per second
 LIKE = KNOT                     # velocities that differ by less are like
@@ -15,15 +18,49 @@ TOW, TOW_TIME, TURN = 400, 600, 15      # m, s and degrees
 MARGIN = 600                    # s before and after a stretch in which two vessels may lie alongside or tow
 TESTS = {
     "at rest": "a vessel never makes half a knot in the stretch, by her own reports",
-    "alongside": f"the two are within {BESIDE} m of each other, with velocities that differ by less than a knot, for over two minutes at most ten minutes "
+    "alongside": f"the two are within {BESIDE} m of each other, with velocities that differ by less than a knot, for "
+                 "over two minutes at most ten minutes "
                  "before or after the stretch",
-    "in tow or escort": f"the two are within {TOW} m of each other, make way on courses within {TURN} degrees, with velocities that differ by less than a "
+    "in tow or escort": f"the two are within {TOW} m of each other, make way on courses within {TURN} degrees, with "
+                        "velocities that differ by less than a "
                         "knot, for over ten minutes that overlap the stretch or lie at most ten minutes from it",
     "fishing": "a vessel reports the status `engaged in fishing` or the type `fishing`",
     "pilot": "a vessel is a pilot vessel by her type",
     "contact lost": "the meeting ends because a vessel is no longer heard",
 }
 Pair = tuple[int, int]
+
+
+class Window(Protocol):
+    """What marks need of a case, or of the last minutes of a stream."""
+
+    @property
+    def tick(self) -> int:
+        """Returns the seconds of a step."""
+
+    @property
+    def steps(self) -> int:
+        """Returns how many steps the window has."""
+
+    @property
+    def vessels(self) -> Mapping[int, Vessel]:
+        """Returns what is known of each vessel."""
+
+    @property
+    def places(self) -> Mapping[int, Places]:
+        """Returns each vessel's places at the ticks."""
+
+    def stretches(self) -> Sequence[Stretch]:
+        """Returns the meetings and verdicts."""
+
+    def moment(self, step: int) -> int:
+        """Returns when a step begins, in seconds since the Unix epoch."""
+
+    def rest(self, row: Stretch) -> str:
+        """Returns who lies still in a stretch: `subject`, `other`, `both` or nobody."""
+
+    def lost(self, row: Stretch) -> Lost | None:
+        """Returns how a meeting ends if one of the two is no longer heard."""
 
 
 @dataclass(frozen=True, slots=True)
@@ -35,7 +72,8 @@ class Together:
 
 
 def runs(flags: list[bool], first: int, least: int) -> tuple[tuple[int, int], ...]:
-    """Returns the first and last tick of each run of more than `least` true flags; the first flag is of the tick `first`."""
+    """Returns the first and last tick of each run of more than `least` true flags; the first flag is of the tick
+    `first`."""
     found, begin = [], None
     for k, flag in enumerate([*flags, False]):
         if flag and begin is None:
@@ -50,7 +88,7 @@ def runs(flags: list[bool], first: int, least: int) -> tuple[tuple[int, int], ..
 class Marks:
     """Computes the marks of a case's meetings and verdicts."""
 
-    def __init__(self, case: Case, statuses: dict[int, ships.Changes]) -> None:
+    def __init__(self, case: Window, statuses: dict[int, ships.Changes]) -> None:
         self.case, self.statuses = case, statuses
         self.margin = -(-MARGIN // case.tick)
         self.spans: dict[Pair, tuple[int, int]] = {}
@@ -69,12 +107,15 @@ class Marks:
     def words(self, mmsi: int, step: int) -> str:
         """Returns a vessel's type and her status at a step in words, separated by a comma."""
         vessel = self.case.vessels.get(mmsi)
-        return ", ".join(filter(None, (ships.type_words(vessel.ship_type) if vessel else "", ships.status_words(self.status(mmsi, step)))))
+        return ", ".join(
+            filter(None,
+                   (ships.type_words(vessel.ship_type) if vessel else "", ships.status_words(self.status(mmsi, step)))))
 
     def is_fishing(self, mmsi: int, step: int) -> bool:
         """Returns whether a vessel fishes, by her status or type."""
         vessel = self.case.vessels.get(mmsi)
-        return self.status(mmsi, step) == ships.FISHING_STATUS or vessel is not None and vessel.ship_type == ships.FISHING
+        return self.status(mmsi,
+                           step) == ships.FISHING_STATUS or vessel is not None and vessel.ship_type == ships.FISHING
 
     def is_pilot(self, mmsi: int) -> bool:
         """Returns whether a vessel is a pilot vessel by her type."""
@@ -92,11 +133,13 @@ class Marks:
                 near, like, ahead = self.motion(key, step)
                 beside.append(like and near < BESIDE)
                 towed.append(like and ahead and near < TOW)
-            self.known[key] = Together(runs(beside, first, BESIDE_TIME // self.case.tick), runs(towed, first, TOW_TIME // self.case.tick))
+            self.known[key] = Together(runs(beside, first, BESIDE_TIME // self.case.tick),
+                                       runs(towed, first, TOW_TIME // self.case.tick))
         return self.known[key]
 
     def motion(self, pair: Pair, step: int) -> tuple[float, bool, bool]:
-        """Returns how far apart two vessels are at a step, whether their velocities are alike, and whether both make way on like courses."""
+        """Returns how far apart two vessels are at a step, whether their velocities are alike, and whether both make
+        way on like courses."""
         one, two = (self.case.places[mmsi] for mmsi in pair)
         a, b, c, d = one[step], one[step + 1], two[step], two[step + 1]
         if not (a and b and c and d):

@@ -1,7 +1,9 @@
-"""The one reader of reports: a scenario and the reports `points` and `audit` (docs/REPORT.md), and where a vessel is between her reports.
+"""The one reader of reports: a scenario and the reports `points` and `audit` (docs/REPORT.md), and where a vessel is
+between her reports.
 
-The window is that of the run: the scenario's, with the run's --start and --ticks, as they are given or as the case.json beside the scenario has them.
-A report that is not whole, or that does not fit the window or the other report, is refused with a Fault.
+The window is that of the run: the scenario's, with the run's --start and --ticks, as they are given or as the case.json
+beside the scenario has them. A report that is not whole, or that does not fit the window or the other report, is
+refused with a Fault.
 """
 import csv
 import json
@@ -14,9 +16,11 @@ from colregs.errors import Fault
 from colregs.io.files import read_text
 from colregs.model import lost, rest
 from colregs.model.rows import FIELDS, METRE, OUTCOMES, Lines, Meeting, Row, Stretch, Total, Verdict, Vessel, row_of
+from colregs.model.rules import RULES
 from colregs.model.scenario import read_values
 from colregs.model.tracks import NONE, AllPlaces, Place, Places, Track, along, least_part
 
+MOST_STEPS = 10 ** 7    # of a case that is audited in several windows; a run takes 20000
 NEAR = 0.5              # metres by which a least distance that is computed here may differ from the report's
 Moment = tuple[float, Place, Place]     # seconds after the window's start, and the two places
 
@@ -33,13 +37,12 @@ def case_file(folder: str) -> dict[str, Any]:
     raise Fault(f"{path}: not the file of a case")
 
 
-def window_of_folder(scenario: str) -> tuple[int | None, int | None]:
-    """Returns the --start and --ticks of the case in whose folder a scenario lies, or None for each."""
+def case_of_scenario(scenario: str) -> dict[str, Any]:
+    """Returns what the case.json says in whose folder a scenario lies, or nothing if there is none."""
     folder = os.path.dirname(os.path.abspath(scenario))
     if os.path.basename(scenario) != "scenario.toml" or not os.path.exists(os.path.join(folder, "case.json")):
-        return None, None
-    options = case_file(folder)["options"]
-    return options.get("start"), options.get("ticks")
+        return {}
+    return case_file(folder)
 
 
 def split_rows(text: str) -> tuple[list[str], list[tuple[int, list[str]]]]:
@@ -61,10 +64,12 @@ def split_rows(text: str) -> tuple[list[str], list[tuple[int, list[str]]]]:
 class Case:
     """A scenario's window, each vessel's places at its ticks in metres, the meetings and the verdicts of a run."""
 
-    def __init__(self, scenario: str, points: str, audit: str | None = None, start: int | None = None, ticks: int | None = None) -> None:
+    def __init__(self, scenario: str, points: str, audit: str | None = None, start: int | None = None,
+                 ticks: int | None = None) -> None:
         self.values = read_values(scenario)
-        if start is None and ticks is None:
-            start, ticks = window_of_folder(scenario)
+        about = case_of_scenario(scenario)
+        if start is None and ticks is None and about:
+            start, ticks = about["options"].get("start"), about["options"].get("ticks")
         self.set_window(scenario, start, ticks)
         self.names: dict[int, str] = {}
         self.meetings: list[Meeting] = []
@@ -75,9 +80,10 @@ class Case:
         self.lines: dict[str, int] = {}
         self.point_lines: dict[str, int] = {}
         self.tracks: dict[int, Track] = {}
-        self.joined, self.narrowed, self.shown = False, False, (0, self.steps)
+        self.joined, self.narrowed, self.shown = bool(about.get("shares")), False, (0, self.steps)
         self.known_rest: dict[tuple[int, int, int], bool] = {}
         self.known_lost: dict[tuple[int, int, int, int], lost.Lost | None] = {}
+        self.known_nearest: dict[Meeting, Moment] = {}
         self.take_points(points)
         if audit is not None:
             self.take_all(audit, "the report")
@@ -85,17 +91,19 @@ class Case:
         self.check()
 
     def set_window(self, scenario: str, start: int | None, ticks: int | None) -> None:
-        """Takes the window, the gap and the reference from the scenario, with a start and ticks instead of its own if they are given."""
+        """Takes the window, the gap and the reference from the scenario, with a start and ticks instead of its own if
+        they are given."""
         try:
             window = self.values["window"]
-            self.start, self.tick, self.steps = (int(value) for value in (
-                window["start"] if start is None else start, window["tick"], window["ticks"] if ticks is None else ticks))
+            self.start, self.tick, self.steps = (int(value) for value in (window["start"] if start is None else start,
+                                                                          window["tick"],
+                                                                          window["ticks"] if ticks is None else ticks))
             self.gap = int(self.values["log"]["gap"])
             self.reference = {name: int(self.values["reference"][name]) for name in ("lat", "lon")}
         except (KeyError, TypeError, ValueError, OverflowError) as error:
             raise Fault(f"{scenario}: window, log.gap or reference is missing or is no number: {error}") from None
         for name, value, low, high in (("window.start", self.start, 0, 9999999999), ("window.tick", self.tick, 1, 60),
-                                       ("window.ticks", self.steps, 1, 20000), ("log.gap", self.gap, 1, 3600),
+                                       ("window.ticks", self.steps, 1, MOST_STEPS), ("log.gap", self.gap, 1, 3600),
                                        ("reference.lat", self.reference["lat"], -45000000, 45000000),
                                        ("reference.lon", self.reference["lon"], -108000000, 108000000)):
             if not low <= value <= high:
@@ -142,6 +150,8 @@ class Case:
             except (ValueError, OverflowError):
                 raise Fault(f"{name}, line {number}: `{','.join(fields)[:80]}` is no row of a report") from None
             self.take(row)
+        if self.joined and not self.totals:
+            self.rules.sort(key=lambda rule: (rule not in RULES, list(RULES).index(rule) if rule in RULES else 0))
         if len(self.lines) != OUTCOMES and not self.joined:
             raise Fault(f"{name}: it is not whole: the counts of lines at its end are missing")
 
@@ -149,7 +159,7 @@ class Case:
         """Takes one row."""
         if isinstance(row, Vessel):
             self.names[row.mmsi] = row.name or str(row.mmsi)
-            self.joined |= row.reports is None        # as tools/colregs-many joins windows
+            self.joined |= row.reports is None        # as a join of windows has it
             self.vessels[row.mmsi] = row
         elif isinstance(row, Total):
             self.rules.append(row.rule)
@@ -169,14 +179,16 @@ class Case:
         self.check_lines()
         for meeting in self.meetings:
             if not self.fits(meeting):
-                raise Fault(f"the meeting of {meeting.subject} and {meeting.other} at steps {meeting.first} to {meeting.last} does not fit the points: "
+                raise Fault(f"the meeting of {meeting.subject} and {meeting.other} at steps {meeting.first} to "
+                            f"{meeting.last} does not fit the points: "
                             "give the run's --start and --ticks, and its scenario")
 
     def check_lines(self) -> None:
         """Refuses two reports that count other lines."""
         if self.lines and self.point_lines and self.lines != self.point_lines and not self.joined:
             other = next(name for name in self.lines if self.lines[name] != self.point_lines.get(name))
-            raise Fault(f"the points and the report are of two runs: {self.point_lines.get(other, 0)} and {self.lines[other]} lines are `{other}`. "
+            raise Fault(f"the points and the report are of two runs: {self.point_lines.get(other, 0)} and "
+                        f"{self.lines[other]} lines are `{other}`. "
                         "Both ask for one log, and one --start and --ticks")
 
     def check_times(self) -> None:
@@ -184,11 +196,13 @@ class Case:
         for mmsi, track in self.tracks.items():
             for seconds in (track.times[0], track.times[-1]):
                 if not -self.gap <= seconds <= self.steps * self.tick + self.gap:
-                    raise Fault(f"a point of {mmsi} at {self.start + seconds} lies outside the window of {self.steps * self.tick} s from {self.start} on: "
+                    raise Fault(f"a point of {mmsi} at {self.start + seconds} lies outside the window of "
+                                f"{self.steps * self.tick} s from {self.start} on: "
                                 "give the run's --start and --ticks")
         for row in self.stretches():
             if not 0 <= row.first <= row.last < self.steps:
-                raise Fault(f"a row has steps {row.first} to {row.last}, and the window has {self.steps}: give the run's --ticks")
+                raise Fault(f"a row has steps {row.first} to {row.last}, and the window has {self.steps}: give the "
+                            "run's --ticks")
             if not all(mmsi in self.tracks for mmsi in row.pair):
                 raise Fault(f"a row is of {row.subject} and {row.other}, and the points are not")
 
@@ -202,7 +216,7 @@ class Case:
         if any(math.isnan(x) for mmsi in meeting.pair for x in self.places[mmsi].xs[ticks]):
             return False
         _, one, two = self.nearest(meeting)
-        return abs(math.dist(one, two) - meeting.least) <= NEAR
+        return abs(math.dist(one, two) - meeting.metres) <= NEAR
 
     def extent(self) -> list[Place]:
         """Returns corners of what a picture is to hold."""
@@ -217,11 +231,20 @@ class Case:
         return self.start + step * self.tick
 
     def nearest(self, meeting: Meeting) -> Moment:
-        """Returns the moment of least distance in a meeting, in seconds after the start, and both places there; straight between ticks."""
+        """Returns the moment of least distance in a meeting, in seconds after the start, and both places there;
+        straight between ticks."""
+        if meeting not in self.known_nearest:
+            self.known_nearest[meeting] = self.nearest_moment(meeting)
+        return self.known_nearest[meeting]
+
+    def nearest_moment(self, meeting: Meeting) -> Moment:
+        """Computes the moment of least distance."""
         first, steps = meeting.first, meeting.last + 1 - meeting.first
         one, two = (self.places[mmsi] for mmsi in meeting.pair)
         ticks = slice(first, first + steps + 1)
-        p = list(zip((u - x for x, u in zip(one.xs[ticks], two.xs[ticks])), (v - y for y, v in zip(one.ys[ticks], two.ys[ticks]))))
+        p = list(
+            zip((u - x for x, u in zip(one.xs[ticks], two.xs[ticks])),
+                (v - y for y, v in zip(one.ys[ticks], two.ys[ticks]))))
         parts = [least_part(a, b) for a, b in zip(p, p[1:])]
         fars = [math.hypot(*along(a, b, part)) for a, b, part in zip(p, p[1:], parts)]
         k = fars.index(min(fars))
@@ -251,7 +274,7 @@ class Case:
     def lost_words(self, meeting: Meeting) -> str:
         """Returns the end of a meeting in words if one of the two is no longer heard, otherwise nothing."""
         found = self.lost(meeting)
-        return lost.words(found, meeting.least, self.start) if found else ""
+        return lost.words(found, meeting.metres, self.start) if found else ""
 
     def narrow(self, pair: list[int] | None = None, begin: int | None = None, end: int | None = None) -> None:
         """Keeps two vessels alone, and the steps between two moments, in seconds since the Unix epoch."""
@@ -274,7 +297,9 @@ class Case:
 
     def shown_moment(self, meeting: Meeting) -> Moment | None:
         """Returns the moment of least distance, or None if the picture does not show the whole meeting."""
-        if self.narrowed and any(self.places[mmsi][step] is None for mmsi in meeting.pair for step in range(meeting.first, meeting.last + 2)):
+        if self.narrowed and any(self.places[mmsi][step] is None
+                                 for mmsi in meeting.pair
+                                 for step in range(meeting.first, meeting.last + 2)):
             return None
         return self.nearest(meeting)
 

@@ -1,7 +1,7 @@
 """Which vessels lie still in a stretch: those that never make half a knot in it, by their own reports.
 
-The audit knows no navigational status, so it judges a vessel at anchor like any other (docs/INVESTIGATOR.md). Her rows are marked, and none is dropped.
-If a report has no speed, it is derived from the distance to the next report.
+The audit knows no navigational status, so it judges a vessel at anchor like any other (docs/INVESTIGATOR.md). Her rows
+are marked, and none is dropped. If a report has no speed, it is derived from the distance to the next report.
 """
 import math
 
@@ -24,7 +24,8 @@ def speed(track: Track, k: int) -> float | None:
 
 
 def at_rest(track: Track, first: int, last: int) -> bool:
-    """Returns whether the vessel never makes half a knot between two times, by her reports from the last one before to the last one within."""
+    """Returns whether the vessel never makes half a knot between two times, by her reports from the last one before to
+    the last one within."""
     reports = track.between(first, last)
     made = [speed(track, k) for k in reports if track.times[k] <= last]
     return bool(made) and all(value is not None and value < SLOWEST for value in made)

@@ -7,7 +7,7 @@ from colregs.errors import Fault
 from colregs.io.files import read_bytes, read_text
 from colregs.model.formulas import sight_of
 
-MOST_SUBJECTS, MOST_TICKS = 64, 20000           # docs/SCENARIO.md
+MOST_SUBJECTS, MOST_TICKS, MOST_BYTES = 64, 20000, 1 << 30           # docs/SCENARIO.md
 SUBJECTS = re.compile(r"(?ms)^\s*subjects\s*=\s*\[.*?\][^\n]*\n?")
 BOUNDS = re.compile(r"\[\s*\d+\s*,\s*(\d+)\s*\]")
 
@@ -47,6 +47,7 @@ class Scenario:
             window, log, rules = (self.values[table] for table in ("window", "log", "rules"))
             self.start, self.tick, self.ticks = (int(window[key]) for key in ("start", "tick", "ticks"))
             self.gap, self.slack, self.watch = int(log["gap"]), int(log["slack"]), int(self.values["detect"]["watch"])
+            self.most_bytes = int(log.get("max_bytes", MOST_BYTES))
             # r8b, r14a, r16 and r17b look ahead, by these times (docs/RULES.md)
             texts = [str(table["text"]) for table in self.values.get("formula", [])]
             ahead = [int(rules[key]) for key in ("t8", "ta", "tl")] + [seconds_ahead(text) for text in texts]
@@ -62,9 +63,11 @@ class Scenario:
         if subjects is None:
             return self.text
         head, bracket, rest = self.text.partition("\n[")
-        text = f"subjects = {subjects}\n" + (SUBJECTS.sub("", head, count=1) if self.subjects else head) + bracket + rest
+        text = f"subjects = {subjects}\n" + (SUBJECTS.sub("", head, count=1)
+                                             if self.subjects else head) + bracket + rest
         if values_of(self.path, text) != {**self.values, "subjects": subjects}:
-            raise Fault(f"{self.path}: its subjects cannot be replaced: put `subjects = [..]` on lines of its own before the first table")
+            raise Fault(f"{self.path}: its subjects cannot be replaced: put `subjects = [..]` on lines of its own "
+                        "before the first table")
         return text
 
     def steps(self, seconds: int) -> int:
@@ -72,9 +75,11 @@ class Scenario:
         return -(-seconds // self.tick)
 
     def settled(self, ticks: int) -> int:
-        """Returns the last step whose rows neither the end of a window of this many ticks nor a later line can change."""
+        """Returns the last step whose rows neither the end of a window of this many ticks nor a later line can
+        change."""
         return ticks - self.reach - 2
 
     def delay(self) -> int:
-        """Returns how many seconds of the log's clock a row comes at most after its last step begins (docs/AUDIT.md)."""
+        """Returns how many seconds of the log's clock a row comes at most after its last step begins
+        (docs/AUDIT.md)."""
         return (self.reach + 2) * self.tick + self.gap + self.slack

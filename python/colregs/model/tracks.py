@@ -11,15 +11,18 @@ Place = tuple[float, float]     # metres east and north of the scenario's refere
 
 
 class Track:
-    """A vessel's accepted reports: seconds after the window's start, metres east and north, 1/10 knot and 1/10 degree."""
+    """A vessel's accepted reports: seconds after the window's start, metres east and north, 1/10 knot and 1/10
+    degree."""
 
-    def __init__(self, times: "array[int] | None" = None, xs: "array[float] | None" = None, ys: "array[float] | None" = None,
-                 speeds: "array[int] | None" = None, courses: "array[int] | None" = None) -> None:
+    def __init__(self, times: "array[int] | None" = None, xs: "array[float] | None" = None,
+                 ys: "array[float] | None" = None, speeds: "array[int] | None" = None,
+                 courses: "array[int] | None" = None) -> None:
         self.times, self.xs, self.ys = times or array("q"), xs or array("d"), ys or array("d")
         self.speeds, self.courses = speeds or array("h"), courses or array("h")
 
     def between(self, first: float, last: float) -> range:
-        """Returns the numbers of the reports from the last one at or before a time to the first one at or after another."""
+        """Returns the numbers of the reports from the last one at or before a time to the first one at or after
+        another."""
         begin = max(0, bisect.bisect_right(self.times, first) - 1)
         return range(begin, min(len(self.times), bisect.bisect_left(self.times, last) + 1))
 
@@ -29,7 +32,8 @@ class Places:
 
     def __init__(self, track: Track, gap: int, tick: int, steps: int) -> None:
         self.xs, self.ys = array("d", [math.nan]) * (steps + 1), array("d", [math.nan]) * (steps + 1)
-        for first, last, x, u, y, v in zip(track.times, track.times[1:], track.xs, track.xs[1:], track.ys, track.ys[1:]):
+        for first, last, x, u, y, v in zip(track.times, track.times[1:], track.xs, track.xs[1:], track.ys,
+                                           track.ys[1:]):
             if 0 < last - first <= gap:
                 for step in range(max(0, -(-first // tick)), min(steps, last // tick) + 1):
                     part = (step * tick - first) / (last - first)
@@ -85,6 +89,11 @@ class AllPlaces(Mapping[int, Places]):
 
     def __len__(self) -> int:
         return len(self.tracks)
+
+
+def toward(now: float, aim: float, most: float) -> float:
+    """Returns the value that is nearest to an aim after a change of at most `most`."""
+    return aim if abs(aim - now) <= most else now + math.copysign(most, aim - now)
 
 
 def along(a: Place, b: Place, part: float) -> Place:

@@ -4,6 +4,7 @@ from collections.abc import Iterator
 from typing import Any
 
 from colregs.errors import Fault
+from colregs.model import narrative
 from colregs.model.earth import Earth, iso
 from colregs.model.marks import TESTS, Marks
 from colregs.model.reports import Case
@@ -14,14 +15,19 @@ from colregs.model.tracks import NONE
 TABLES = """
 create table about (key text primary key, value text);
 create table file (name text primary key, sha256 text, bytes integer);
-create table point (mmsi integer, time integer, utc text, east real, north real, latitude real, longitude real, speed real, course real);
-create table vessel (mmsi integer primary key, name text, ship_type integer, length integer, reports integer, type_in_words text);
+create table point (mmsi integer, time integer, utc text, east real, north real, latitude real, longitude real,
+  speed real, course real);
+create table vessel (mmsi integer primary key, name text, ship_type integer, length integer, reports integer,
+  type_in_words text);
 create table mark (name text primary key, test text);
-create table meeting (id integer primary key, subject integer, other integer, encounter text, first integer, last integer, begins text,
-  ends text, least real, nautical_miles real, nearest text, at_rest text, contact_lost text, if_both_went_on real, if_both_went_on_at text,
-  alongside integer, in_tow integer, fishing integer, pilot integer, subject_is text, other_is text);
-create table verdict (id integer primary key, subject integer, other integer, rule text, value text, first integer, last integer, begins text,
-  ends text, at_rest text, alongside integer, in_tow integer, fishing integer, pilot integer, subject_is text, other_is text);
+create table meeting (id integer primary key, subject integer, other integer, encounter text, first integer,
+  last integer, begins text, ends text, least real, nautical_miles real, nearest text, at_rest text,
+  contact_lost text, if_both_went_on real, if_both_went_on_at text,
+  alongside integer, in_tow integer, fishing integer, pilot integer, subject_is text, other_is text,
+  in_words text);
+create table verdict (id integer primary key, subject integer, other integer, rule text, value text, first integer,
+  last integer, begins text, ends text, at_rest text, alongside integer, in_tow integer, fishing integer,
+  pilot integer, subject_is text, other_is text);
 create table total (rule text primary key, positions integer, yes integer, no integer, open integer, broken integer);
 create table lines (outcome text primary key, count integer);
 create index point_of on point (mmsi, time);
@@ -54,7 +60,8 @@ def ends(case: Case, row: Stretch) -> tuple[str, str]:
 
 
 def lost_fields(case: Case, row: Stretch) -> tuple[str | None, float | None, str | None]:
-    """Returns when contact was lost at the end of a meeting, and the least distance in metres and its moment if both had gone on."""
+    """Returns when contact was lost at the end of a meeting, and the least distance in metres and its moment if both
+    had gone on."""
     found = case.lost(row)
     if found is None or found.ahead is None:
         return iso(case.start + found.at) if found else None, None, None
@@ -69,16 +76,19 @@ def marked(marks: Marks, row: Stretch) -> tuple[Any, ...]:
 
 def meetings(case: Case, marks: Marks) -> Iterator[tuple[Any, ...]]:
     """Yields the rows of the table `meeting`."""
+    rules = narrative.by_pair(case)
     for number, row in enumerate(case.meetings, 1):
         nearest = iso(round(case.start + case.nearest(row)[0])) if case.tracks else None
-        yield (number, *row.pair, row.kind, row.first, row.last, *ends(case, row), row.least, round(row.least / 1852, 4),
-               nearest, case.rest(row), *lost_fields(case, row), *marked(marks, row))
+        yield (number, *row.pair, row.encounter, row.first, row.last, *ends(case, row), row.metres,
+               round(row.metres / 1852, 4), nearest, case.rest(row), *lost_fields(case, row), *marked(marks, row),
+               narrative.sentence(case, row, rules))
 
 
 def verdicts(case: Case, marks: Marks) -> Iterator[tuple[Any, ...]]:
     """Yields the rows of the table `verdict`."""
     for number, row in enumerate(case.verdicts, 1):
-        yield number, *row.pair, row.rule, row.value, row.first, row.last, *ends(case, row), case.rest(row), *marked(marks, row)
+        yield number, *row.pair, row.rule, row.value, row.first, row.last, *ends(case, row), case.rest(row), *marked(
+            marks, row)
 
 
 def vessels(case: Case) -> Iterator[tuple[Any, ...]]:
@@ -97,8 +107,11 @@ def total_fields(total: Total) -> tuple[str, int, int, int, int, int]:
 def write(path: str, case: Case, marks: Marks, about: dict[str, str], files: list[tuple[str, str, int]]) -> None:
     """Writes the database; `about` has words by keys, `files` the name, sum and size of each file."""
     totals = (total_fields(case.totals[rule]) for rule in case.rules if rule in case.totals)
-    rows: dict[str, Any] = {"about": about.items(), "file": files, "point": points(case), "vessel": vessels(case), "meeting": meetings(case, marks),
-                            "verdict": verdicts(case, marks), "mark": TESTS.items(), "total": totals, "lines": case.lines.items()}
+    rows: dict[str, Any] = {
+        "about": about.items(), "file": files, "point": points(case), "vessel": vessels(case), "meeting": meetings(
+            case, marks), "verdict": verdicts(case, marks), "mark": TESTS.items(), "total": totals,
+        "lines": case.lines.items()
+    }
     try:
         with sqlite3.connect(path) as base:
             base.executescript(TABLES)

@@ -1,36 +1,45 @@
-"""The page of a case: one file of HTML that needs no network. Leaflet is taken in from Debian's libjs-leaflet when the page is made.
+"""The page of a case: one file of HTML that needs no network. Leaflet is taken in from Debian's libjs-leaflet when the
+page is made.
 
-The page holds the accepted reports, the rows of the audit and the texts that belong to them as JSON, and its own JavaScript draws map, charts and
-tables from these. It judges nothing: each verdict is a row of the report.
+The page holds the accepted reports, the rows of the audit and the texts that belong to them as JSON, and its own
+JavaScript draws map, charts and tables from these. It judges nothing: each verdict is a row of the report.
 """
 import html
+import itertools
 import json
 import os
 import re
 from collections.abc import Iterable, Mapping, Sequence
 from typing import Any
 
+from colregs.case.sweep import Line, Sweep
 from colregs.errors import Fault
 from colregs.io.files import read_text
+from colregs.io.sentences import NO_HEADING
+from colregs.model import narrative
 from colregs.model.earth import Earth, iso
 from colregs.model.marks import TESTS, Marks
 from colregs.model.reports import Case
 from colregs.model.rows import Meeting
-from colregs.model.rules import ENCOUNTERS, OUTCOMES, colour, date, duty, meaning
-from colregs.model.ships import type_words
+from colregs.model.rules import BOUND, ENCOUNTERS, OUTCOMES, colour, date, duty, meaning
+from colregs.model.ships import Said, type_words
+from colregs.page.thinning import Kept
 
 HERE = os.path.join(os.path.dirname(os.path.abspath(__file__)), "web")
 LEAFLET = "/usr/share/javascript/leaflet"
-SCRIPTS = ("state.js", "map.js", "charts.js", "times.js", "tables.js", "page.js")
+SCRIPTS = ("state.js", "playback.js", "map.js", "charts.js", "times.js", "tables.js", "page.js")
 NO_MAP = "Leaflet is not here, so the page has no map: install Debian's package libjs-leaflet and make the page again"
 
 
 def leaflet(folder: str = LEAFLET) -> tuple[str, str]:
-    """Returns the script and the style of Leaflet without the pictures that the page does not use, or two empty texts if Leaflet is not installed."""
+    """Returns the script and the style of Leaflet without the pictures that the page does not use, or two empty texts
+    if Leaflet is not installed."""
     try:
         with open(os.path.join(folder, "leaflet.min.js"), encoding="utf-8") as script, \
                 open(os.path.join(folder, "leaflet.css"), encoding="utf-8") as style:
-            return re.sub(r"(?m)^//# sourceMappingURL=.*$", "", script.read()), re.sub(r"url\([^)]*\)", "none", style.read())
+            return re.sub(r"(?m)^//# sourceMappingURL=.*$", "", script.read()), re.sub(
+                r"url\([^)]*\)", "none", style.read()
+            )
     except OSError:
         return "", ""
 
@@ -44,40 +53,67 @@ def deltas(values: Iterable[int]) -> list[int]:
     return found
 
 
-def vessels(case: Case) -> list[dict[str, Any]]:
-    """Returns the vessels with their reports, column by column."""
+def vessels(case: Case, kept: Kept, said: Said) -> list[dict[str, Any]]:
+    """Returns the vessels with the reports that stay, column by column, and the numbers of those with which a part of
+    the track begins."""
     found = []
     for mmsi in sorted(set(case.tracks) | set(case.vessels)):
         vessel, track = case.vessels.get(mmsi), case.tracks.get(mmsi)
-        columns: list[Iterable[int]] = [] if track is None else [
-            track.times, (round(10 * x) for x in track.xs), (round(10 * y) for y in track.ys), track.speeds, track.courses]
-        found.append({"mmsi": mmsi, "name": case.name(mmsi), "type": vessel.ship_type if vessel else 0,
-                      "kind": type_words(vessel.ship_type) if vessel else "", "length": vessel.length if vessel else 0,
-                      "reports": [deltas(column) for column in columns]})
+        parts = kept.get(mmsi, [])
+        chosen = [k for part in parts for k in part]
+        columns: list[Iterable[int]] = (
+            []
+            if track is None
+            else [
+                (track.times[k] for k in chosen),
+                (round(10 * track.xs[k]) for k in chosen),
+                (round(10 * track.ys[k]) for k in chosen),
+                (track.speeds[k] for k in chosen),
+                (track.courses[k] for k in chosen),
+            ]
+        )
+        found.append({
+            "mmsi": mmsi, "name": case.name(mmsi), "type": vessel.ship_type if vessel else 0,
+            "kind": type_words(vessel.ship_type) if vessel else "",
+            "length": vessel.length if vessel else 0, "count": len(track.times) if track else 0, "parts": list(
+                itertools.accumulate(map(len, parts[:-1]))), "hull": said.hulls.get(mmsi), "headings": [
+                    deltas(column) for column in headings(case, said.headings.get(mmsi, []))
+                ], "reports": [deltas(column) for column in columns]
+        })
     return found
 
 
+def headings(case: Case, told: Sequence[tuple[int, int]]) -> list[list[int]]:
+    """Returns times after the window's start and headings from then on; -1 for none."""
+    return [[at - case.start for at, _ in told], [-1 if heading == NO_HEADING else heading for _, heading in told]]
+
+
 def meetings(case: Case, marks: Marks, numbers: Mapping[int, int]) -> list[dict[str, Any]]:
-    """Returns one entry for each two vessels and stretch, with what it is for either, in the order of their first steps."""
+    """Returns one entry for each two vessels and stretch, with what it is for either, in the order of their first
+    steps."""
     found: dict[tuple[int, int, int, int], list[Meeting]] = {}
     for row in case.meetings:
         found.setdefault((min(row.pair), max(row.pair), row.first, row.last), []).append(row)
-    entries = []
+    entries, rules = [], narrative.by_pair(case)
     for key in sorted(found, key=lambda key: (key[2], key[3], key[:2])):
         rows = found[key]
-        kinds = {row.subject: ENCOUNTERS.get(row.kind, row.kind) for row in rows}
+        kinds = {row.subject: ENCOUNTERS.get(row.encounter, row.encounter) for row in rows}
         seconds, one, two = case.nearest(rows[0])
         places = [one, two] if rows[0].subject == key[0] else [two, one]
-        entries.append({"pair": [numbers[mmsi] for mmsi in key[:2]], "kinds": [kinds.get(mmsi, "") for mmsi in key[:2]], "first": key[2],
-                        "last": key[3], "least": round(rows[0].least, 1), "nearest": round(seconds),
-                        "places": [[round(value, 1) for value in place] for place in places],
-                        "rest": resting(case, rows, key), "lost": case.lost_words(rows[0]), "ahead": ahead(case, rows[0]),
-                        "marks": list(marks.of(rows[0])), "what": [marks.words(mmsi, key[3]) for mmsi in key[:2]]})
+        entries.append({
+            "pair": [numbers[mmsi] for mmsi in key[:2]], "kinds": [kinds.get(mmsi, "") for mmsi in key[:2]],
+            "first": key[2], "last": key[3], "least": round(rows[0].metres, 1), "nearest": round(seconds),
+            "places": [[round(value, 1) for value in place] for place in places], "rest": resting(case, rows, key),
+            "lost": case.lost_words(rows[0]), "ahead": ahead(case, rows[0]), "told": narrative.sentence(
+                case, rows[0],
+                rules), "marks": list(marks.of(rows[0])), "what": [marks.words(mmsi, key[3]) for mmsi in key[:2]]
+        })
     return entries
 
 
 def ahead(case: Case, row: Meeting) -> float | None:
-    """Returns the least distance in metres if both went on after contact was lost, or None if it was not or the distance is unknown."""
+    """Returns the least distance in metres if both went on after contact was lost, or None if it was not or the
+    distance is unknown."""
     found = case.lost(row)
     return round(found.ahead.least, 1) if found and found.ahead else None
 
@@ -91,7 +127,9 @@ def resting(case: Case, rows: Sequence[Meeting], key: tuple[int, ...]) -> list[i
     return sorted(still)
 
 
-def verdicts(case: Case, marks: Marks, numbers: Mapping[int, int], entries: list[dict[str, Any]]) -> list[dict[str, Any]]:
+def verdicts(
+    case: Case, marks: Marks, numbers: Mapping[int, int], entries: list[dict[str, Any]]
+) -> list[dict[str, Any]]:
     """Returns the verdicts, each with the number of the meeting that it overlaps, if there is one."""
     by_pair: dict[tuple[int, ...], list[tuple[int, int, int]]] = {}
     rules = {rule: k for k, rule in enumerate(case.rules)}
@@ -100,10 +138,15 @@ def verdicts(case: Case, marks: Marks, numbers: Mapping[int, int], entries: list
     found = []
     for row in case.verdicts:
         pair = [numbers[mmsi] for mmsi in row.pair]
-        near = [number for first, last, number in by_pair.get(tuple(sorted(pair)), []) if first <= row.last and row.first <= last]
-        found.append({"pair": pair, "rule": rules[row.rule], "broken": row.value == "broken", "first": row.first, "last": row.last,
-                      "meeting": near[0] if near else None, "rest": case.rest(row), "marks": list(marks.of(row, False)),
-                      "what": [marks.words(mmsi, row.last) for mmsi in row.pair]})
+        near = [
+            number for first, last, number in by_pair.get(tuple(sorted(pair)), [])
+            if first <= row.last and row.first <= last
+        ]
+        found.append({
+            "pair": pair, "rule": rules[row.rule], "broken": row.value == "broken", "first": row.first,
+            "last": row.last, "meeting": near[0] if near else None, "rest": case.rest(row), "marks": list(
+                marks.of(row, False)), "what": [marks.words(mmsi, row.last) for mmsi in row.pair]
+        })
     return sorted(found, key=lambda row: (row["first"], row["last"]))
 
 
@@ -113,7 +156,8 @@ def coast(path: str | None) -> Any:
         return None
     try:
         found = json.loads(read_text(path))
-        if found["type"] in ("FeatureCollection", "Feature", "GeometryCollection", "Polygon", "MultiPolygon", "LineString", "MultiLineString"):
+        if found["type"] in ("FeatureCollection", "Feature", "GeometryCollection", "Polygon", "MultiPolygon",
+                             "LineString", "MultiLineString"):
             return found
     except (ValueError, TypeError, KeyError):
         pass
@@ -135,32 +179,57 @@ def total_words(case: Case, rule: str) -> list[int] | None:
     return [total.positions, total.yes, total.no, total.open, total.broken] if total else None
 
 
-def content(case: Case, marks: Marks, about: Mapping[str, Any]) -> dict[str, Any]:
-    """Returns all that the page shows. `about` has title, summary, findings, reasons, scenario, sources, files, commands, version and chart."""
-    listed, earth = vessels(case), Earth(case.reference)
+def content(case: Case, marks: Marks, kept: Kept, said: Said, about: Mapping[str, Any]) -> dict[str, Any]:
+    """Returns all that the page shows. `about` has title, summary, findings, reasons, scenario, sources, files,
+    commands, version and chart."""
+    listed, earth = vessels(case, kept, said), Earth(case.reference)
     numbers = {vessel["mmsi"]: k for k, vessel in enumerate(listed)}
     entries = meetings(case, marks, numbers)
-    rules = [{"name": rule, "colour": colour(rule), "short": meaning(rule), "words": words_of(case, rule), "total": total_words(case, rule)}
-             for rule in case.rules]
+    rules = [{
+        "name": rule, "colour": colour(rule), "short": meaning(rule), "words": words_of(case, rule),
+        "total": total_words(case, rule)
+    } for rule in case.rules]
     lines = [[name, count, OUTCOMES.get(name, "")] for name, count in case.lines.items()]
-    return {**about, "start": case.start, "tick": case.tick, "steps": case.steps, "gap": case.gap,
-            "plane": [earth.longitude, earth.latitude, earth.east, earth.north], "vessels": listed, "meetings": entries, "rules": rules,
-            "verdicts": verdicts(case, marks, numbers, entries), "lines": lines, "marks": TESTS}
+    return {
+        **about, "start": case.start, "tick": case.tick, "steps": case.steps, "gap": case.gap, "plane": [
+            earth.longitude, earth.latitude, earth.east, earth.north
+        ], "vessels": listed, "meetings": entries, "rules": rules, "verdicts": verdicts(case, marks, numbers, entries),
+        "lines": lines, "marks": TESTS, "duties": {ENCOUNTERS[kind]: words
+                                                   for kind, words in BOUND.items()}, "early": early(case)
+    }
+
+
+def sweep_of(case: Case, sweep: Sweep | None, lines: Sequence[Line]) -> dict[str, Any] | None:
+    """Returns the table of a sweep, or None if there is none."""
+    if sweep is None:
+        return None
+    rows = [[case.name(line.subject),
+             case.name(line.other), line.rule, line.first, line.last, *line.found] for line in lines]
+    return {"key": sweep.key, "values": sweep.values, "rows": rows, "changing": sum(line.changes for line in lines)}
+
+
+def early(case: Case) -> int:
+    """Returns for how many seconds from a meeting's beginning action is early, by the scenario."""
+    rules = case.values.get("rules")
+    value = rules.get("ta") if isinstance(rules, dict) else None
+    return value if isinstance(value, int) else 0
 
 
 def window_words(case: Case) -> str:
     """Returns the window in words."""
     begin, end = case.moment(0), case.moment(case.steps)
-    return f"{date(begin)}, {iso(begin)[11:19]} to {iso(end)[11:19] if date(begin) == date(end) else f'{date(end)}, {iso(end)[11:19]}'} UTC"
+    day = "" if date(begin) == date(end) else f"{date(end)}, "
+    return f"{date(begin)}, {iso(begin)[11:19]} to {day}{iso(end)[11:19]} UTC"
 
 
-def page(case: Case, marks: Marks, about: Mapping[str, Any], folder: str = LEAFLET) -> str:
+def page(case: Case, marks: Marks, kept: Kept, said: Said, about: Mapping[str, Any], folder: str = LEAFLET) -> str:
     """Returns the text of the page."""
     script, style = leaflet(folder)
     about = {**about, "noMap": "" if script else NO_MAP, "window": window_words(case)}
-    held = json.dumps(content(case, marks, about), separators=(",", ":"), ensure_ascii=False).replace("<", "\\u003c").replace(
-        "\u2028", "\\u2028").replace("\u2029", "\\u2029")
+    held = json.dumps(content(case, marks, kept, said, about), separators=(",", ":"), ensure_ascii=False).replace(
+        "<", "\\u003c").replace("\u2028", "\\u2028").replace("\u2029", "\\u2029")
     parts: dict[str, str] = {
-        "title": html.escape(about["title"]), "style": style + read_text(os.path.join(HERE, "page.css")), "leaflet": script, "case": held,
-        "script": "\n".join(read_text(os.path.join(HERE, name)) for name in SCRIPTS)}
+        "title": html.escape(about["title"]), "style": style + read_text(os.path.join(HERE, "page.css")),
+        "leaflet": script, "case": held, "script": "\n".join(read_text(os.path.join(HERE, name)) for name in SCRIPTS)
+    }
     return re.sub(r"\{\{(\w+)\}\}", lambda found: parts[found[1]], read_text(os.path.join(HERE, "page.html")))

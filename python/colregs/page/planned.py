@@ -1,13 +1,14 @@
-"""The picture of a plan: the tracks up to now, own ship's planned legs, and the domains of the others along their predicted motion."""
+"""The picture of a plan: the tracks up to now, own ship's planned legs, and the domains of the others along their
+predicted motion."""
 import math
 from collections.abc import Iterable, Sequence
 from typing import Any
 
 from colregs.errors import Fault
 from colregs.model.reports import Case
-from colregs.model.rows import Leg, NoPlan, Row, Vessel
+from colregs.model.rows import NoPlan, PlanLeg, Row, Vessel
 from colregs.model.rules import INK, clock, date
-from colregs.model.tracks import NONE, Place, Track, along, least_part
+from colregs.model.tracks import NONE, Place, Track, along, least_part, toward
 from colregs.page.svg import Coloured, Point
 from colregs.page.tracks import QUIET, TRACK, Chart, draw_frame, draw_head, draw_scale, seen_parts
 
@@ -22,17 +23,13 @@ def moved(place: Place, course: float, speed: float, seconds: float) -> Place:
     return place[0] + way * math.sin(angle), place[1] + way * math.cos(angle)
 
 
-def toward(now: float, aim: float, most: float) -> float:
-    """Returns the value that is nearest to an aim after a change of at most `most`."""
-    return aim if abs(aim - now) <= most else now + math.copysign(most, aim - now)
-
-
 class Planned(Case):
     """What is drawn of a plan: places at the ticks up to now, and from now on those of own ship and of each target."""
 
-    def __init__(self, scenario: str, points: str, plan: str, start: int | None = None, ticks: int | None = None) -> None:
+    def __init__(self, scenario: str, points: str, plan: str, start: int | None = None,
+                 ticks: int | None = None) -> None:
         self.lengths: dict[int, int] = {}
-        self.legs: list[Leg] = []
+        self.legs: list[PlanLeg] = []
         self.refused: int | None = None
         super().__init__(scenario, points, plan, start, ticks)
         if self.refused is None and not self.legs:
@@ -44,7 +41,8 @@ class Planned(Case):
 
     def predict_all(self, own: dict[str, Any]) -> None:
         """Computes the places of own ship and of each target from now on."""
-        self.now, self.own, self.targets = self.start + self.steps * self.tick, own["mmsi"], [m for m in self.names if m != own["mmsi"]]
+        self.now, self.own = self.start + self.steps * self.tick, own["mmsi"]
+        self.targets = [mmsi for mmsi in self.names if mmsi != self.own]
         self.last_tick = own["legs"] * own["leg_ticks"] + own["tail"]
         if not 0 < self.last_tick <= 7200:
             raise Fault(f"own.legs, own.leg_ticks and own.tail come to {self.last_tick} ticks")
@@ -58,23 +56,30 @@ class Planned(Case):
         super().take(row)
         if isinstance(row, Vessel):
             self.lengths[row.mmsi] = row.length
-        elif isinstance(row, Leg):
+        elif isinstance(row, PlanLeg):
             self.legs.append(row)
         elif isinstance(row, NoPlan):
             self.refused = row.plans
 
     def check_lines(self) -> None:
-        """Checks nothing: a plan reads no line after now, and `points` reads those of a gap more, so their counts may differ."""
+        """Checks nothing: a plan reads no line after now, and `points` reads those of a gap more, so their counts may
+        differ."""
 
     def predicted(self, mmsi: int) -> list[Place]:
-        """Returns places at each tick from now on, on the course and speed of the last report with the changes that the scenario predicts."""
+        """Returns places at each tick from now on, on the course and speed of the last report with the changes that the
+        scenario predicts."""
         track = self.last_report_of(mmsi)
         time, course, speed = float(self.start + track.times[-1]), float(track.courses[-1]), float(track.speeds[-1])
         if NONE in (course, speed):
             course, speed = 0.0, 0.0
-        changes: list[list[int]] = next((entry["changes"] for entry in self.values.get("predict", []) if entry["mmsi"] == mmsi), [])
-        parts = [(time, course, speed)] + [(float(self.now + after), float(aim), float(way)) for after, aim, way in changes]
-        return [self.reached((track.xs[-1], track.ys[-1]), parts, self.now + k * self.tick) for k in range(self.last_tick + 1)]
+        changes: list[list[int]] = next(
+            (entry["changes"] for entry in self.values.get("predict", []) if entry["mmsi"] == mmsi), [])
+        parts = [(time, course, speed)] + [(float(self.now + after), float(aim), float(way))
+                                           for after, aim, way in changes]
+        return [
+            self.reached((track.xs[-1], track.ys[-1]), parts, self.now + k * self.tick)
+            for k in range(self.last_tick + 1)
+        ]
 
     def last_report_of(self, mmsi: int) -> Track:
         """Returns the track of a vessel of the plan."""
@@ -89,7 +94,8 @@ class Planned(Case):
         return place
 
     def planned(self, place: Place) -> list[Place]:
-        """Returns own ship's places from now on: each tick she turns and changes speed toward what the leg asks, and moves on so."""
+        """Returns own ship's places from now on: each tick she turns and changes speed toward what the leg asks, and
+        moves on so."""
         track, own = self.last_report_of(self.own), self.values["own"]
         course, speed, path = float(track.courses[-1]), float(track.speeds[-1]), [place]
         for tick in range(self.steps, self.steps + self.last_tick):
@@ -100,9 +106,11 @@ class Planned(Case):
         return path
 
     def nearest_to(self, mmsi: int) -> tuple[float, float, Place, Place]:
-        """Returns the least distance to a target from now on, its moment in ticks, and both places; straight between ticks."""
+        """Returns the least distance to a target from now on, its moment in ticks, and both places; straight between
+        ticks."""
         best: tuple[float, float, Place, Place] | None = None
-        for k, ((a, b), (c, d)) in enumerate(zip(*[list(zip(self.paths[m], self.paths[m][1:])) for m in (self.own, mmsi)])):
+        mine, hers = (zip(self.paths[m], self.paths[m][1:]) for m in (self.own, mmsi))
+        for k, ((a, b), (c, d)) in enumerate(zip(mine, hers)):
             part = least_part((c[0] - a[0], c[1] - a[1]), (d[0] - b[0], d[1] - b[1]))
             one, two = along(a, b, part), along(c, d, part)
             if best is None or math.dist(one, two) < best[0]:
@@ -145,7 +153,8 @@ def draw_domains(chart: Chart[Planned], ticks: Iterable[int]) -> None:
     for k, mmsi in enumerate(case.targets):
         fill, path = OTHERS[k % len(OTHERS)], case.paths[mmsi]
         for tick in ticks:
-            chart.picture.dot(chart.at(path[tick]), case.radii[mmsi] * chart.scale, fill, fill_opacity="0.07", stroke=fill, stroke_width=0.8)
+            chart.picture.dot(chart.at(path[tick]), case.radii[mmsi] * chart.scale, fill, fill_opacity="0.07",
+                              stroke=fill, stroke_width=0.8)
     for k, mmsi in enumerate(case.targets):
         fill, path = OTHERS[k % len(OTHERS)], case.paths[mmsi]
         line = [chart.at(place) for place in path]
@@ -155,7 +164,8 @@ def draw_domains(chart: Chart[Planned], ticks: Iterable[int]) -> None:
 
 
 def draw_own(chart: Chart[Planned]) -> list[tuple[Point, Coloured]]:
-    """Draws own ship's legs, each in its colour, or her present way if there is no plan; returns the words of each leg with their places."""
+    """Draws own ship's legs, each in its colour, or her present way if there is no plan; returns the words of each leg
+    with their places."""
     case = chart.case
     words: list[tuple[Point, Coloured]] = []
     path = [chart.at(place) for place in case.paths[case.own]]
@@ -164,9 +174,10 @@ def draw_own(chart: Chart[Planned]) -> list[tuple[Point, Coloured]]:
         chart.picture.path(path, LEGS[0], 1.3, stroke_dasharray="5 3")
         draw_head(chart, path, LEGS[0])
     for leg in case.legs:
-        part, fill = path[leg.first - case.steps:leg.last - case.steps + 1], LEGS[leg.number % len(LEGS)]
+        part, fill = path[leg.first - case.steps:leg.last - case.steps + 1], LEGS[leg.leg % len(LEGS)]
         chart.picture.path(part, fill, 3)
-        words.append((part[len(part) // 2], [(f"leg {leg.number}:", fill), (f"{leg.course / 10:05.1f}\u00b0, {leg.speed / 10:.1f} knots", fill)]))
+        order = f"{leg.course / 10:05.1f}\u00b0, {leg.speed / 10:.1f} knots"
+        words.append((part[len(part) // 2], [(f"leg {leg.leg}:", fill), (order, fill)]))
         draw_head(chart, part, fill)
     return words
 
@@ -224,15 +235,17 @@ def draw_legend(chart: Chart[Planned], minutes: int) -> None:
     lines = [f"Marks {each}, with minutes since {clock(case.now)} UTC, which is now. Thin lines: the tracks up to now.",
              f"Dashed lines: the targets as they are predicted{'' if case.legs else '; in blue own ship as she goes'}."]
     if case.targets:
-        lines += [f"Circles: the domains of the targets at the moments of the marks, with radii of {radii_words(case)}.",
-                  "Dotted, between two rings: where own ship is nearest to a target, and when (minutes:seconds), as the picture computes it."]
+        lines += ["Circles: the domains of the targets at the moments of the marks, with radii of "
+                  f"{radii_words(case)}.",
+                  "Dotted, between two rings: where own ship is nearest to a target, and when (minutes:seconds), as "
+                  "the picture computes it."]
     for k, words in enumerate(lines):
         chart.picture.words(chart.left, y + 17 * k, words, 11)
 
 
 def planned(case: Planned, title: str) -> str:
     """Returns the picture of a plan."""
-    answer = f"plan {case.legs[0].plan}" if case.legs else f"none of {case.refused} plans passes"
+    answer = f"plan {case.legs[0].number}" if case.legs else f"none of {case.refused} plans passes"
     chart = Chart(case, f"{title}: {answer}", 5 if case.targets else 3)
     minutes = minutes_apart(case)
     ticks = range(0, case.last_tick + 1, minutes * 60 // case.tick)

@@ -1,6 +1,7 @@
 """The region of a case: vessels that were never in it are left out of the log.
 
-A vessel that was in it is kept with all of her reports, also those outside: without them she would seem to vanish at its edge.
+A vessel that was in it is kept with all of her reports, also those outside: without them she would seem to vanish at
+its edge.
 """
 import os
 import re
@@ -17,7 +18,8 @@ Region = Callable[[float, float], bool]
 
 
 def region_of(word: str) -> Region:
-    """Returns whether a longitude and latitude in degrees lie in a region: a box SOUTH,WEST,NORTH,EAST or the polygons of a GeoJSON file."""
+    """Returns whether a longitude and latitude in degrees lie in a region: a box SOUTH,WEST,NORTH,EAST or the polygons
+    of a GeoJSON file."""
     found = BOX.fullmatch(word)
     if found is None:
         areas = areas_in_degrees(word)
@@ -37,7 +39,8 @@ def sender(line: bytes) -> tuple[int, tuple[int, int] | None] | None:
 
 
 def keep_only(log: str, region: Region) -> tuple[int, int]:
-    """Leaves out of a log the messages in one sentence of vessels that are never in a region; returns how many vessels stay and how many are left out."""
+    """Leaves out of a log the messages in one sentence of vessels that are never in a region; returns how many vessels
+    stay and how many are left out."""
     inside: set[int] = set()
     every: set[int] = set()
     with open(log, "rb") as source:

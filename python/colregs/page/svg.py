@@ -70,12 +70,14 @@ class Picture:
 
     def add(self, tag: str, **more: object) -> None:
         """Adds an element; `_` in the name of an attribute stands for `-`."""
-        words = " ".join(f'{key.replace("_", "-")}="{number(value) if isinstance(value, float) else value}"' for key, value in more.items())
+        words = " ".join(f'{key.replace("_", "-")}="{number(value) if isinstance(value, float) else value}"'
+                         for key, value in more.items())
         self.parts.append(f"<{tag} {words}/>")
 
     def line(self, a: Point, b: Point, stroke: str, width: float = 1.0, **more: object) -> None:
         """Adds a straight line."""
-        self.add("line", x1=float(a[0]), y1=float(a[1]), x2=float(b[0]), y2=float(b[1]), stroke=stroke, stroke_width=float(width), **more)
+        self.add("line", x1=float(a[0]), y1=float(a[1]), x2=float(b[0]), y2=float(b[1]), stroke=stroke,
+                 stroke_width=float(width), **more)
 
     def path(self, points: Iterable[Point], stroke: str, width: float = 1.0, **more: object) -> None:
         """Adds a line through points."""
@@ -90,19 +92,21 @@ class Picture:
         """Adds a circle."""
         self.add("circle", cx=float(at[0]), cy=float(at[1]), r=float(radius), fill=fill, **more)
 
-    def words(self, x: float, y: float, words: str | Coloured, size: int = 11, fill: str = "#222222", anchor: str = "start", weight: str = "normal",
-              halo: bool = False) -> None:
+    def words(self, x: float, y: float, words: str | Coloured, size: int = 11, fill: str = "#222222",
+              anchor: str = "start", weight: str = "normal", halo: bool = False) -> None:
         """Adds words of one colour, or a list of words, each with its colour."""
         around = ' stroke="#ffffff" stroke-width="3" paint-order="stroke" stroke-linejoin="round"' if halo else ""
         inner = escape(words) if isinstance(words, str) else " ".join(
             f'<tspan fill="{own}">{escape(word)}</tspan>' for word, own in words)
-        self.parts.append(f'<text x="{number(x)}" y="{number(y)}" font-size="{size}" fill="{fill}" text-anchor="{anchor}" '
+        self.parts.append(f'<text x="{number(x)}" y="{number(y)}" font-size="{size}" fill="{fill}" '
+                          f'text-anchor="{anchor}" '
                           f'font-weight="{weight}"{around}>{inner}</text>')
 
     def text(self) -> str:
         """Returns the text of the picture."""
         wide, high = int(self.width), int(self.height)
-        head = f'<svg xmlns="http://www.w3.org/2000/svg" width="{wide}" height="{high}" viewBox="0 0 {wide} {high}" font-family="{FONT}">'
+        head = (f'<svg xmlns="http://www.w3.org/2000/svg" width="{wide}" height="{high}" '
+                f'viewBox="0 0 {wide} {high}" font-family="{FONT}">')
         return "\n".join([head] + self.parts + ["</svg>", ""])
 
 
@@ -163,8 +167,10 @@ class Labels:
         assert best is not None         # there is a reach
         return best
 
-    def put(self, at: Point, words: str | Coloured, size: int = 11, weight: str = "normal", needed: bool = True, apart: int = 6, fill: str = "#222222") -> None:
-        """Near a place, joined to it by a thin line where it is far; where it is not needed, only where it is near and covers nothing."""
+    def put(self, at: Point, words: str | Coloured, size: int = 11, weight: str = "normal", needed: bool = True,
+            apart: int = 6, fill: str = "#222222") -> None:
+        """Near a place, joined to it by a thin line where it is far; where it is not needed, only where it is near and
+        covers nothing."""
         plain = words if isinstance(words, str) else " ".join(word for word, _ in words)
         width, height = width_of(plain, size, weight), size * 1.1
         cost, box, far = self.best(at, width, height, range(apart, apart + 90, 4) if needed else [apart])
@@ -174,5 +180,5 @@ class Labels:
             end = max(box[0], min(at[0], box[2])), max(box[1], min(at[1], box[3]))
             self.picture.line(at, end, "#888888", 0.7)
         self.keep_box(box)
-        self.picture.words((box[0] + box[2]) / 2, (box[1] + box[3]) / 2 + size * 0.36, words, size, anchor="middle", weight=weight,
-                           halo=True, fill=fill)
+        self.picture.words((box[0] + box[2]) / 2, (box[1] + box[3]) / 2 + size * 0.36, words, size, anchor="middle",
+                           weight=weight, halo=True, fill=fill)

@@ -13,7 +13,8 @@ MANY = 120      # ordered pairs, beyond which only some are drawn
 
 
 def blocks(case: Case) -> Iterator[Block]:
-    """For each ordered pair its meetings and, rule by rule, its verdicts; both orders of two vessels one after the other."""
+    """For each ordered pair its meetings and, rule by rule, its verdicts; both orders of two vessels one after the
+    other."""
     begins: dict[frozenset[int], int] = {}
     meetings: dict[tuple[int, int], list[Meeting]] = {}
     verdicts: dict[tuple[int, int], list[Verdict]] = {}
@@ -25,19 +26,25 @@ def blocks(case: Case) -> Iterator[Block]:
         verdicts.setdefault(verdict.pair, []).append(verdict)
     for pair in sorted(meetings | verdicts, key=lambda pair: (begins[frozenset(pair)], min(pair), max(pair), pair)):
         mine = verdicts.get(pair, [])
-        yield pair, meetings.get(pair, []), [(rule, [v for v in mine if v.rule == rule]) for rule in case.rules if any(v.rule == rule for v in mine)]
+        yield pair, meetings.get(pair, []), [
+            (rule, [v for v in mine if v.rule == rule]) for rule in case.rules if any(v.rule == rule for v in mine)
+        ]
 
 
 def fewer(case: Case, found: list[Block]) -> tuple[list[Block], str | None]:
-    """Returns the pairs that are drawn, those of the nearest meetings if there are many; and words of what is left out."""
+    """Returns the pairs that are drawn, those of the nearest meetings if there are many; and words of what is left
+    out."""
     if len(found) <= MANY:
         return found, None
-    near: dict[tuple[int, int], float] = {}
+    near: dict[tuple[int, int], int] = {}
     for meeting in case.meetings:
         near[meeting.pair] = min(meeting.least, near.get(meeting.pair, meeting.least))
-    kept = set(sorted(near, key=lambda pair: (near[pair], min(pair), max(pair)))[:MANY]) or {entry[0] for entry in found[:MANY]}
+    kept = set(sorted(near, key=lambda pair: (near[pair], min(pair), max(pair)))[:MANY]) or {
+        entry[0] for entry in found[:MANY]
+    }
     few = [entry for entry in found if entry[0] in kept]
-    return few, f"Of {len(found)} ordered pairs the {len(few)} that came nearest are drawn; --pair, --from and --to draw others."
+    return few, (f"Of {len(found)} ordered pairs the {len(few)} that came nearest are drawn; --pair, --from and --to "
+                 "draw others.")
 
 
 def across(case: Case, step: int) -> float:
@@ -61,13 +68,14 @@ def time_axis(picture: Picture, case: Case, bottom: float) -> None:
 
 
 def bars(picture: Picture, case: Case, y: float, rows: Sequence[Bar]) -> None:
-    """Bars over their steps, each of a row, its colour, its words and whether it is hollow. Words stand in a bar or beside it, where the
-    bars beside leave room."""
+    """Bars over their steps, each of a row, its colour, its words and whether it is hollow. Words stand in a bar or
+    beside it, where the bars beside leave room."""
     ends = [across(case, row.first) for row, *_ in rows]
     wide = [max(2.5, across(case, row.last + 1) - x) for (row, *_), x in zip(rows, ends)]
     for (row, fill, _, hollow), x, width in zip(rows, ends, wide):
         if hollow:
-            picture.box(x + 0.7, y + 3.7, max(1.5, width - 1.4), ROW - 7.4, "#ffffff", stroke=fill, stroke_width=1.4, stroke_dasharray="3 2")
+            picture.box(x + 0.7, y + 3.7, max(1.5, width - 1.4), ROW - 7.4, "#ffffff", stroke=fill, stroke_width=1.4,
+                        stroke_dasharray="3 2")
         else:
             picture.box(x, y + 3, width, ROW - 6, fill)
     taken: float = LEFT
@@ -89,12 +97,14 @@ def steps_words(row: Stretch) -> str:
     return f"{row.first}" if row.first == row.last else f"{row.first}\u2013{row.last}"
 
 
-def draw_block(picture: Picture, case: Case, y: float, pair: tuple[int, int], meetings: list[Meeting], verdicts: list[tuple[str, list[Verdict]]]) -> None:
+def draw_block(picture: Picture, case: Case, y: float, pair: tuple[int, int], meetings: list[Meeting],
+               verdicts: list[tuple[str, list[Verdict]]]) -> None:
     """Draws the rows of one ordered pair."""
     names = " to ".join(case.name(mmsi) for mmsi in pair)
     picture.words(12, y + ROW - 5, names, 12, weight="bold")
-    bars(picture, case, y, [(meeting, "#5b6770", f"{steps_words(meeting)}, {meeting.kind}, {meeting.least:.0f} m", False)
-                            for meeting in sorted(meetings, key=lambda row: row.first)])
+    bars(picture, case, y,
+         [(meeting, "#5b6770", f"{steps_words(meeting)}, {meeting.encounter}, {meeting.metres:.0f} m", False)
+          for meeting in sorted(meetings, key=lambda row: row.first)])
     for rule, rows in verdicts:
         y += ROW
         picture.words(LEFT - 10, y + ROW - 5, rule, 11, colour(rule), "end", "bold")
@@ -111,14 +121,17 @@ def times(case: Case, title: str) -> str:
     if left_out:
         picture.words(12, 71, left_out, 11, "#555555")
     picture.words(12, 24, title, 16, weight="bold")
-    picture.words(12, 43, date(case.moment(case.shown[0])) + ". The meetings of each ordered pair, with their steps, kind and least distance; and the steps "
+    picture.words(12, 43, date(case.moment(case.shown[0])) + ". The meetings of each ordered pair, with their steps, "
+                                                             "kind and least distance; and the steps "
                   "at which a rule", 11, "#555555")
-    picture.words(12, 58, "that binds the first of the two is broken (filled) or open, undecided (dashed).", 11, "#555555")
+    picture.words(12, 58, "that binds the first of the two is broken (filled) or open, undecided (dashed).", 11,
+                  "#555555")
     time_axis(picture, case, bottom)
     y = HEAD + 3
     for pair, meetings, verdicts in found:
         draw_block(picture, case, y, pair, meetings, verdicts)
         y += ROW * (1 + len(verdicts)) + 6
     for k, rule in enumerate(rules):
-        picture.words(12 + (LEFT + WIDE) / 2 * (k % 2), bottom + 54 + 17 * (k // 2), f"{rule}: {meaning(rule)}", 11, colour(rule))
+        picture.words(12 + (LEFT + WIDE) / 2 * (k % 2), bottom + 54 + 17 * (k // 2), f"{rule}: {meaning(rule)}", 11,
+                      colour(rule))
     return picture.text()

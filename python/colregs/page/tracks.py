@@ -29,7 +29,8 @@ class Chart(Generic[Window]):
     def __init__(self, case: Window, title: str, legend: int = 3) -> None:
         every = case.extent()
         if not every:
-            raise Fault("no vessel is seen at the steps that are drawn: at most log.gap seconds may lie between two reports")
+            raise Fault("no vessel is seen at the steps that are drawn: at most log.gap seconds may lie between two "
+                        "reports")
         xs, ys = [x for x, _ in every], [y for _, y in every]
         pad = 0.04 * max(max(xs) - min(xs), max(ys) - min(ys), 1000)
         wide, high = max(xs) - min(xs) + 2 * pad, max(ys) - min(ys) + 2.6 * pad
@@ -41,7 +42,8 @@ class Chart(Generic[Window]):
         self.left_out = ""                      # words of what is left out
         self.marked: set[int] = set()           # the vessels whose nearest moment is marked
         self.case, self.title, self.crowded = case, title, len(case.places) > MANY
-        self.rows = legend + math.ceil(len(self.rules) / self.columns()) + (len(case.places) > MANY or len(case.meetings) > 2 * MANY)
+        is_partly_named = len(case.places) > MANY or len(case.meetings) > 2 * MANY
+        self.rows = legend + math.ceil(len(self.rules) / self.columns()) + is_partly_named
         self.picture = Picture(self.right + 20, self.bottom + 46 + 17 * self.rows, title)
         self.labels = Labels(self.picture, (self.left + 2, self.top + 2, self.right - 2, self.bottom - 2))
 
@@ -75,11 +77,12 @@ def draw_frame(chart: Chart[Any], words: str) -> None:
     """Draws the title, the grid in kilometres and the frame."""
     picture = chart.picture
     picture.words(chart.left, 24, chart.title, 16, weight="bold")
-    picture.words(chart.left, 43, words + f" Distances from the reference, {place_words(chart.case.reference)}.", 11, "#555555")
+    picture.words(chart.left, 43, words + f" Distances from the reference, {place_words(chart.case.reference)}.", 11,
+                  "#555555")
     apart = nice(70 / chart.scale)
     for vertical in (True, False):
-        low, high = (chart.west, chart.west + (chart.right - chart.left) / chart.scale) if vertical else (
-            chart.south, chart.south + (chart.bottom - chart.top) / chart.scale)
+        low, pixels = (chart.west, chart.right - chart.left) if vertical else (chart.south, chart.bottom - chart.top)
+        high = low + pixels / chart.scale
         for k in range(math.ceil(low / apart), math.floor(high / apart) + 1):
             x, y = chart.at((k * apart, k * apart))
             words = f"{k * apart / 1000:g}"
@@ -91,7 +94,8 @@ def draw_frame(chart: Chart[Any], words: str) -> None:
                 picture.words(chart.left - 6, y + 3.5, words, 10, "#555555", "end")
     picture.box(chart.left, chart.top, chart.right - chart.left, chart.bottom - chart.top, "none", stroke="#8a949d")
     picture.words((chart.left + chart.right) / 2, chart.bottom + 29, "km to the east", 10, "#555555", "middle")
-    picture.parts.append(f'<text transform="translate({chart.left - 34},{int((chart.top + chart.bottom) / 2)}) rotate(-90)" font-size="10" '
+    picture.parts.append(f'<text transform="translate({chart.left - 34},{int((chart.top + chart.bottom) / 2)}) '
+                         'rotate(-90)" font-size="10" '
                          'fill="#555555" text-anchor="middle">km to the north</text>')
 
 
@@ -143,8 +147,8 @@ def draw_head(chart: Chart[Any], line: list[Point], fill: str) -> None:
         chart.picture.dot((u, v), 3 * size, fill)
         return
     turn = math.degrees(math.atan2(v - y, u - x))
-    chart.picture.add("path", d=f"M{5 * size:g} 0 L-{5 * size:g} -{4 * size:g} L-{5 * size:g} {4 * size:g} z", fill=fill,
-                      transform=f"translate({u:.1f},{v:.1f}) rotate({turn:.1f})")
+    chart.picture.add("path", d=f"M{5 * size:g} 0 L-{5 * size:g} -{4 * size:g} L-{5 * size:g} {4 * size:g} z",
+                      fill=fill, transform=f"translate({u:.1f},{v:.1f}) rotate({turn:.1f})")
 
 
 def minutes_apart(chart: Chart[Case]) -> int:
@@ -202,7 +206,8 @@ def side(case: Case, verdict: Verdict) -> int:
 
 
 def draw_stretch(chart: Chart[Case], verdict: Verdict, lane: int) -> Point:
-    """Draws a line beside the track, away from the other vessel, or a dot if it is short; hollow if the rule stayed open. Returns its middle."""
+    """Draws a line beside the track, away from the other vessel, or a dot if it is short; hollow if the rule stayed
+    open. Returns its middle."""
     line = shifted(chart.stretch(verdict), side(chart.case, verdict) * (5 * (lane + 1) - 1))
     fill, broken = colour(verdict.rule), verdict.value == "broken"
     chart.labels.keep_clear(line)
@@ -230,14 +235,16 @@ def draw_stretches(chart: Chart[Case]) -> list[tuple[Point, Coloured]]:
 
 
 def draw_dots(chart: Chart[Case]) -> list[tuple[Point, Coloured]]:
-    """A dot where each stretch begins, of the rule's colour; hollow where it stayed open. No words, for there are many."""
+    """A dot where each stretch begins, of the rule's colour; hollow where it stayed open. No words, for there are
+    many."""
     spots = {}
     for verdict in chart.case.verdicts:
         line = chart.stretch(verdict)
         if line:
             spots[round(line[0][0]), round(line[0][1]), verdict.rule, verdict.value] = line[0]
     for (_, _, rule, value), at in spots.items():
-        chart.picture.dot(at, 2.2, colour(rule) if value == "broken" else "#ffffff", stroke=colour(rule), stroke_width=0.8)
+        chart.picture.dot(at, 2.2,
+                          colour(rule) if value == "broken" else "#ffffff", stroke=colour(rule), stroke_width=0.8)
     return []
 
 
@@ -267,7 +274,7 @@ def draw_meetings(chart: Chart[Case]) -> list[tuple[Point, str]]:
         chart.labels.keep_clear([a, b])
         middle = (a[0] + b[0]) / 2, (a[1] + b[1]) / 2
         chart.marked.update(meeting.pair)
-        labels.append((middle, f"{meeting.least:.0f} m at {clock(round(case.start + moment))}"))
+        labels.append((middle, f"{meeting.metres:.0f} m at {clock(round(case.start + moment))}"))
     return labels
 
 
@@ -278,7 +285,8 @@ def draw_names(chart: Chart[Case]) -> None:
         if first and (not chart.crowded or mmsi in chart.marked):
             chart.labels.put(chart.at(first), chart.case.name(mmsi), 11, weight="bold", fill=INK)
     if chart.crowded:
-        chart.left_out += f"Of {len(chart.case.places)} vessels these have names; --pair, --from and --to draw two of them, or a part of the time."
+        chart.left_out += (f"Of {len(chart.case.places)} vessels these have names; --pair, --from and --to draw two of "
+                           "them, or a part of the time.")
 
 
 def draw_legend(chart: Chart[Case], minutes: int) -> None:

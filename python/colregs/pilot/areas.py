@@ -1,4 +1,5 @@
-"""Areas that own ship may not enter, such as land, shoals and limits: read from GeoJSON, and compared with the path of a plan."""
+"""Areas that own ship may not enter, such as land, shoals and limits: read from GeoJSON, and compared with the path of
+a plan."""
 from __future__ import annotations
 
 import json
@@ -43,19 +44,22 @@ class Area:
 
 
 def side(a: Place, b: Place, c: Place) -> float:
-    """Returns a number above zero if `c` lies to the left of the line from `a` to `b`, and below zero if to the right."""
+    """Returns a number above zero if `c` lies to the left of the line from `a` to `b`, and below zero if to the
+    right."""
     return (b[0] - a[0]) * (c[1] - a[1]) - (b[1] - a[1]) * (c[0] - a[0])
 
 
 def cross(a: Place, b: Place, c: Place, d: Place) -> bool:
     """Returns whether two straight lines cross or touch."""
-    if max(a[0], b[0]) < min(c[0], d[0]) or max(c[0], d[0]) < min(a[0], b[0]) or max(a[1], b[1]) < min(c[1], d[1]) or max(c[1], d[1]) < min(a[1], b[1]):
+    if max(a[0], b[0]) < min(c[0], d[0]) or max(c[0], d[0]) < min(a[0], b[0]) or max(a[1], b[1]) < min(
+            c[1], d[1]) or max(c[1], d[1]) < min(a[1], b[1]):
         return False
     return side(a, b, c) * side(a, b, d) <= 0 and side(c, d, a) * side(c, d, b) <= 0
 
 
 def polygons_of(value: object, name: str) -> Iterator[tuple[str, object]]:
-    """Yields the coordinates of each polygon of a GeoJSON value, with the name of its feature. A Fault says what is no area."""
+    """Yields the coordinates of each polygon of a GeoJSON value, with the name of its feature. A Fault says what is no
+    area."""
     if not isinstance(value, Mapping):
         raise Fault("a part of it is no object")
     kind = value.get("type")
@@ -64,7 +68,8 @@ def polygons_of(value: object, name: str) -> Iterator[tuple[str, object]]:
             yield from polygons_of(feature, f"area {number}")
     elif kind == "Feature":
         more = value.get("properties")
-        yield from polygons_of(value.get("geometry"), str(more["name"]) if isinstance(more, Mapping) and more.get("name") else name)
+        yield from polygons_of(value.get("geometry"),
+                               str(more["name"]) if isinstance(more, Mapping) and more.get("name") else name)
     elif kind == "Polygon":
         yield name, value.get("coordinates")
     elif kind == "MultiPolygon":
@@ -82,11 +87,12 @@ def listed(value: object) -> list[object]:
 
 
 def ring_in_degrees(value: object) -> tuple[Place, ...]:
-    """Returns a ring as longitudes and latitudes in degrees, closed if the file leaves it open. A Fault says what is wrong."""
+    """Returns a ring as longitudes and latitudes in degrees, closed if the file leaves it open. A Fault says what is
+    wrong."""
     places: list[Place] = []
     for pair in listed(value):
         numbers = listed(pair)[:2]
-        if len(numbers) < 2 or not all(isinstance(number, (int, float)) and not isinstance(number, bool) for number in numbers):
+        if len(numbers) < 2 or any(type(number) not in (int, float) for number in numbers):
             raise Fault("a place is not two numbers")
         longitude, latitude = (float(str(number)) for number in numbers)
         if not (abs(longitude) <= 180 and abs(latitude) <= 90):
@@ -99,15 +105,26 @@ def ring_in_degrees(value: object) -> tuple[Place, ...]:
 
 def read_areas(path: str, scenario: PilotScenario) -> list[Area]:
     """Reads the areas of a GeoJSON file, on the plane of a scenario. A Fault names the file and what is wrong."""
-    return [Area(area.name, tuple(tuple(on_plane((latitude, longitude), scenario.latitude, scenario.longitude) for longitude, latitude in ring)
-                                  for ring in area.rings)) for area in areas_in_degrees(path)]
+    return [
+        Area(
+            area.name,
+            tuple(
+                tuple(
+                    on_plane((latitude, longitude), scenario.latitude, scenario.longitude)
+                    for longitude, latitude in ring)
+                for ring in area.rings))
+        for area in areas_in_degrees(path)
+    ]
 
 
 def areas_in_degrees(path: str) -> list[Area]:
     """Reads the areas of a GeoJSON file, as longitudes and latitudes. A Fault names the file and what is wrong."""
     try:
         value = json.loads(read_text(path))
-        return [Area(name, tuple(ring_in_degrees(ring) for ring in listed(rings))) for name, rings in polygons_of(value, "the area")]
+        return [
+            Area(name, tuple(ring_in_degrees(ring) for ring in listed(rings)))
+            for name, rings in polygons_of(value, "the area")
+        ]
     except (ValueError, RecursionError) as error:
         raise Fault(f"{path}: not JSON: {str(error)[:80]}") from None
     except Fault as fault:
@@ -130,6 +147,7 @@ class Barrier:
         """Returns the name of the first area that a plan enters, or nothing."""
         if question.place is None or question.reported is None:
             return ""
-        path = planned_path(question.place, question.reported, plan, self.rates, self.scenario.tick, question.window.ends)
+        path = planned_path(question.place, question.reported, plan, self.rates, self.scenario.tick,
+                            question.window.ends)
         open_areas = (area for area in self.areas if not area.holds(path[0]))
         return next((f"`{area.name}` is entered" for area in open_areas if area.is_entered(path)), "")

@@ -40,17 +40,23 @@ def target_json(target: Target, names: dict[int, tuple[str, int]]) -> object:
     """Returns a target: where she is, how near she comes, and which rules bind own ship towards her."""
     name, length = names.get(target.mmsi, ("", 0))
     meeting = target.meeting
-    return {"mmsi": target.mmsi, "name": name, "length": length, "distance": round(target.distance), "bearing": round(target.bearing, 1),
-            "nearest": approach_json(target.kept), "nearest_by_plan": approach_json(target.planned),
-            "meeting": {"kind": meeting.kind, "since": iso(meeting.begins), "rules": meeting.rules()} if meeting else None}
+    return {
+        "mmsi": target.mmsi, "name": name, "length": length, "distance": round(target.distance), "bearing": round(
+            target.bearing, 1), "nearest": approach_json(target.kept), "nearest_by_plan": approach_json(target.planned),
+        "meeting": {"kind": meeting.kind, "since": iso(meeting.begins), "rules": meeting.rules()} if meeting else None
+    }
 
 
 def reasons_json(reasons: tuple[Reason, ...]) -> object:
     """Returns the reasons why all plans fail: how many by target and rule, and the first ones in full."""
     counts = Counter((reason.target, reason.rule) for reason in reasons)
-    return {"by_target": [{"mmsi": target, "rule": rule, "reasons": count} for (target, rule), count in sorted(counts.items())],
-            "first": [{"courses": reason.courses, "speeds": reason.speeds, "mmsi": reason.target, "rule": reason.rule, "time": iso(reason.time)}
-                      for reason in reasons[:MOST_REASONS]], "count": len(reasons)} if reasons else None
+    return {
+        "by_target": [{"mmsi": target, "rule": rule, "reasons": count}
+                      for (target, rule), count in sorted(counts.items())], "first": [{
+                          "courses": reason.courses, "speeds": reason.speeds, "mmsi": reason.target,
+                          "rule": reason.rule, "time": iso(reason.time)
+                      } for reason in reasons[:MOST_REASONS]], "count": len(reasons)
+    } if reasons else None
 
 
 def line_of(moment: Moment) -> str:
@@ -58,12 +64,16 @@ def line_of(moment: Moment) -> str:
     decision = moment.decision
     words = "; ".join(word for word in (decision.words, *moment.notes) if word)
     return json.dumps({
-        "time": iso(moment.time), "state": decision.state.value, "cause": decision.cause.value if decision.cause else None, "words": words,
-        "course": round(decision.course, 1), "speed": round(decision.speed, 1), "promised": decision.promised, "escaping": decision.escaping,
-        "held_for": decision.held_for, "track": {"course": moment.track.course, "speed": moment.track.speed},
-        "legs": [{"course": leg.course, "speed": leg.speed, "begins": iso(leg.begins), "ends": iso(leg.ends)} for leg in decision.legs],
-        "targets": [target_json(target, moment.names) for target in moment.targets],
-        "reasons": reasons_json(decision.reasons), "reasons_checked": decision.checked,
-        "window": {"begins": iso(moment.window.start), "ticks": moment.window.ticks},
-        "input_age": round(moment.input_age, 1), "own_age": moment.own_age, "took": None if moment.took is None else round(moment.took, 3),
-        "late": moment.late})
+        "time": iso(moment.time), "state": decision.state.value,
+        "cause": decision.cause.value if decision.cause else None, "words": words, "course": round(decision.course, 1),
+        "speed": round(decision.speed, 1), "promised": decision.promised,
+        "escaping": decision.escaping, "held_for": decision.held_for, "track": {
+            "course": moment.track.course, "speed": moment.track.speed
+        }, "legs": [{"course": leg.course, "speed": leg.speed, "begins": iso(leg.begins), "ends": iso(leg.ends)}
+                    for leg in decision.legs], "targets": [
+                        target_json(target, moment.names) for target in moment.targets
+                    ], "reasons": reasons_json(decision.reasons), "reasons_checked": decision.checked, "window": {
+                        "begins": iso(moment.window.start), "ticks": moment.window.ticks
+                    }, "input_age": round(moment.input_age, 1), "own_age": moment.own_age,
+        "took": None if moment.took is None else round(moment.took, 3), "late": moment.late
+    })

@@ -1,4 +1,5 @@
-"""The pilot over a stream: takes lines as they arrive, and writes what own ship should steer each so many seconds, whatever goes wrong."""
+"""The pilot over a stream: takes lines as they arrive, and writes what own ship should steer each so many seconds,
+whatever goes wrong."""
 from __future__ import annotations
 
 import queue
@@ -62,8 +63,8 @@ class StreamClock:
 class Live:
     """A pilot with its stream. Each line goes to `write`."""
 
-    def __init__(self, pilot: Pilot, wanted: Wanted, pace: Pace, write: Callable[[Moment], None], barrier: Barrier | None = None,
-                 gives_times: bool = False, recheck: bool = True) -> None:
+    def __init__(self, pilot: Pilot, wanted: Wanted, pace: Pace, write: Callable[[Moment], None],
+                 barrier: Barrier | None = None, gives_times: bool = False, recheck: bool = True) -> None:
         """Takes the pilot and what own ship wants; `gives_times` gives bare sentences the time at which they arrive."""
         self.pilot, self.wanted, self.pace, self.write, self.barrier = pilot, wanted, pace, write, barrier
         self.gives_times, self.recheck = gives_times, recheck
@@ -84,7 +85,8 @@ class Live:
             self.waiting.put(f"the input failed: {reason(error) if isinstance(error, OSError) else error}")
 
     def take(self, line: bytes) -> None:
-        """Takes a line. One without a time counts as of the line before it; before the first time it is only counted."""
+        """Takes a line. One without a time counts as of the line before it; before the first time it is only
+        counted."""
         line = stamped(line.rstrip(b"\r\n"), int(time.time())) if self.gives_times else line.rstrip(b"\r\n")
         now = self.clock.take(line)
         if now is None:
@@ -159,13 +161,15 @@ class Live:
             place = self.place(scene, now)
             track = self.wanted.track_at(place)
             own = scene.sightings.get(self.pilot.scenario.own)
-            decision = self.pilot.step(self.record, now, track, own.track if own else None, patience.left(), self.recheck, place)
+            decision = self.pilot.step(self.record, now, track, own.track if own else None, patience.left(),
+                                       self.recheck, place)
             took = time.monotonic() - begin
             notes += self.notes(place, took)
         own = scene.sightings.get(self.pilot.scenario.own)
         late = took is not None and took > LATE * self.pace.every
         return Moment(now, decision, track, self.pilot.window, self.targets(scene, decision, now), scene.names, age,
-                      now - own.time if own else None, None if self.pace.by_log else took, late and not self.pace.by_log, tuple(notes))
+                      now - own.time if own else None, None if self.pace.by_log else took, late
+                      and not self.pace.by_log, tuple(notes))
 
     def input_age(self, now: int | None) -> float:
         """Returns how many seconds ago the latest line arrived; of a log that is replayed, how old it is."""
@@ -206,4 +210,5 @@ class Live:
     def targets(self, scene: Scene, decision: Decision, now: int) -> list[Target]:
         """Returns the targets at a moment, with the nearest approach by the legs that are steered."""
         plan = Plan(0, now, decision.legs) if decision.legs else None
-        return targets_of(self.pilot.scenario, scene.sightings, scene.meetings, plan, now // self.pilot.scenario.tick * self.pilot.scenario.tick)
+        return targets_of(self.pilot.scenario, scene.sightings, scene.meetings, plan,
+                          now // self.pilot.scenario.tick * self.pilot.scenario.tick)

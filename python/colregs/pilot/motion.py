@@ -4,6 +4,7 @@ from __future__ import annotations
 import math
 from dataclasses import dataclass
 
+from colregs.model.tracks import toward
 from colregs.pilot.states import Plan, Track, swing
 
 KNOT = 1852 / 3600     # metres a second
@@ -21,11 +22,6 @@ def moved(place: Place, track: Track, seconds: float) -> Place:
     """Returns the place after so many seconds on a course at a speed."""
     east, north = velocity(track)
     return place[0] + east * seconds, place[1] + north * seconds
-
-
-def toward(now: float, aim: float, most: float) -> float:
-    """Returns `now` brought nearer to `aim` by at most `most`."""
-    return aim if abs(aim - now) <= most else now + math.copysign(most, aim - now)
 
 
 @dataclass(frozen=True)
@@ -51,7 +47,8 @@ def turned(now: Track, aim: Track, rates: Rates, seconds: float) -> Track:
 
 
 def planned_path(place: Place, reported: Track, plan: Plan, rates: Rates, tick: int, begins: int) -> list[Place]:
-    """Returns own ship's place at each tick from `begins` to the plan's end: each tick she turns toward what the leg orders, then moves."""
+    """Returns own ship's place at each tick from `begins` to the plan's end: each tick she turns toward what the leg
+    orders, then moves."""
     path, state = [place], reported
     for now in range(begins, plan.until, tick):
         leg = plan.leg_at(now)
@@ -63,7 +60,8 @@ def planned_path(place: Place, reported: Track, plan: Plan, rates: Rates, tick: 
 
 
 def straight_approach(apart: Place, drift: Place) -> Approach:
-    """Returns the nearest approach from now on of two that keep on; `apart` is where the other is, `drift` its change in metres a second."""
+    """Returns the nearest approach from now on of two that keep on; `apart` is where the other is, `drift` its change
+    in metres a second."""
     square = drift[0] ** 2 + drift[1] ** 2
     seconds = max(0.0, -(apart[0] * drift[0] + apart[1] * drift[1]) / square) if square > 1e-9 else 0.0
     return Approach(math.hypot(apart[0] + drift[0] * seconds, apart[1] + drift[1] * seconds), seconds)

@@ -1,4 +1,5 @@
-"""The pilot's decisions as NMEA sentences (IEC 61162-1): HTC, the command to a heading control system, and TXT for the state in words."""
+"""The pilot's decisions as NMEA sentences (IEC 61162-1): HTC, the command to a heading control system, and TXT for the
+state in words."""
 from __future__ import annotations
 
 from colregs.io.sentences import total
@@ -15,12 +16,14 @@ def sentence(body: str) -> str:
 
 
 def command_sentence(decision: Decision, turn: float) -> str:
-    """Returns HTC: heading control to the course to steer, true, by a rate of turn in degrees a minute; no override, no limits."""
+    """Returns HTC: heading control to the course to steer, true, by a rate of turn in degrees a minute; no override, no
+    limits."""
     return sentence(f"{TALKER}HTC,V,,,H,T,,,,{turn:.1f},{decision.course % 360:.1f},,,T")
 
 
 def text_sentence(decision: Decision) -> str:
-    """Returns TXT: the state, with a number of its own, and words. Characters that a sentence reserves become blanks."""
+    """Returns TXT: the state, with a number of its own, and words. Characters that a sentence reserves become
+    blanks."""
     words = decision.state.value + (f": {decision.words}" if decision.words else "")
     plain = "".join(letter if " " <= letter <= "~" and letter not in "!$*,\\^~" else " " for letter in words)[:LONGEST]
     return sentence(f"{TALKER}TXT,01,01,{IDENTIFIERS[decision.state]:02},{plain}")

@@ -1,4 +1,5 @@
-"""The loop of the pilot, one step at a time: the window, the question, the answer and the decision. Live streams and trials run this code."""
+"""The loop of the pilot, one step at a time: the window, the question, the answer and the decision. Live streams and
+trials run this code."""
 from __future__ import annotations
 
 from dataclasses import dataclass
@@ -47,7 +48,8 @@ class Pilot:
         self.cut = False           # whether a meeting that lasts began before the window
 
     def open_window(self, log: Log, now: int) -> Window:
-        """Returns the window that ends at the last tick up to now. Ticks lie at whole multiples since the Unix epoch, so windows agree."""
+        """Returns the window that ends at the last tick up to now. Ticks lie at whole multiples since the Unix epoch,
+        so windows agree."""
         tick = self.scenario.tick
         end = now // tick * tick
         first = log.begins()
@@ -67,24 +69,29 @@ class Pilot:
         lines, text = self.lines(log, window), self.scenario.text(window, subjects=(self.scenario.own,))
         points = self.planner.runner.report("points", text, lines, timeout=patience.left())
         audit = self.planner.runner.report("audit", text, lines, timeout=patience.left())
-        return Scene(latest_sightings(points) if points.status == 0 else {}, self.lasting(window, audit), names_of(audit))
+        return Scene(
+            latest_sightings(points) if points.status == 0 else {}, self.lasting(window, audit), names_of(audit))
 
     def lasting(self, window: Window, audit: Report) -> list[Meeting]:
         """Returns own ship's meetings that last, and lets the next window begin before the oldest one."""
         if audit.status != 0:
             return []
         meetings = lasting_meetings(audit, self.scenario.own, window, self.scenario.gap)
-        begins = min([meeting.begins for meeting in meetings] + [window.ends - self.scenario.gap]) - BEFORE * window.tick
-        self.cut = any(meeting.begins <= window.start for meeting in meetings) and window.ends - window.start >= self.history
+        begins = min([meeting.begins
+                      for meeting in meetings] + [window.ends - self.scenario.gap]) - BEFORE * window.tick
+        self.cut = any(meeting.begins <= window.start
+                       for meeting in meetings) and window.ends - window.start >= self.history
         self.start = max(self.start, begins // window.tick * window.tick)
         return meetings
 
     def shorten(self, log: Log, now: int, patience: Patience) -> None:
-        """Cuts a long window to the meetings that last. The plan is the same with either: no meeting that lasts began before."""
+        """Cuts a long window to the meetings that last. The plan is the same with either: no meeting that lasts began
+        before."""
         window = self.open_window(log, now)
         if window.ends - window.start > LONG:
             text = self.scenario.text(window, subjects=(self.scenario.own,))
-            self.lasting(window, self.planner.runner.report("audit", text, self.lines(log, window), timeout=patience.left()))
+            self.lasting(window,
+                         self.planner.runner.report("audit", text, self.lines(log, window), timeout=patience.left()))
 
     def step(self, log: Log, now: int, track: Track, reported: Track | None, seconds: float = 60, recheck: bool = True,
              place: Place | None = None) -> Decision:
@@ -94,7 +101,8 @@ class Pilot:
         """
         window = self.open_window(log, now)
         holding = held_order(self.memory, window.ends) or self.memory.order
-        answer = self.planner.ask(Question(window, self.lines(log, window), track, reported, holding, seconds, place), recheck)
+        answer = self.planner.ask(Question(window, self.lines(log, window), track, reported, holding, seconds, place),
+                                  recheck)
         return self.settle(answer, window.ends, track)
 
     def stalled(self, now: int, track: Track, words: str) -> Decision:

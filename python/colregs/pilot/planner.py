@@ -12,7 +12,8 @@ from colregs.pilot.scenario import PilotScenario, Stage, Window
 from colregs.pilot.states import Answer, Cause, Leg, Plan, Reason, Track
 
 LEAST_WAIT = 0.2       # s: a run gets at least so long, even when the time for an answer is nearly over
-CAUSES = {1: Cause.EVERY_PLAN_FAILS, 3: Cause.SCENARIO, 7: Cause.LIMIT, 9: Cause.OWN_UNREADY}     # by status (docs/REPORT.md)
+# by status (docs/REPORT.md)
+CAUSES = {1: Cause.EVERY_PLAN_FAILS, 3: Cause.SCENARIO, 7: Cause.LIMIT, 9: Cause.OWN_UNREADY}
 
 
 @dataclass(frozen=True)
@@ -51,21 +52,26 @@ def read_plan(report: Report, window: Window) -> Plan | None:
     """Returns the plan of a report, or nothing if its rows are no plan."""
     rows = report.rows("plan")
     try:
-        legs = tuple(Leg(int(row[3]) / 10, int(row[4]) / 10, window.start + int(row[5]) * window.tick, window.start + int(row[6]) * window.tick)
-                     for row in rows)
+        legs = tuple(
+            Leg(
+                int(row[3]) / 10,
+                int(row[4]) / 10, window.start + int(row[5]) * window.tick, window.start + int(row[6]) * window.tick)
+            for row in rows)
         return Plan(int(rows[0][1]), window.ends, legs)
     except (IndexError, ValueError):
         return None
 
 
 def read_reasons(report: Report, choices: Choices, reported: Track, window: Window) -> tuple[Reason, ...]:
-    """Returns the reasons of a report of `plan --why`. A choice's number is that of its course times the count of speeds, and of its speed."""
+    """Returns the reasons of a report of `plan --why`. A choice's number is that of its course times the count of
+    speeds, and of its speed."""
     found = []
     for row in report.rows("why"):
         numbers = [divmod(int(number), len(choices.speeds)) for number in row[1].split(".")]
-        found.append(Reason(tuple((round(reported.course * 10) + choices.courses[course]) % 3600 / 10 for course, _ in numbers),
-                            tuple((round(reported.speed * 10) + choices.speeds[speed]) / 10 for _, speed in numbers),
-                            int(row[2]), row[3], window.start + int(row[4]) * window.tick))
+        found.append(
+            Reason(tuple((round(reported.course * 10) + choices.courses[course]) % 3600 / 10 for course, _ in numbers),
+                   tuple((round(reported.speed * 10) + choices.speeds[speed]) / 10 for _, speed in numbers),
+                   int(row[2]), row[3], window.start + int(row[4]) * window.tick))
     return tuple(found)
 
 
@@ -77,7 +83,8 @@ class Planner:
         self.scenario, self.runner, self.barrier = scenario, runner, barrier
 
     def ask(self, question: Question, recheck: bool = True) -> Answer:
-        """Returns the first plan of the first stage that has one, or the cause why no stage has one, with an escape if there is one."""
+        """Returns the first plan of the first stage that has one, or the cause why no stage has one, with an escape if
+        there is one."""
         patience, answer, asked = Patience(question.seconds), Answer(cause=Cause.EVERY_PLAN_FAILS), 0
         for stage in self.scenario.stages:
             answer = self.ask_stage(question, stage, patience, recheck)
@@ -111,9 +118,11 @@ class Planner:
             return answer
         return replace(answer, cause=Cause.AREAS, words="each plan that enters no area fails; %s" % area)
 
-    def ask_once(self, question: Question, stage: Stage, without: tuple[float, ...], patience: Patience, recheck: bool) -> Answer | None:
+    def ask_once(self, question: Question, stage: Stage, without: tuple[float, ...], patience: Patience,
+                 recheck: bool) -> Answer | None:
         """Returns the program's answer without some courses of the first leg, or nothing if no course is left."""
-        reported = question.reported or question.track        # without a report the program answers that own ship is not ready
+        # without a report the program answers that own ship is not ready
+        reported = question.reported or question.track
         choices = rewritten(stage.offsets, question.track, reported, without)
         if not choices.courses:
             return None
@@ -127,22 +136,27 @@ class Planner:
             return Answer(cause=cause, words=status_words(report))
         return self.refusal(question, report, choices, reported, scenario, patience if recheck else None)
 
-    def refusal(self, question: Question, report: Report, choices: Choices, reported: Track, scenario: str, patience: Patience | None) -> Answer:
-        """Returns the answer that every plan fails, with its reasons, which `recheck` confirms if there is patience for it."""
+    def refusal(self, question: Question, report: Report, choices: Choices, reported: Track, scenario: str,
+                patience: Patience | None) -> Answer:
+        """Returns the answer that every plan fails, with its reasons, which `recheck` confirms if there is patience for
+        it."""
         checked = None
         if patience is not None:
             again = self.runner.report("recheck", scenario, question.log, rows=report.text, timeout=patience.left())
             checked = {0: True, 10: False}.get(again.status)
         words = "every plan fails: %d courses and %d speeds for a leg" % (len(choices.courses), len(choices.speeds))
-        return Answer(cause=Cause.EVERY_PLAN_FAILS, words=words, reasons=read_reasons(report, choices, reported, question.window), checked=checked)
+        reasons = read_reasons(report, choices, reported, question.window)
+        return Answer(cause=Cause.EVERY_PLAN_FAILS, words=words, reasons=reasons, checked=checked)
 
     def escape(self, question: Question, patience: Patience) -> Plan | None:
-        """Returns a plan that enters no domain and no area whatever rule it breaks, or nothing. What own ship steers comes first."""
+        """Returns a plan that enters no domain and no area whatever rule it breaks, or nothing. What own ship steers
+        comes first."""
         stage = self.scenario.stages[-1]
         reported = question.reported or question.track
         without = list[float]()
         while True:
-            choices = rewritten(widened(stage.offsets, question.track, question.holding), question.track, reported, without)
+            choices = rewritten(widened(stage.offsets, question.track, question.holding), question.track, reported,
+                                without)
             if not choices.courses:
                 return None
             scenario = self.scenario.text(question.window, choices, stage, has_rules=False)

@@ -1,4 +1,5 @@
-"""The sentences that the pilot holds: those of the last stretch of time, and each vessel's last static data, however old."""
+"""The sentences that the pilot holds: those of the last stretch of time, and each vessel's last static data, however
+old."""
 from __future__ import annotations
 
 from collections import deque
@@ -13,7 +14,8 @@ MOST_STATIC = 4096                 # vessels whose static data is held, as many 
 
 
 def part_letter(payload: bytes) -> bytes:
-    """Returns which part of message 24 a payload is, and nothing for other messages: bits 38 and 39 lie in the seventh letter."""
+    """Returns which part of message 24 a payload is, and nothing for other messages: bits 38 and 39 lie in the seventh
+    letter."""
     if payload[:1] != b"H" or len(payload) < 7:
         return b""
     code = payload[6] - 48
@@ -28,7 +30,8 @@ class Record:
         self.history = history
         self.lines: deque[tuple[int, bytes]] = deque()
         self.statics: dict[int, dict[bytes, tuple[bytes, ...]]] = {}
-        self.begun: dict[int, tuple[list[bytes], tuple[bytes, ...]]] = {}      # messages 5 of which the second part is still to come
+        # messages 5 whose second part has not come yet
+        self.begun: dict[int, tuple[list[bytes], tuple[bytes, ...]]] = {}
         self.senders, self.bytes, self.unread = Senders(), 0, 0
 
     def take(self, line: bytes, now: int) -> None:
@@ -46,7 +49,8 @@ class Record:
         self.forget(now)
 
     def take_static(self, sentence: bytes) -> None:
-        """Holds a sentence of static data, of whose vessel it may be the only one in a long time; one of several parts once all are there."""
+        """Holds a sentence of static data, of whose vessel it may be the only one in a long time; one of several parts
+        once all are there."""
         mmsi = self.senders.of(sentence)
         fields = sentence.split(b",", 6)
         if mmsi is None or len(fields) < 7:
@@ -76,7 +80,11 @@ class Record:
         return self.lines[0][0] if self.lines else None
 
     def log(self, begins: int, ends: int) -> bytes:
-        """Returns the lines of a stretch of time as a log; each vessel's last static data comes first, as of its beginning."""
-        static = [block(begins) + sentence for kinds in self.statics.values() for parts in kinds.values() for sentence in parts]
+        """Returns the lines of a stretch of time as a log; each vessel's last static data comes first, as of its
+        beginning."""
+        static = [
+            block(begins) + sentence for kinds in self.statics.values() for parts in kinds.values()
+            for sentence in parts
+        ]
         found = [line for at, line in self.lines if begins <= at <= ends]
         return b"".join(line + b"\n" for line in static + found)

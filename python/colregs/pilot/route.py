@@ -47,7 +47,8 @@ class OneTrack:
 
 
 class Route:
-    """Waypoints in metres on the plane, and the speed in knots of the leg to each. Own ship goes to the second first."""
+    """Waypoints in metres on the plane, and the speed in knots of the leg to each. Own ship goes to the second
+    first."""
 
     def __init__(self, places: list[Place], speeds: list[float]) -> None:
         """Takes at least two waypoints; the speed of the first is not used."""
@@ -89,7 +90,8 @@ class Route:
 
 
 def read_route(path: str, latitude: int, longitude: int, speed: float | None) -> Route:
-    """Reads a route: a CSV file with a head `latitude,longitude` in degrees, and perhaps `speed` in knots of the leg to each waypoint.
+    """Reads a route: a CSV file with a head `latitude,longitude` in degrees, and perhaps `speed` in knots of the leg to
+    each waypoint.
 
     The reference of the plane is in 1/10000 minute. A Fault names the line that is wrong.
     """
@@ -106,7 +108,10 @@ def read_route(path: str, latitude: int, longitude: int, speed: float | None) ->
             if knots is None or not (abs(degrees[0]) <= 90 and abs(degrees[1]) <= 180 and 0 < knots <= FASTEST):
                 raise ValueError
         except (KeyError, TypeError, ValueError):
-            raise Fault(f"{path}, line {number}: no waypoint: a latitude and a longitude in degrees, and a speed in knots here or in --speed") from None
+            raise Fault(
+                f"{path}, line {number}: no waypoint: a latitude and a longitude in degrees, and a speed in knots here "
+                "or in --speed"
+            ) from None
         places.append(on_plane(degrees, latitude, longitude))
         speeds.append(round(knots * 10) / 10)
     if len(places) < 2 or any(math.dist(one, two) < 1 for one, two in zip(places, places[1:])):
@@ -115,7 +120,8 @@ def read_route(path: str, latitude: int, longitude: int, speed: float | None) ->
 
 
 def on_plane(degrees: tuple[float, float], latitude: int, longitude: int) -> Place:
-    """Returns the place in metres of a latitude and a longitude in degrees, on the plane of a reference in 1/10000 minute (docs/PLANE.md)."""
+    """Returns the place in metres of a latitude and a longitude in degrees, on the plane of a reference in 1/10000
+    minute (docs/PLANE.md)."""
     change = (degrees[1] * 600000 - longitude + 108000000) % 216000000 - 108000000
     cosine = math.cos(math.radians(round(abs(latitude) / 60000) / 10))
     return change / 10000 * 1852 * cosine, (degrees[0] * 600000 - latitude) / 10000 * 1852

@@ -1,4 +1,5 @@
-"""Runs the program on a scenario and a log that are in memory: one small interface, so that a library can take the place of a process."""
+"""Runs the program on a scenario and a log that are in memory: one small interface, so that a library can take the
+place of a process."""
 from __future__ import annotations
 
 import importlib
@@ -20,7 +21,8 @@ MEMORY = "/dev/shm"                  # files that live in memory: a plan waits f
 
 @dataclass(frozen=True)
 class Report:
-    """What a run wrote: its status (docs/REPORT.md; negative if a signal ended it), its rows, its words, and its seconds."""
+    """What a run wrote: its status (docs/REPORT.md; negative if a signal ended it), its rows, its words, and its
+    seconds."""
 
     status: int
     text: str
@@ -28,7 +30,8 @@ class Report:
     seconds: float
 
     def rows(self, kind: str) -> list[list[str]]:
-        """Returns the fields of each row of a kind. Only a vessel's name may hold a comma, and its row is not split here."""
+        """Returns the fields of each row of a kind. Only a vessel's name may hold a comma, and its row is not split
+        here."""
         head = kind + ","
         return [line.split(",") for line in self.text.split("\n") if line.startswith(head)]
 
@@ -36,8 +39,10 @@ class Report:
 class Runner(Protocol):
     """Runs one mode on a scenario and a log."""
 
-    def report(self, mode: str, scenario: str, log: bytes, rows: str | None = None, why: bool = False, timeout: float = 60) -> Report:
-        """Returns the report. `rows` is the text that `recheck` checks, `why` asks `plan` for its reasons, `timeout` is in seconds."""
+    def report(self, mode: str, scenario: str, log: bytes, rows: str | None = None, why: bool = False,
+               timeout: float = 60) -> Report:
+        """Returns the report. `rows` is the text that `recheck` checks, `why` asks `plan` for its reasons, `timeout` is
+        in seconds."""
         ...
 
 
@@ -68,8 +73,10 @@ class ProcessRunner:
             out.write(text)
         return path
 
-    def report(self, mode: str, scenario: str, log: bytes, rows: str | None = None, why: bool = False, timeout: float = 60) -> Report:
-        """Returns the report of one process. A process that ends by a signal, hangs or is missing gives a status with words, and no fault."""
+    def report(self, mode: str, scenario: str, log: bytes, rows: str | None = None, why: bool = False,
+               timeout: float = 60) -> Report:
+        """Returns the report of one process. A process that ends by a signal, hangs or is missing gives a status with
+        words, and no fault."""
         begin = time.monotonic()
         try:
             words = [self.program, mode, self.file("scenario.toml", scenario)]
@@ -78,13 +85,15 @@ class ProcessRunner:
         except subprocess.TimeoutExpired:
             return Report(NO_ANSWER, "", "the program gave no answer in %.1f s" % timeout, time.monotonic() - begin)
         except OSError as error:
-            return Report(MISSING, "", "%s cannot be run: %s" % (self.program, (error.strerror or str(error)).lower()), time.monotonic() - begin)
+            return Report(MISSING, "", "%s cannot be run: %s" % (self.program, (error.strerror or str(error)).lower()),
+                          time.monotonic() - begin)
         told = done.stderr.decode("utf-8", "replace").strip()
         return Report(done.returncode, done.stdout.decode("utf-8", "replace"), told, time.monotonic() - begin)
 
 
 class LibraryRunner:
-    """Runs the program's code in this process, by a call of `colregs.library`. A call that hangs is left behind in its thread."""
+    """Runs the program's code in this process, by a call of `colregs.library`. A call that hangs is left behind in its
+    thread."""
 
     def __init__(self, call: Callable[..., Any]) -> None:
         """Takes `colregs.library.report`, or what has its form."""
@@ -93,8 +102,10 @@ class LibraryRunner:
     def close(self) -> None:
         """Does nothing: there is no folder."""
 
-    def report(self, mode: str, scenario: str, log: bytes, rows: str | None = None, why: bool = False, timeout: float = 60) -> Report:
-        """Returns the report of one call; what the call raises, and a call that takes too long, is a status with words."""
+    def report(self, mode: str, scenario: str, log: bytes, rows: str | None = None, why: bool = False,
+               timeout: float = 60) -> Report:
+        """Returns the report of one call; what the call raises, and a call that takes too long, is a status with
+        words."""
         begin, made = time.monotonic(), list[Report]()
 
         def work() -> None:
@@ -107,11 +118,16 @@ class LibraryRunner:
         thread.start()
         thread.join(timeout)
         taken = time.monotonic() - begin
-        return replace(made[0], seconds=taken) if made else Report(NO_ANSWER, "", "the library gave no answer in %.1f s" % timeout, taken)
+        return (
+            replace(made[0], seconds=taken)
+            if made
+            else Report(NO_ANSWER, "", "the library gave no answer in %.1f s" % timeout, taken)
+        )
 
 
 def runner_of(program: str | None) -> ClosingRunner:
-    """Returns a runner of the program that is given; of the library if none is given and it is installed; otherwise of the program that is found."""
+    """Returns a runner of the program that is given; of the library if none is given and it is installed; otherwise of
+    the program that is found."""
     if program is None:
         try:
             library = importlib.import_module("colregs.library")

@@ -1,4 +1,5 @@
-"""A scenario of the pilot: the numbers of its file, and the text for one moment with a window and choices of its own."""
+"""A scenario of the pilot: the numbers of its file, and the text for one moment with a window and choices of its
+own."""
 from __future__ import annotations
 
 import json
@@ -34,7 +35,8 @@ def text_of(words: str) -> str:
 
 @dataclass(frozen=True)
 class Stage:
-    """One set of choices: offsets against the track, how many legs of how many ticks, and how many ticks more the last leg is held."""
+    """One set of choices: offsets against the track, how many legs of how many ticks, and how many ticks more the last
+    leg is held."""
 
     offsets: Offsets
     legs: int
@@ -73,7 +75,9 @@ def table_lines(values: Values) -> list[str]:
 
 def document_text(values: Values) -> str:
     """Returns values as a TOML document, comments aside: first the keys that are no tables, then the tables."""
-    lines = table_lines({key: value for key, value in values.items() if not isinstance(value, Mapping) and not is_table_list(value)})
+    lines = table_lines(
+        {key: value for key, value in values.items() if not isinstance(value, Mapping) and not is_table_list(value)}
+    )
     for key, value in values.items():
         if isinstance(value, Mapping):
             lines += ["[%s]" % text_of(key), *table_lines(value)]
@@ -96,7 +100,7 @@ def whole_list(values: Values, table: str, key: str) -> tuple[int, ...]:
     """Returns a list of integers of a table; a Fault names the key if it is none."""
     part = values.get(table)
     value = part.get(key) if isinstance(part, Mapping) else None
-    if not isinstance(value, list) or not value or not all(isinstance(item, int) and not isinstance(item, bool) for item in value):
+    if not isinstance(value, list) or not value or any(type(item) is not int for item in value):
         raise Fault("scenario: %s.%s is missing or is no list of integers" % (table, key))
     return tuple(value)
 
@@ -135,7 +139,8 @@ class PilotScenario:
         return whole(self.values, "own", key) if isinstance(own, Mapping) and key in own else at_once
 
     def read_stages(self) -> tuple[Stage, ...]:
-        """Returns the stages of the table `pilot`, in which a key that is left out is that of `own`; without any, `own` is the only one."""
+        """Returns the stages of the table `pilot`, in which a key that is left out is that of `own`; without any, `own`
+        is the only one."""
         pilot = self.values.get("pilot")
         listed = pilot.get("stages", [{}]) if isinstance(pilot, Mapping) else [{}]
         if not isinstance(listed, list) or not listed or not all(isinstance(item, Mapping) for item in listed):
@@ -167,13 +172,15 @@ class PilotScenario:
             values["pilot"] = {"stages": [dict(item) | changes for item in stages]}
         return PilotScenario(values, self.name)
 
-    def text(self, window: Window, choices: Choices | None = None, stage: Stage | None = None, subjects: tuple[int, ...] = (),
-             has_rules: bool = True) -> str:
+    def text(self, window: Window, choices: Choices | None = None, stage: Stage | None = None,
+             subjects: tuple[int, ...] = (), has_rules: bool = True) -> str:
         """Returns the scenario for a window, with own ship's choices of a stage, and with subjects if there are any.
 
         Without rules no vessel is watched but one within a metre, so that only the domains are left.
         """
-        values: dict[str, object] = {key: value for key, value in self.values.items() if key not in ("subjects", "pilot")}
+        values: dict[str, object] = {
+            key: value for key, value in self.values.items() if key not in ("subjects", "pilot")
+        }
         values["window"] = {"start": window.start, "tick": self.tick, "ticks": window.ticks}
         if subjects:
             values["subjects"] = list(subjects)

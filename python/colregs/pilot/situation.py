@@ -1,4 +1,5 @@
-"""Where own ship and the others are now, how near they come, and which rules bind own ship: all from the program's rows."""
+"""Where own ship and the others are now, how near they come, and which rules bind own ship: all from the program's
+rows."""
 from __future__ import annotations
 
 import csv
@@ -10,14 +11,17 @@ from colregs.pilot.runner import Report
 from colregs.pilot.scenario import PilotScenario, Window
 from colregs.pilot.states import Plan, Track
 
-BINDING = {"overtaking": ("r13", "r16"), "overtaken": ("r17a", "r17b"), "head_on": ("r14a", "r14b", "r14p"), "crossing_gives": ("r15", "r16"),
-           "crossing_stands": ("r17a", "r17b", "r17c")}       # docs/RULES.md: by the kind of a meeting
+BINDING = {
+    "overtaking": ("r13", "r16"), "overtaken": ("r17a", "r17b"), "head_on": ("r14a", "r14b", "r14p"),
+    "crossing_gives": ("r15", "r16"), "crossing_stands": ("r17a", "r17b", "r17c")
+}  # docs/RULES.md: by the kind of a meeting
 ALWAYS = ("r8b", "r8d")                                        # bind in a meeting of any kind
 
 
 @dataclass(frozen=True)
 class Sighting:
-    """A vessel's latest accepted report: its time, her place in metres on the plane, and her course and speed if she reports both."""
+    """A vessel's latest accepted report: its time, her place in metres on the plane, and her course and speed if she
+    reports both."""
 
     mmsi: int
     time: int
@@ -66,15 +70,20 @@ def latest_sightings(points: Report) -> dict[int, Sighting]:
 def lasting_meetings(audit: Report, own: int, window: Window, gap: int) -> list[Meeting]:
     """Returns own ship's meetings that may last, among the rows of an audit of a window that ends now.
 
-    An audit sees a vessel no longer than to her last report. So a meeting that ends less than the gap ago counts as one that lasts.
+    An audit sees a vessel no longer than to her last report. So a meeting that ends less than the gap ago counts as one
+    that lasts.
     """
     late = window.ticks - 2 - -(-gap // window.tick)
-    last = {int(row[2]): Meeting(int(row[2]), row[3], window.start + int(row[4]) * window.tick) for row in audit.rows("meeting")
-            if int(row[1]) == own and int(row[5]) >= late}
+    last = {
+        int(row[2]): Meeting(int(row[2]), row[3], window.start + int(row[4]) * window.tick)
+        for row in audit.rows("meeting")
+        if int(row[1]) == own and int(row[5]) >= late
+    }
     return list(last.values())
 
 
-def targets_of(scenario: PilotScenario, sightings: dict[int, Sighting], meetings: list[Meeting], plan: Plan | None, now: int) -> list[Target]:
+def targets_of(scenario: PilotScenario, sightings: dict[int, Sighting], meetings: list[Meeting], plan: Plan | None,
+               now: int) -> list[Target]:
     """Returns the targets of own ship at a time, the nearest first (docs/PLAN.md), or none if own ship is not seen."""
     own = sightings.get(scenario.own)
     if own is None:
@@ -98,6 +107,7 @@ def targets_of(scenario: PilotScenario, sightings: dict[int, Sighting], meetings
 
 
 def names_of(plan: Report) -> dict[int, tuple[str, int]]:
-    """Returns the name and the length in metres of each vessel among the rows of a report; a name may hold commas and quotes."""
+    """Returns the name and the length in metres of each vessel among the rows of a report; a name may hold commas and
+    quotes."""
     lines = [line for line in plan.text.split("\n") if line.startswith("vessel,")]
     return {int(row[1]): (row[2], int(row[4])) for row in csv.reader(lines) if len(row) == 7}

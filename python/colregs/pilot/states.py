@@ -1,6 +1,7 @@
 """What the pilot says at each moment, and how one answer of the program becomes the next thing to steer.
 
-Everything here is pure: `decide` takes the memory, an answer, the time and the track, and returns the next memory and the decision.
+Everything here is pure: `decide` takes the memory, an answer, the time and the track, and returns the next memory and
+the decision.
 """
 from __future__ import annotations
 
@@ -73,7 +74,8 @@ class Plan:
 
 @dataclass(frozen=True)
 class Reason:
-    """Why all plans that begin with these courses (degrees) and speeds (knots) fail: a target and a domain or a rule, at a time."""
+    """Why all plans that begin with these courses (degrees) and speeds (knots) fail: a target and a domain or a rule,
+    at a time."""
 
     courses: tuple[float, ...]
     speeds: tuple[float, ...]
@@ -97,7 +99,8 @@ class Answer:
 
 @dataclass(frozen=True)
 class Memory:
-    """What the pilot remembers from one moment to the next: the last plan, and the last course and speed that it ordered."""
+    """What the pilot remembers from one moment to the next: the last plan, and the last course and speed that it
+    ordered."""
 
     plan: Plan | None = None
     order: Track | None = None
@@ -117,7 +120,8 @@ class Decision:
     reasons: tuple[Reason, ...] = ()
     checked: bool | None = None
     promised: bool = False             # whether the course and speed are those of a plan with its promise
-    escaping: bool = False             # whether they are those of a plan that keeps out of all domains, and breaks a rule
+    # whether they are those of a plan that keeps out of all domains, and breaks a rule
+    escaping: bool = False
 
 
 def swing(before: float, after: float) -> float:
@@ -128,8 +132,9 @@ def swing(before: float, after: float) -> float:
 def decide(memory: Memory, answer: Answer, now: int, track: Track) -> tuple[Memory, Decision]:
     """Returns the next memory and the decision at `now`, in seconds since the Unix epoch.
 
-    A new plan is steered. Without one the last plan is steered while its promise lasts. If to go on so would leave no way out of all domains,
-    or no promise is left, the escape is steered if there is one, and otherwise the last course and speed ordered.
+    A new plan is steered. Without one the last plan is steered while its promise lasts. If to go on so would leave no
+    way out of all domains, or no promise is left, the escape is steered if there is one, and otherwise the last course
+    and speed ordered.
     """
     if answer.plan is not None:
         return followed(answer, answer.plan, now, track)
@@ -137,8 +142,8 @@ def decide(memory: Memory, answer: Answer, now: int, track: Track) -> tuple[Memo
     if answer.escape is not None and not (held is not None and orders(answer.escape.legs[0], held)):
         return escaped(answer, answer.escape, now)
     last = held or memory.order or track
-    decision = Decision(unplanned_state(answer.cause, held is not None), last.course, last.speed, cause=answer.cause, words=answer.words,
-                        reasons=answer.reasons, checked=answer.checked, promised=held is not None)
+    decision = Decision(unplanned_state(answer.cause, held is not None), last.course, last.speed, cause=answer.cause,
+                        words=answer.words, reasons=answer.reasons, checked=answer.checked, promised=held is not None)
     if held is None or memory.plan is None:
         return Memory(None, last), decision
     ahead = tuple(each for each in memory.plan.legs if now < each.ends)
@@ -157,10 +162,11 @@ def orders(leg: Leg, track: Track) -> bool:
 
 
 def escaped(answer: Answer, escape: Plan, now: int) -> tuple[Memory, Decision]:
-    """Returns the memory and the decision where only a plan is left that breaks a rule: own ship keeps out of all domains."""
+    """Returns the memory and the decision where only a plan is left that breaks a rule: own ship keeps out of all
+    domains."""
     leg = escape.leg_at(now) or escape.legs[0]
-    decision = Decision(unplanned_state(answer.cause, False), leg.course, leg.speed, escape.legs, cause=answer.cause, words=answer.words,
-                        reasons=answer.reasons, checked=answer.checked, escaping=True)
+    decision = Decision(unplanned_state(answer.cause, False), leg.course, leg.speed, escape.legs, cause=answer.cause,
+                        words=answer.words, reasons=answer.reasons, checked=answer.checked, escaping=True)
     return Memory(None, Track(leg.course, leg.speed)), decision
 
 
@@ -173,7 +179,8 @@ def followed(answer: Answer, plan: Plan, now: int, track: Track) -> tuple[Memory
 
 
 def unplanned_state(cause: Cause | None, has_promise: bool) -> State:
-    """Returns the state where there is no new plan. A stalled input and an unready own ship are named even while a promise lasts."""
+    """Returns the state where there is no new plan. A stalled input and an unready own ship are named even while a
+    promise lasts."""
     if cause is Cause.STALE:
         return State.STALE
     if cause is Cause.OWN_UNREADY:

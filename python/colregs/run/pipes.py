@@ -8,9 +8,11 @@ from typing import BinaryIO
 
 from colregs.errors import Fault
 from colregs.io.packing import packing
+from colregs.run.children import CHILDREN
 from colregs.run.program import TOP
 
-PACKAGE = os.path.dirname(os.path.dirname(os.path.dirname(os.path.abspath(__file__))))      # the folder in which the package lies
+# the folder in which the package lies
+PACKAGE = os.path.dirname(os.path.dirname(os.path.dirname(os.path.abspath(__file__))))
 READERS = {"plain": "cat --", "gzip": "gzip -dc --", "xz": "xz -dc --", "bzip2": "bzip2 -dc --", "zstd": "zstd -dcq --"}
 TOOL = os.path.join(TOP, "tools", "colregs-many")
 
@@ -42,11 +44,14 @@ class Ended:
 
 
 def piped(command: str, words: list[str], out: BinaryIO, error: BinaryIO) -> Ended:
-    """Runs the program after a command of the shell that writes its log; what the shell says goes to the file `error`."""
-    with subprocess.Popen(["bash", "-c", "set -o pipefail; " + command], stdout=subprocess.PIPE, stderr=error) as log:
-        done = subprocess.run(words, stdin=log.stdout, stdout=out, stderr=subprocess.PIPE)
+    """Runs the program after a command of the shell that writes its log; what the shell says goes to the file
+    `error`."""
+    log = CHILDREN.started(["bash", "-c", "set -o pipefail; " + command], stdout=subprocess.PIPE, stderr=error)
+    with log:
+        done = CHILDREN.run(words, stdin=log.stdout, stdout=out, stderr=subprocess.PIPE)
         if log.stdout:
             log.stdout.close()
+    CHILDREN.ended(log)
     error.seek(0)
     said = (done.stderr or error.read()).decode("utf-8", "replace").strip()
     return Ended(done.returncode, said, log.returncode == 0)

@@ -10,7 +10,8 @@ from typing import NamedTuple
 from colregs.errors import Fault, reason
 from colregs.run.limits import next_step
 
-TOP = os.path.dirname(os.path.dirname(os.path.dirname(os.path.dirname(os.path.abspath(__file__)))))     # a clone, a tarball, or nothing of ours
+# a clone, a tarball, or nothing of ours
+TOP = os.path.dirname(os.path.dirname(os.path.dirname(os.path.dirname(os.path.abspath(__file__)))))
 BUILT = os.path.join(TOP, "crates", "colregs", "out", "colregs")      # what the command at the top of a clone runs
 VARIABLE = "COLREGS_PROGRAM"
 
@@ -27,26 +28,32 @@ def on_path() -> str | None:
 
 
 def beside() -> str | None:
-    """Returns where the program is if it lies beside the tool; None if the tool is no file, for then the current folder would count."""
+    """Returns where the program is if it lies beside the tool; None if the tool is no file, for then the current folder
+    would count."""
     tool = os.path.realpath(sys.argv[0])
-    return os.path.join(os.path.dirname(tool), "colregs") if not sys.argv[0].startswith("-") and os.path.isfile(tool) else None
+    return os.path.join(os.path.dirname(tool),
+                        "colregs") if not sys.argv[0].startswith("-") and os.path.isfile(tool) else None
 
 
 def built(path: str) -> str:
-    """Returns the program that a path is, or, if it is the command at the top of a clone, the program that the command runs.
+    """Returns the program that a path is, or, if it is the command at the top of a clone, the program that the command
+    runs.
 
-    The command builds it if need be, without proofs, and shows its progress on standard error. Raises Fault if it cannot.
+    The command builds it if need be, without proofs, and shows its progress on standard error. Raises Fault if it
+    cannot.
     """
     if not os.path.exists(os.path.join(os.path.dirname(os.path.realpath(path)), "dev", "start")):
         return os.path.abspath(path)
-    done = subprocess.run([os.path.abspath(path), "--path"], stdin=subprocess.DEVNULL, stdout=subprocess.PIPE, text=True)
+    done = subprocess.run([os.path.abspath(path), "--path"], stdin=subprocess.DEVNULL, stdout=subprocess.PIPE,
+                          text=True)
     if done.returncode:
         raise Fault(f"there is no program to run: {path} --path ended with status {done.returncode}")
     return done.stdout.rstrip("\n")
 
 
 def found(given: str | None = None) -> str:
-    """Returns the program that is given, or that COLREGS_PROGRAM names, or that of this clone, or beside the tool, or on PATH."""
+    """Returns the program that is given, or that COLREGS_PROGRAM names, or that of this clone, or beside the tool, or
+    on PATH."""
     named = given or os.environ.get(VARIABLE)
     if named:
         if not is_program(named):
@@ -67,7 +74,8 @@ def programs_of(program: str) -> list[str]:
 def version_of(program: str) -> str:
     """Returns what the program says of its version."""
     try:
-        done = subprocess.run([program, "--version"], stdin=subprocess.DEVNULL, stdout=subprocess.PIPE, stderr=subprocess.PIPE)
+        done = subprocess.run([program, "--version"], stdin=subprocess.DEVNULL, stdout=subprocess.PIPE,
+                              stderr=subprocess.PIPE)
     except OSError as error:
         raise Fault(f"{program}: {reason(error)}") from None
     return done.stdout.decode(errors="replace").strip() or "unknown"
@@ -90,10 +98,12 @@ class Run:
     def __init__(self, program: str, mode: str, scenario: str, log: str, options: Sequence[str] = ()) -> None:
         try:
             with open(log, "rb") as source:
-                done = subprocess.run([os.path.abspath(program), mode, scenario, *options], stdin=source, stdout=subprocess.PIPE, stderr=subprocess.PIPE)
+                done = subprocess.run([os.path.abspath(program), mode, scenario, *options], stdin=source,
+                                      stdout=subprocess.PIPE, stderr=subprocess.PIPE)
         except OSError as error:
             raise Fault(f"{error.filename} cannot be opened: {reason(error)}") from None
-        self.status, self.text, self.words = done.returncode, done.stdout, done.stderr.decode("utf-8", "replace").strip()
+        self.status, self.text = done.returncode, done.stdout
+        self.words = done.stderr.decode("utf-8", "replace").strip()
 
     def rows(self, kind: str) -> list[list[bytes]]:
         """Returns the fields of each row of a kind; only a vessel's name may hold a comma."""
@@ -112,6 +122,13 @@ class Run:
         return {fields[1].decode(): int(fields[2]) for fields in self.rows("lines")}
 
 
+def known_run(text: str) -> Run:
+    """Returns a run that ended well and wrote this text, for reports that are known already."""
+    run = Run.__new__(Run)
+    run.status, run.text, run.words = 0, text.encode(), ""
+    return run
+
+
 def run_text(program: str, mode: str, text: str, log: str) -> Run:
     """Runs the program with a scenario that is given as text."""
     with tempfile.NamedTemporaryFile("w", suffix=".toml", encoding="utf-8") as out:
@@ -120,8 +137,10 @@ def run_text(program: str, mode: str, text: str, log: str) -> Run:
         return Run(program, mode, out.name, log)
 
 
-def report_of(program: str, mode: str, scenario: str, log: str, good: Container[int] = (0,), options: Sequence[str] = ()) -> str:
-    """Returns the report of the program; raises a Fault with its line on standard error if its status is not a good one."""
+def report_of(program: str, mode: str, scenario: str, log: str, good: Container[int] = (0,),
+              options: Sequence[str] = ()) -> str:
+    """Returns the report of the program; raises a Fault with its line on standard error if its status is not a good
+    one."""
     done = Run(program, mode, scenario, log, options)
     if done.status not in good:
         step = next_step(done.status, done.words) or "; docs/ROWS.md says what to do at each status"

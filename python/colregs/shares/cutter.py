@@ -1,27 +1,31 @@
-"""Cuts a share's log out of the lines of its files. It runs as a process of its own: `cutter` on standard input, with a Cut as JSON.
+"""Cuts a share's log out of the lines of its files. It runs as a process of its own: `cutter` on standard input, with a
+Cut as JSON.
 
-A window of a longer log is read as the whole log reads it: lines outside its window of lines go, with those that have no stamp of their own and take
-their time from such a line, and with those that are late by a stamp behind the window's end. Before the first line stand the ship types that were
-reported before.
+A window of a longer log is read as the whole log reads it: lines outside its window of lines go, with those that have
+no stamp of their own and take their time from such a line, and with those that are late by a stamp behind the window's
+end. Before the first line stand the ship types that were reported before.
 """
 import dataclasses
 import json
 import sys
 from collections.abc import Iterable, Iterator, Mapping
 from dataclasses import dataclass
+from typing import Any, BinaryIO
 
 from colregs.io.lines import LONGEST, Stamps
 from colregs.io.sentences import block, hull_part, sentence
 from colregs.io.sieve import Sieve, part_of
+from colregs.shares.reads import COPY, LINES, SEEK, SKIP, Ended, Read, lines_within, needed, opened, pieces, skip
 
 
 @dataclass
 class Cut:
     """Says what of a log is a share's.
 
-    `first` and `last` bound the share's window of lines in seconds, `begin` and `end` that of the whole audit. `time` and `clock` are the last stamp
-    before the files, and the greatest one that counts. `types` are ship types to begin with. `vessels`, or `part` as a place and a count, are the
-    vessels whose lines are left; if neither is given, all are.
+    `first` and `last` bound the share's window of lines in seconds, `begin` and `end` that of the whole audit. `time`
+    and `clock` are the last stamp before the files, and the greatest one that counts. `types` are ship types to begin
+    with. `vessels`, or `part` as a place and a count, are the vessels whose lines are left; if neither is given, all
+    are.
     """
 
     first: int
@@ -35,60 +39,141 @@ class Cut:
     vessels: list[int] | None = None
     part: tuple[int, int] | None = None
 
+    def told(self) -> dict[str, Any]:
+        """Returns the cut as JSON can hold it."""
+        return dataclasses.asdict(self)
+
     def text(self) -> str:
         """Returns the cut as JSON."""
-        return json.dumps(dataclasses.asdict(self))
+        return json.dumps(self.told())
 
 
 def typed_lines(types: Mapping[str, int], at: int) -> Iterator[bytes]:
-    """Yields a message 24 for each ship type that was reported before a window, stamped at the beginning of its lines."""
+    """Yields a message 24 for each ship type that was reported before a window, stamped at the beginning of its
+    lines."""
     for mmsi, kind in sorted(types.items()):
         yield block(max(0, at)) + sentence(hull_part(int(mmsi), kind, (0, 0, 0, 0))) + b"\n"
 
 
-def cut_lines(lines: Iterable[bytes], cut: Cut) -> Iterator[bytes]:
-    """Yields the lines of the window, as the whole log has them. Lines with the tag block of the line before fare as that did."""
-    stamps, time, clock, shown = Stamps(), cut.time, cut.clock, None
-    stamp_of, first, last, begin, end, slack = stamps.of, cut.first, cut.last, cut.begin, cut.end, cut.slack
-    tag, kept = b"\n", False                        # only an empty line begins with this, and it changes nothing
-    for line in lines:
-        if line.startswith(tag) and len(line) <= LONGEST:
+class Cutting:
+    """Cuts lines to a window, as the whole log has them. What is skipped or copied unread only moves its clock."""
+
+    def __init__(self, cut: Cut) -> None:
+        self.cut, self.stamps = cut, Stamps()
+        self.time, self.clock = cut.time, cut.clock
+        self.shown: int | None = None                   # the time of the last line that was left
+
+    def lines(self, lines: Iterable[bytes]) -> Iterator[bytes]:
+        """Yields the lines of the window. Lines with the tag block of the line before fare as that did."""
+        cut, stamp_of, time, clock, shown = self.cut, self.stamps.of, self.time, self.clock, self.shown
+        first, last, begin, end, slack = cut.first, cut.last, cut.begin, cut.end, cut.slack
+        tag, kept = b"\n", False                        # only an empty line begins with this, and it changes nothing
+        for line in lines:
+            if line.startswith(tag) and len(line) <= LONGEST:
+                if kept:
+                    yield line
+                continue
+            stamp = stamp_of(line)
+            if stamp is not None:
+                time, tag = stamp, line[:line.find(b"\\", 1) + 1]
+            late = clock is not None and time is not None and clock > last and time + slack < clock
+            if stamp is not None:
+                if begin <= stamp <= end and (clock is None or stamp > clock):
+                    clock = stamp
+            if time is None:
+                if first == begin:
+                    yield line                          # its time is the start of the whole, which is this window's
+                continue
+            kept = first <= time <= last and not late
             if kept:
+                if stamp is None and shown != time:
+                    yield block(time) + b"\n"
+                shown = time
                 yield line
-            continue
-        stamp = stamp_of(line)
-        if stamp is not None:
-            time, tag = stamp, line[:line.find(b"\\", 1) + 1]
-        late = clock is not None and time is not None and clock > last and time + slack < clock
-        if stamp is not None:
-            if begin <= stamp <= end and (clock is None or stamp > clock):
-                clock = stamp
-        if time is None:
-            if first == begin:
-                yield line                          # its time is the start of the whole, which is this window's
-            continue
-        kept = first <= time <= last and not late
-        if kept:
-            if stamp is None and shown != time:
-                yield block(time) + b"\n"
-            shown = time
-            yield line
+        self.time, self.clock, self.shown = time, clock, shown
+
+    def passed(self, read: Read) -> None:
+        """Notes that bytes were skipped, or copied as they are."""
+        self.time = self.time if read.last is None else read.last
+        self.clock = max((at for at in (self.clock, read.clock) if at is not None), default=None)
+        if read.what == COPY:
+            self.shown = self.time
+
+
+def cut_lines(lines: Iterable[bytes], cut: Cut) -> Iterator[bytes]:
+    """Yields the lines of the window, as the whole log has them."""
+    yield from Cutting(cut).lines(lines)
+
+
+def cut_files(files: list[str], reads: list[list[Read]], cut: Cut) -> Iterator[bytes]:
+    """Yields the lines of the window from files, given the bytes that matter; those that are copied come in pieces."""
+    cutting = Cutting(cut)
+    for path, of_file in zip(files, reads):
+        begin = of_file[0].size if of_file and of_file[0].what == SEEK else 0
+        wanted = needed(of_file)
+        if wanted:
+            with opened(path, begin) as source:
+                yield from read_file(source, wanted, cutting)
+        for read in of_file[len(wanted):]:
+            cutting.passed(read)
+
+
+def read_file(source: BinaryIO, reads: list[Read], cutting: Cutting) -> Iterator[bytes]:
+    """Yields what is left of a file."""
+    for read in reads:
+        if read.what == LINES:
+            yield from cutting.lines(lines_within(source, read.size))
+        elif read.what == COPY:
+            yield from pieces(source, read.size)
+        elif read.what == SKIP:
+            skip(source, read.size)
+        if read.what in (SKIP, COPY):
+            cutting.passed(read)
+
+
+def lines_of(pieces_: Iterable[bytes]) -> Iterator[bytes]:
+    """Yields the lines of pieces that end anywhere, also within a line."""
+    rest = b""
+    for piece in pieces_:
+        *whole, rest = (rest + piece).split(b"\n")
+        yield from (line + b"\n" for line in whole)
+    if rest:
+        yield rest
 
 
 def share_lines(lines: Iterable[bytes], cut: Cut) -> Iterator[bytes]:
     """Yields the whole log of a share."""
     yield from typed_lines(cut.types, cut.first)
-    left = cut_lines(lines, cut)
+    yield from sifted(cut_lines(lines, cut), cut)
+
+
+def share_of_files(files: list[str], reads: list[list[Read]], cut: Cut) -> Iterator[bytes]:
+    """Yields the whole log of a share from files, given the bytes that matter."""
+    yield from typed_lines(cut.types, cut.first)
+    left = cut_files(files, reads, cut)
+    yield from left if cut.vessels is None and cut.part is None else sifted(lines_of(left), cut)
+
+
+def sifted(left: Iterable[bytes], cut: Cut) -> Iterator[bytes]:
+    """Yields the lines of the vessels that are the share's."""
     if cut.vessels is not None:
-        left = Sieve(set(cut.vessels).__contains__, cut.slack).left(left)
-    elif cut.part is not None:
-        left = Sieve(part_of(*cut.part), cut.slack).left(left)
-    yield from left
+        return Sieve(set(cut.vessels).__contains__, cut.slack).left(left)
+    return Sieve(part_of(*cut.part), cut.slack).left(left) if cut.part is not None else iter(left)
 
 
 def main() -> None:
-    """Writes the share's log to standard output; the Cut is in the file that is the one argument."""
+    """Writes the share's log to standard output; the Cut is in the file that is the one argument, perhaps with the
+    files and what to read of them."""
     with open(sys.argv[1], encoding="utf-8") as source:
-        cut = Cut(**json.load(source))
-    sys.stdout.buffer.writelines(share_lines(sys.stdin.buffer, cut))
+        told = json.load(source)
+    files, reads = told.pop("files", None), told.pop("reads", None)
+    cut = Cut(**told)
+    if reads is None:
+        log = share_lines(sys.stdin.buffer, cut)
+    else:
+        log = share_of_files(files, [[Read(*read) for read in of_file] for of_file in reads], cut)
+    try:
+        sys.stdout.buffer.writelines(log)
+    except Ended:
+        sys.exit("a file ended before what was planned of it")
     sys.stdout.buffer.flush()

@@ -1,6 +1,8 @@
-"""Whether two windows judge a vessel's reports alike: by the reports that each accepts about the beginning of the later one.
+"""Whether two windows judge a vessel's reports alike: by the reports that each accepts about the beginning of the later
+one.
 
-What is accepted depends on the last accepted report before it alone (docs/LOG.md). So from a report on that both accept they accept the same.
+What is accepted depends on the last accepted report before it alone (docs/LOG.md). So from a report on that both accept
+they accept the same.
 """
 from colregs.shares.results import Check
 
@@ -10,8 +12,9 @@ STRADDLE = 30           # s: parts of a message, and a repeated report, lie no f
 def agreed_from(earlier: list[Check], later: list[Check], begin: int, end: int, gap: int, lost: bool) -> int | None:
     """Returns the time from which on two windows accept the same reports of a vessel; None if that is not known.
 
-    `earlier` and `later` are what each accepts from `begin`, where the later window's lines begin, to `end`. `lost` says that the earlier one is not
-    known to accept what the whole does: then the two only agree after a silence, after which a report is accepted whatever came before it.
+    `earlier` and `later` are what each accepts from `begin`, where the later window's lines begin, to `end`. `lost`
+    says that the earlier one is not known to accept what the whole does: then the two only agree after a silence, after
+    which a report is accepted whatever came before it.
     """
     silence = max(gap, STRADDLE)
     first = later[0][0] if later else end + 1
@@ -19,7 +22,8 @@ def agreed_from(earlier: list[Check], later: list[Check], begin: int, end: int, 
         return begin
     known = dict(earlier)
     for before, (at, rest) in zip([None, *later], later):
-        if not lost and known.get(at) == rest and not is_repeat(before, at, rest) and not is_repeat(previous(earlier, at), at, rest):
+        repeats = is_repeat(before, at, rest) or is_repeat(previous(earlier, at), at, rest)
+        if not lost and known.get(at) == rest and not repeats:
             return at
     return None
 
@@ -30,5 +34,6 @@ def previous(checks: list[Check], at: int) -> Check | None:
 
 
 def is_repeat(before: Check | None, at: int, rest: str) -> bool:
-    """Returns whether a report shows the same as the one before so soon that it may be a repeat of one that differs in what is not shown."""
+    """Returns whether a report shows the same as the one before so soon that it may be a repeat of one that differs in
+    what is not shown."""
     return before is not None and before[1] == rest and at - before[0] <= STRADDLE

@@ -1,40 +1,61 @@
-"""Stores what a plan reads of each file of an archive, so that the next plan reads only files that are new or changed."""
+"""Stores what a plan reads of each file of an archive, so that the next plan reads only files that are new or
+changed."""
 import hashlib
 import json
 import os
 from dataclasses import asdict
 
-from colregs.errors import Fault, reason
+from colregs.errors import Fault, reason, report
 from colregs.io.files import replace
-from colregs.shares.spans import Span, read_span
+from colregs.shares.spans import Block, Span, read_span
 
-VERSION = 1             # of the stored form
+VERSION = 2             # of the stored form
 
 
 class Index:
-    """A folder with one JSON file per file of an archive, under the sum of its path; or no folder, and then every file is read."""
+    """What is stored of each file: in a folder, under the sum of its path, or in a hidden file beside it."""
 
     def __init__(self, folder: str | None) -> None:
-        self.folder = folder
+        self.folder, self.unwritable = folder, set[str]()
         if folder is not None:
             try:
                 os.makedirs(folder, exist_ok=True)
             except OSError as error:
                 raise Fault(f"{folder} cannot be written: {reason(error)}; give another folder with --index") from None
 
+    def name(self, path: str) -> str:
+        """Returns where what is known of a file is stored."""
+        if self.folder is None:
+            return os.path.join(os.path.dirname(path), f".{os.path.basename(path)}.colregs-index")
+        return os.path.join(self.folder, hashlib.sha256(os.path.realpath(path).encode()).hexdigest()[:32] + ".json")
+
     def span(self, path: str, until: int | None) -> Span:
         """Returns the span of a file; stamps after `until` count as none of its times."""
-        if self.folder is None:
-            return read_span(path, until)
-        name = os.path.join(self.folder, hashlib.sha256(os.path.realpath(path).encode()).hexdigest()[:32] + ".json")
-        state = state_of(path)
+        name, state = self.name(path), state_of(path)
         span = stored(name, path, state)
         if span is None:
             span = read_span(path, None)
-            replace(name, json.dumps({"version": VERSION, "state": state, "span": asdict(span)}).encode())
+            self.store(name,
+                       {"version": VERSION, "state": state, "span": asdict(span) | {"path": os.path.basename(path)}})
         if until is not None and any(least <= until < greatest for _, least, greatest in span.hours.values()):
             return read_span(path, until)               # the hours do not say which stamps of this one count
-        return span if until is None else Span(path, span.sum, {hour: told for hour, told in span.hours.items() if told[1] <= until}, span.last_stamp)
+        if until is not None:
+            span.hours = {hour: told for hour, told in span.hours.items() if told[1] <= until}
+        return span
+
+    def store(self, name: str, told: dict[str, object]) -> None:
+        """Stores what was read of a file. If the folder of the files cannot be written, it reports so once, and the
+        next plan reads them again."""
+        folder = os.path.dirname(name)
+        try:
+            replace(name, json.dumps(told).encode())
+        except OSError as error:
+            if self.folder is not None:
+                raise Fault(f"{folder} cannot be written: {reason(error)}; give another folder with --index") from None
+            if folder not in self.unwritable:
+                self.unwritable.add(folder)
+                report("many", f"{folder} cannot be written, so the next plan reads its files again: --index names a "
+                               "folder for what was read")
 
 
 def state_of(path: str) -> list[int]:
@@ -53,8 +74,10 @@ def stored(name: str, path: str, state: list[int]) -> Span | None:
             told = json.load(source)
         if told["version"] != VERSION or told["state"] != state:
             return None
-        hours = {int(hour): [int(value) for value in values] for hour, values in told["span"]["hours"].items()}
-        last = told["span"]["last_stamp"]
-        return Span(path, str(told["span"]["sum"]), hours, None if last is None else int(last))
+        span = told["span"]
+        hours = {int(hour): [int(value) for value in values] for hour, values in span["hours"].items()}
+        last = None if span["last_stamp"] is None else int(span["last_stamp"])
+        return Span(path, str(span["sum"]), hours, last, [Block(*block) for block in span["blocks"]],
+                    [(int(packed), int(before)) for packed, before in span["members"]], bool(span["open"]))
     except (OSError, ValueError, KeyError, TypeError, AttributeError):
         return None

@@ -1,7 +1,9 @@
-"""Shares of a long audit: jobs as JSON lines, each a window, perhaps with a group of subjects and a tile, and the folder of their results."""
+"""Shares of a long audit: jobs as JSON lines, each a window, perhaps with a group of subjects and a tile, and the
+folder of their results."""
 import hashlib
 import json
 import os
+import re
 from collections.abc import Iterable, Iterator
 from dataclasses import dataclass, field
 from typing import Any
@@ -10,21 +12,41 @@ from colregs.errors import Fault, reason
 from colregs.io.files import read_bytes, replace, sum_of
 from colregs.model.scenario import MOST_SUBJECTS, MOST_TICKS, Scenario
 from colregs.run.program import programs_of
+from colregs.shares.cuts import Reads
 from colregs.shares.cutter import Cut
+from colregs.shares.reads import COPY, LINES, SEEK, SKIP
 
-KEYS = {"files": list, "scenario": str, "start": int, "ticks": int, "subjects": list, "tile": list, "margin": int, "vessels": list,
-        "sums": list, "whole": list, "before": list, "heads": list, "types": dict, "unsure": list}
+KEYS = {
+    "files": list, "scenario": str, "start": int, "ticks": int, "subjects": list, "tile": list, "margin": int,
+    "vessels": list, "sums": list, "whole": list, "before": list, "heads": list, "types": dict, "unsure": list,
+    "reads": list
+}
 NEEDED = ("files", "scenario", "start", "ticks")
 CHECKSUM = b"sum,"                  # begins the last line of a result: the SHA-256 of all lines before it
+NEED = re.compile(rb"^need,(\d+),(\d+)$", re.M)
+TAIL = 200                          # bytes at the end of a result that hold its need and its sum
+
+
+@dataclass(frozen=True)
+class Need:
+    """What a job needed: elapsed seconds, and the kilobytes of its largest process."""
+
+    seconds: int
+    kilobytes: int
+
+    def line(self) -> bytes:
+        """Returns the need as a line of a result."""
+        return b"need,%d,%d\n" % (self.seconds, self.kilobytes)
 
 
 @dataclass
 class Job:
     """One share, as its line says. `plan` makes the second half of the keys; they tie a window to the whole audit.
 
-    `sums` are the SHA-256 of the files. `whole` is the first and the last second of the whole audit's window of lines. `before` is the last stamp
-    before the files and the greatest that counts. The accepted reports in the stretches of time `heads` are stored for the join. `types` are ship
-    types that were reported before, and `unsure` the vessels whose type is not certain.
+    `sums` are the SHA-256 of the files. `whole` is the first and the last second of the whole audit's window of lines.
+    `before` is the last stamp before the files and the greatest that counts. The accepted reports in the stretches of
+    time `heads` are stored for the join. `types` are ship types that were reported before, and `unsure` the vessels
+    whose type is not certain. `reads` is what to do with the bytes of each file.
     """
 
     files: list[str]
@@ -41,6 +63,7 @@ class Job:
     heads: list[list[int]] = field(default_factory=list)
     types: dict[str, int] = field(default_factory=dict)
     unsure: list[int] = field(default_factory=list)
+    reads: Reads | None = None
 
     def __post_init__(self) -> None:
         wrong = [name for name, good in self.forms() if not good]
@@ -56,6 +79,8 @@ class Job:
             raise ValueError("a tile has four edges, and the list of its vessels")
         if self.sums is not None and len(self.sums) != len(self.files):
             raise ValueError("each file has a sum")
+        if self.reads is not None and len(self.reads) != len(self.files):
+            raise ValueError("each file has its reads")
         if len(self.before) != 2 or self.whole is not None and len(self.whole) != 2:
             raise ValueError("`before` and `whole` are two numbers each")
 
@@ -63,11 +88,13 @@ class Job:
         """Yields the names of the keys that hold lists, and whether all values in them are of their kind."""
         yield "files", all(isinstance(name, str) for name in self.files)
         yield "sums", all(isinstance(sum_, str) for sum_ in self.sums or [])
-        for name, values in (("subjects", self.subjects), ("vessels", self.vessels), ("whole", self.whole), ("unsure", self.unsure)):
+        for name, values in (("subjects", self.subjects), ("vessels", self.vessels), ("whole", self.whole),
+                             ("unsure", self.unsure)):
             yield name, are_numbers(values or [])
         yield "before", are_numbers([value for value in self.before if value is not None])
         yield "heads", all(isinstance(head, list) and len(head) == 2 and are_numbers(head) for head in self.heads)
         yield "types", all(mmsi.isdecimal() for mmsi in self.types) and are_numbers(self.types.values())
+        yield "reads", all(are_reads(of_file) for of_file in self.reads or [])
         yield "tile", all(edge is None or isinstance(edge, (int, float)) for edge in self.tile or [])
 
     def options(self) -> list[str]:
@@ -92,13 +119,16 @@ class Job:
             return None
         first, last = self.lines(scenario)
         begin, end = self.whole or (first, last)
-        types = {mmsi: kind for mmsi, kind in self.types.items() if self.vessels is None or int(mmsi) in set(self.vessels)}
+        types = {
+            mmsi: kind for mmsi, kind in self.types.items() if self.vessels is None or int(mmsi) in set(self.vessels)
+        }
         return Cut(first, last, begin, end, scenario.slack, self.before[0], self.before[1], types, self.vessels)
 
     def words(self) -> str:
         """Returns the share in words, for a message."""
         group = "" if self.subjects is None else f", {len(self.subjects)} subjects from {self.subjects[0]} on"
-        return f"the share of {self.ticks} ticks from {self.start}{group}{'' if self.tile is None else f', tile {self.tile}'}"
+        tile = "" if self.tile is None else f", tile {self.tile}"
+        return f"the share of {self.ticks} ticks from {self.start}{group}{tile}"
 
 
 def are_numbers(values: Iterable[Any]) -> bool:
@@ -106,15 +136,26 @@ def are_numbers(values: Iterable[Any]) -> bool:
     return all(isinstance(value, int) and not isinstance(value, bool) for value in values)
 
 
+def are_reads(of_file: Any) -> bool:
+    """Returns whether a value says what to do with the bytes of a file."""
+    return isinstance(of_file, list) and all(
+        isinstance(read, list) and len(read) == 4 and read[0] in (SEEK, SKIP, COPY, LINES)
+        and are_numbers([read[1], *(at for at in read[2:] if at is not None)]) for read in of_file)
+
+
 def job_of(told: Any, folder: str = ".") -> Job:
-    """Returns the job of a JSON object, with the names of its files by a folder; a ValueError says what is wrong with it."""
+    """Returns the job of a JSON object, with the names of its files by a folder; a ValueError says what is wrong with
+    it."""
     if not isinstance(told, dict):
         raise ValueError("no object")
     wrong = [key for key, value in told.items() if key not in KEYS or not isinstance(value, KEYS[key])]
     missing = [key for key in NEEDED if key not in told]
     if wrong or missing:
         raise ValueError(", ".join(f"`{key}`" for key in wrong + missing) + " is missing or wrong")
-    paths = {"files": [os.path.join(folder, str(name)) for name in told["files"]], "scenario": os.path.join(folder, told["scenario"])}
+    paths = {
+        "files": [os.path.join(folder, str(name)) for name in told["files"]],
+        "scenario": os.path.join(folder, told["scenario"])
+    }
     return Job(**{**told, **paths})
 
 
@@ -154,10 +195,14 @@ def read_job(path: str, wanted: int) -> Job:
 
 
 class Kept:
-    """The folder of results, each under the sum of what it was made of: files, scenario, options, vessels and program."""
+    """The folder of results, each under the sum of what it was made of: files, scenario, options, vessels and
+    program."""
 
     def __init__(self, folder: str, program: str) -> None:
-        os.makedirs(folder, exist_ok=True)
+        try:
+            os.makedirs(folder, exist_ok=True)
+        except OSError as error:
+            raise Fault(f"{folder} cannot be written: {reason(error)}; give another folder by --kept") from None
         self.folder, self.programs = folder, programs_of(program)
         self.scenarios: dict[str, Scenario] = {}
         self.sums: dict[str, list[Any]] = {}
@@ -199,8 +244,11 @@ class Kept:
         """Returns the sum of all that a job's result depends on."""
         scenario = self.scenario(job)
         cut = job.cut(scenario)
-        inputs = {"files": self.file_sums(job), "scenario": scenario.with_subjects(job.subjects), "options": job.options(),
-                  "cut": cut.text() if cut else None, "heads": job.heads, "program": [self.sum(name) for name in self.programs]}
+        inputs = {
+            "files": self.file_sums(job), "scenario": scenario.with_subjects(job.subjects), "options": job.options(),
+            "cut": cut.text() if cut else None, "heads": job.heads,
+            "program": [self.sum(name) for name in self.programs]
+        }
         return hashlib.sha256(json.dumps(inputs, sort_keys=True).encode()).hexdigest()
 
     def path(self, job: Job) -> str:
@@ -214,7 +262,21 @@ class Kept:
 
     def keep(self, job: Job, report: bytes) -> None:
         """Writes a job's result, with its sum as the last line."""
-        replace(self.path(job), report + CHECKSUM + hashlib.sha256(report).hexdigest().encode() + b"\n")
+        path = self.path(job)
+        try:
+            replace(path, report + CHECKSUM + hashlib.sha256(report).hexdigest().encode() + b"\n")
+        except OSError as error:
+            raise Fault(f"{path} cannot be written: {reason(error)}") from None
+
+    def need(self, job: Job) -> Need | None:
+        """Returns what a job needed; None if it has no result that says so."""
+        try:
+            with open(self.path(job), "rb") as source:
+                source.seek(-min(TAIL, os.fstat(source.fileno()).st_size), os.SEEK_END)
+                found = NEED.search(source.read())
+        except OSError:
+            return None
+        return Need(int(found[1]), int(found[2])) if found else None
 
     def result(self, job: Job) -> str:
         """Returns a job's result without its sum; a Fault names the file if it is not whole."""

@@ -1,7 +1,9 @@
-"""Joins the reports of shares to the rows of one run: groups of subjects, then tiles, then windows, which are read one after the other.
+"""Joins the reports of shares to the rows of one run: groups of subjects, then tiles, then windows, which are read one
+after the other.
 
-What is kept of each share, and which rows are marked, is in docs/TRAFFIC_SERVICE.md. A Fault says if shares do not cover, or differ in what two of them
-have to have alike. That unmarked rows are those of one run is tested (python/tests/test_joins.py), over the laws of shares, and is not proved.
+What is kept of each share, and which rows are marked, is in docs/TRAFFIC_SERVICE.md. A Fault says if shares do not
+cover, or differ in what two of them have to have alike. That unmarked rows are those of one run is tested
+(python/tests/test_joins.py), over the laws of shares, and is not proved.
 """
 import csv
 import io
@@ -21,13 +23,14 @@ MOORED = "subject,other,first,last,least"
 
 @dataclass
 class Summary:
-    """What a join found besides its rows: doubts, meetings of vessels that lie still, and how many rows have which mark."""
+    """What a join found besides its rows: doubts, meetings of vessels that lie still, and how many rows have which
+    mark."""
 
     doubts: list[Doubt] = field(default_factory=list)
     moored: list[str] = field(default_factory=list)
     rows: int = 0
     marked: dict[str, int] = field(default_factory=dict)
-    under_way: int = 0              # rows of which one vessel at least does not lie still
+    under_way: int = 0              # rows in which at least one vessel is under way
     marked_under_way: int = 0
 
     def count(self, row: Stretch) -> None:
@@ -46,11 +49,14 @@ class Summary:
         out = io.StringIO()
         table = csv.writer(out, lineterminator="\n")
         for doubt in sorted(self.doubts):
-            table.writerow([doubt.mark, doubt.subject or "", doubt.other or "", iso(doubt.first), iso(doubt.last), doubt.reason])
+            table.writerow(
+                [doubt.mark, doubt.subject or "", doubt.other or "", iso(doubt.first), iso(doubt.last), doubt.reason]
+            )
         return DOUBTS + "\n" + out.getvalue()
 
     def moored_text(self) -> str:
-        """Returns the file of meetings of vessels that both lie still, each vessel through all windows of the meeting."""
+        """Returns the file of meetings of vessels that both lie still, each vessel through all windows of the
+        meeting."""
         return "".join(line + "\n" for line in [MOORED, *self.moored])
 
 
@@ -90,12 +96,14 @@ def check_list(jobs: list[Job], scenario: Scenario) -> None:
     whole = jobs[0].whole or [0, 0]
     begins, ends = base - scenario.gap, max(job.lines(scenario)[1] for job in jobs)
     if (begins, ends) != tuple(whole):
-        raise Fault(f"the windows do not cover the whole: they read from {begins} to {ends}, and the whole goes from {whole[0]} to {whole[1]}")
+        raise Fault(f"the windows do not cover the whole: they read from {begins} to {ends}, and the whole goes from "
+                    f"{whole[0]} to {whole[1]}")
 
 
 def read_window(shares: list[Job], kept: Kept, scenario: Scenario, rules: list[str]) -> Rows:
     """Returns the rows of all shares of a window, and checks that they have the same rules as the windows before."""
-    rows = of_window([(job, rows_of(kept.result(job))) for job in shares], scenario, f"the window from {shares[0].start}")
+    rows = of_window([(job, rows_of(kept.result(job))) for job in shares], scenario,
+                     f"the window from {shares[0].start}")
     if not rules:
         rules += rows.rules
     if rows.rules != rules:

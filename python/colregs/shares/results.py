@@ -1,4 +1,7 @@
-"""The results of shares as rows, and those of one window put together: groups of subjects, and tiles with their margins."""
+"""The results of shares as rows, and those of one window put together: groups of subjects, and tiles with their
+margins."""
+import re
+import sys
 from collections.abc import Iterable
 from dataclasses import dataclass, field
 
@@ -8,6 +11,7 @@ from colregs.shares.jobs import Job
 
 Pair = tuple[int, int]
 Tile = tuple[float | None, ...]
+LINE = re.compile(r"[^\n]+")
 Check = tuple[int, str]             # the time of an accepted report, and the rest of its row
 
 
@@ -65,7 +69,8 @@ def stretch_of(fields: list[str]) -> Stretch:
 
 @dataclass
 class Rows:
-    """The rows of a result: meetings and verdicts, vessels by their MMSIs, the names of rules in order, counts of lines, and what the join needs."""
+    """The rows of a result: meetings and verdicts, vessels by their MMSIs, the names of rules in order, counts of
+    lines, and what the join needs."""
 
     stretches: list[Stretch] = field(default_factory=list)
     vessels: dict[int, str] = field(default_factory=dict)
@@ -73,7 +78,7 @@ class Rows:
     lines: list[str] = field(default_factory=list)
     checks: dict[int, list[Check]] = field(default_factory=dict)
     still: set[int] = field(default_factory=set)
-    of: set[int] | None = None      # the vessels of whom the share had all lines; None stands for all
+    of: set[int] | None = None      # the vessels with all their lines in the share; None stands for all
     unsure: set[int] = field(default_factory=set)
 
     def seen(self) -> set[int]:
@@ -89,10 +94,12 @@ class Rows:
 def rows_of(text: str) -> Rows:
     """Returns the rows of a result."""
     rows = Rows()
-    for line in text.split("\n"):
+    for found in LINE.finditer(text):
+        line = found[0]
         kind, _, rest = line.partition(",")
         if kind in ("meeting", "verdict"):
-            rows.stretches.append(stretch_of(line.split(",")))
+            # most fields stand in many rows
+            rows.stretches.append(stretch_of([sys.intern(field) for field in line.split(",")]))
         elif kind == "vessel":
             rows.vessels[int(rest.partition(",")[0])] = line
         elif kind == "total":
@@ -119,11 +126,18 @@ def is_of_group(row: Stretch, group: set[int], own: bool, covered: set[int]) -> 
 
 
 def merged(reports: list[tuple[list[int], str]], own: bool, words: str) -> str:
-    """Returns the report of a share that was run by groups of subjects: the rows of all, and no totals but the rules' names."""
+    """Returns the report of a share that was run by groups of subjects: the rows of all, and no totals but the rules'
+    names."""
     told = [(set(group), rows_of(text)) for group, text in reports]
-    part = in_groups(told, own, words)
-    lines = [row.words() for row in part.stretches] + [line for _, line in sorted(part.vessels.items())]
-    return "".join(line + "\n" for line in lines + [f"total,{rule},,,,," for rule in part.rules] + part.lines)
+    return text_of(in_groups(told, own, words))
+
+
+def text_of(rows: Rows) -> str:
+    """Returns rows as the text of a result, with the names of rules instead of totals."""
+    lines = [row.words() for row in rows.stretches] + [line for _, line in sorted(rows.vessels.items())]
+    lines += [f"total,{rule},,,,," for rule in rows.rules] + rows.lines
+    lines += [f"check,{mmsi},{at},{rest}" for mmsi, found in sorted(rows.checks.items()) for at, rest in found]
+    return "".join(line + "\n" for line in lines + [f"still,{mmsi}" for mmsi in sorted(rows.still)])
 
 
 def in_groups(told: list[tuple[set[int], Rows]], own: bool, words: str) -> Rows:
@@ -142,7 +156,8 @@ def in_groups(told: list[tuple[set[int], Rows]], own: bool, words: str) -> Rows:
 def by_subjects(shares: list[tuple[Job, Rows]], own: list[int], words: str) -> Rows:
     """Returns the rows of the shares of one window and tile, a group of subjects each.
 
-    With subjects in the scenario there are also rows of vessels that are no subject, towards one that is: they are those of hers.
+    With subjects in the scenario there are also rows of vessels that are no subject, towards one that is: they are
+    those of hers.
     """
     job, rows = shares[0]
     of, unsure = (set(job.vessels) if job.vessels is not None else None), set(job.unsure)
@@ -155,13 +170,18 @@ def by_subjects(shares: list[tuple[Job, Rows]], own: list[int], words: str) -> R
         if missing:
             raise Fault(f"{words}: {len(missing)} vessels are in no group of subjects, as {min(missing)}")
         whole = in_groups(groups, bool(own), words)
-    whole.of, whole.unsure = of, unsure
-    if of is not None:
-        whole.stretches = [row for row in whole.stretches if of.issuperset(row.pair)]
-        whole.vessels = {mmsi: line for mmsi, line in whole.vessels.items() if mmsi in of}
-        whole.checks = {mmsi: found for mmsi, found in whole.checks.items() if mmsi in of}
-        whole.still &= of
-    return whole
+    whole.unsure = unsure
+    return whole if of is None else of_vessels(whole, of)
+
+
+def of_vessels(rows: Rows, of: set[int]) -> Rows:
+    """Leaves the rows of the vessels whose lines a share had all."""
+    rows.of = of
+    rows.stretches = [row for row in rows.stretches if of.issuperset(row.pair)]
+    rows.vessels = {mmsi: line for mmsi, line in rows.vessels.items() if mmsi in of}
+    rows.checks = {mmsi: found for mmsi, found in rows.checks.items() if mmsi in of}
+    rows.still &= of
+    return rows
 
 
 def open_edge(value: float | None, side: int) -> float:
@@ -171,13 +191,17 @@ def open_edge(value: float | None, side: int) -> float:
 def covers_plane(tiles: Iterable[Iterable[float | None]]) -> bool:
     """Returns whether the tiles leave no place of the plane; an edge that is None is open."""
     boxes = [tuple(open_edge(value, side) for value, side in zip(tile, (-1, -1, 1, 1))) for tile in tiles]
-    easts, norths = ([sorted({box[k] for box in boxes} | {box[k + 2] for box in boxes} | {float("-inf"), float("inf")}) for k in (0, 1)])
+    easts, norths = [
+        sorted({box[k] for box in boxes} | {box[k + 2] for box in boxes} | {float("-inf"), float("inf")})
+        for k in (0, 1)
+    ]
     return all(any(box[0] <= west and east <= box[2] and box[1] <= south and north <= box[3] for box in boxes)
                for west, east in zip(easts, easts[1:]) for south, north in zip(norths, norths[1:]))
 
 
 def by_tiles(parts: list[Rows], words: str) -> Rows:
-    """Returns the rows of tiles of one window: each pair's once, and they are the same in each tile that had the lines of both."""
+    """Returns the rows of tiles of one window: each pair's once, and they are the same in each tile that had the lines
+    of both."""
     if len(parts) == 1:
         return parts[0]
     pairs: list[dict[Pair, list[Stretch]]] = [{} for _ in parts]

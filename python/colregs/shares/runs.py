@@ -1,26 +1,32 @@
-"""Runs shares, each `colregs audit` over its part of the files: by threads, by GNU parallel, as a Slurm array, or on Dask."""
+"""Runs shares, each `colregs audit` over its part of the files, in this process or by threads."""
 import concurrent.futures
-import hashlib
+import dataclasses
 import json
 import os
+import resource
 import shlex
 import shutil
+import socket
 import subprocess
 import tempfile
 import time
+from collections.abc import Iterator
+from contextlib import contextmanager
 from dataclasses import dataclass
 
 from colregs.errors import Fault, reason
 from colregs.io.files import read_bytes
-from colregs.run.limits import STATUS, next_step
-from colregs.run.pipes import TOOL, Ended, module, piped, reader
+from colregs.run.children import CHILDREN
+from colregs.run.limits import STATUS, limit_of, next_step
+from colregs.run.pipes import Ended, module, piped, reader
+from colregs.shares.cuts import write_cut
 from colregs.shares.cutter import Cut
-from colregs.shares.jobs import Job, Kept
-from colregs.shares.results import merged, vessels_of
+from colregs.shares.jobs import Job, Kept, Need
+from colregs.shares.places import Points
+from colregs.shares.results import by_tiles, merged, of_vessels, rows_of, text_of, vessels_of
 
 FIRST_GROUP = 64        # subjects of the first groups into which a share with too many pairs is split
-MOST_TASKS = 1000       # of an array: Slurm's MaxArraySize is 1001 unless it is set
-STALE = 24 * 3600       # s after which the folder of a run that ended without removing it goes
+STALE = 24 * 3600       # s without a change after which the folder of a run on another machine counts as dead
 
 
 @dataclass
@@ -41,7 +47,8 @@ class Room:
         cut = self.job.cut(self.kept.scenario(self.job))
         if cut is None:
             return reader(self.job.files)
-        write_cut(self.job.files, cut, self.folder, self.path("log"), self.job.words())
+        write_cut(self.job.files, cut, self.folder, self.path("log"), self.job.words(),
+                  self.job.reads if self.job.sums else None)
         return "cat -- " + shlex.quote(self.path("log"))
 
     def audited(self, source: str, subjects: list[int] | None) -> Ended:
@@ -63,44 +70,84 @@ class Room:
         return read_bytes(self.path("report.csv"))
 
 
-def write_cut(files: list[str], cut: Cut, folder: str, target: str, words: str) -> None:
-    """Writes what a cut leaves of files into a file."""
-    spec = os.path.join(folder, "cut.json")
-    with open(spec, "w", encoding="utf-8") as text:
-        text.write(cut.text())
-    command = f"set -o pipefail; {reader(files)} | {shlex.join(module('shares.cutter', spec))}"
-    with open(target, "wb") as out:
-        done = subprocess.run(["bash", "-c", command], stdin=subprocess.DEVNULL, stdout=out, stderr=subprocess.PIPE)
-    if done.returncode:
-        said = done.stderr.decode("utf-8", "replace").strip().splitlines()
-        raise Fault(f"{words}: its files were not read to their end: {said[-1] if said else f'status {done.returncode}'}")
-
-
 def run_one(job: Job, kept: Kept, program: str) -> bool:
-    """Runs a job if its result is not there yet, and returns whether it ran; a Fault says why there is no whole result."""
+    """Runs a job if its result is not there yet, and returns whether it ran; a Fault says why there is no whole
+    result."""
     if kept.has(job):
         return False
-    with tempfile.TemporaryDirectory(dir=kept.folder, prefix="run.") as folder:
-        room = Room(folder, job, kept, program)
-        source = room.source()
-        done = room.audited(source, job.subjects)
-        if done.status == STATUS and "pairs" in done.words:
-            report = split(room, source, done)
-        elif done.status != 0:
-            raise Fault(f"{job.words()} ends with status {done.status}, {done.words}{next_step(done.status, done.words)}")
-        else:
-            report = room.report()
-        kept.keep(job, report + seen(room, source))
+    begin = time.monotonic()
+    with run_folder(kept.folder) as folder:
+        report = whole_report(Room(folder, job, kept, program))
+        kept.keep(job, report + need(time.monotonic() - begin).line())
     return True
 
 
+def whole_report(room: Room) -> bytes:
+    """Returns the report of a share, with what a join needs. A share that meets a limit of the program is split, and
+    each part again if it does too."""
+    source, job = room.source(), room.job
+    done = room.audited(source, job.subjects)
+    if done.status == STATUS and limit_of(done.words) == "pairs":
+        return split(room, source, done) + seen(room, source)
+    if done.status == STATUS and limit_of(done.words) in ("vessels", "log"):
+        return by_places(room, done)
+    if done.status != 0:
+        raise failed(job, done)
+    return room.report() + seen(room, source)
+
+
+def failed(job: Job, done: Ended) -> Fault:
+    """Returns why a share has no report."""
+    return Fault(f"{job.words()} ends with status {done.status}, {done.words}{next_step(done.status, done.words)}")
+
+
+def by_places(room: Room, done: Ended) -> bytes:
+    """Returns the report of a share with too many vessels or bytes, from those of the vessels who come near one half of
+    the plane, and near the other."""
+    scenario, job = room.kept.scenario(room.job), room.job
+    lines = job.lines(scenario)
+    cut = job.cut(scenario) or Cut(*lines, *lines, scenario.slack)
+    points = Points(job.files, scenario, cut, job.window(), room.program, job.reads if job.sums else None)
+    vessels = points.within(*lines)
+    halves_ = points.halves(vessels, lines, scenario.watch + 1)
+    if not halves_ or max(map(len, halves_)) >= len(vessels):
+        raise failed(job, done)
+    parts = []
+    for number, half in enumerate(halves_):
+        folder = room.path(f"half{number}")
+        os.mkdir(folder)
+        text = whole_report(Room(folder, dataclasses.replace(job, vessels=half, tile=None), room.kept, room.program))
+        parts.append(of_vessels(rows_of(text.decode("utf-8", "replace")), set(half)))
+        shutil.rmtree(folder)
+    return text_of(by_tiles(parts, job.words())).encode()
+
+
+def need(seconds: float) -> Need:
+    """Returns what a job needed. The memory is that of the largest child of this process so far, so that of a job or of
+    another beside it."""
+    return Need(round(seconds) + 1, resource.getrusage(resource.RUSAGE_CHILDREN).ru_maxrss)
+
+
+@contextmanager
+def run_folder(kept: str) -> Iterator[str]:
+    """Makes the folder of a run, named by its machine and process, and removes it. A Fault names the folder that cannot
+    be written."""
+    try:
+        with tempfile.TemporaryDirectory(dir=kept, prefix=f"run.{socket.gethostname()}.{os.getpid()}.") as folder:
+            yield folder
+    except OSError as error:
+        raise Fault(f"{error.filename or kept} cannot be written: {reason(error)}") from None
+
+
 def seen(room: Room, source: str) -> bytes:
-    """Returns the rows that the join of windows needs: accepted reports about the beginnings of windows, and who lay still."""
+    """Returns the rows that the join of windows needs: accepted reports about the beginnings of windows, and who lay
+    still."""
     if not room.job.is_part(room.kept.scenario(room.job)):
         return b""
     words = shlex.join(module("shares.seen", json.dumps(room.job.heads)))
     command = shlex.join([room.program, "points", room.path("scenario.toml"), *room.job.options()])
-    done = subprocess.run(["bash", "-c", f"set -o pipefail; {source} | {command} | {words}"], stdin=subprocess.DEVNULL, capture_output=True)
+    done = CHILDREN.run(["bash", "-c", f"set -o pipefail; {source} | {command} | {words}"], stdin=subprocess.DEVNULL,
+                        stdout=subprocess.PIPE, stderr=subprocess.PIPE)
     if done.returncode:
         said = done.stderr.decode("utf-8", "replace").strip()
         raise Fault(f"{room.job.words()}: `points` ends with status {done.returncode}, {said}")
@@ -108,7 +155,8 @@ def seen(room: Room, source: str) -> bytes:
 
 
 def split(room: Room, source: str, done: Ended) -> bytes:
-    """Returns the report of a share with too many pairs, from runs with groups of its subjects; a group that is still too many is halved."""
+    """Returns the report of a share with too many pairs, from runs with groups of its subjects; a group that is still
+    too many is halved."""
     scenario, job = room.kept.scenario(room.job), room.job
     own = job.subjects or scenario.subjects
     subjects = sorted(own or heard(room, source))
@@ -119,10 +167,10 @@ def split(room: Room, source: str, done: Ended) -> bytes:
     while groups:
         group = groups.pop(0)
         done = room.audited(source, group)
-        if done.status == STATUS and "pairs" in done.words and len(group) > 1:
+        if done.status == STATUS and limit_of(done.words) == "pairs" and len(group) > 1:
             groups = halves(group) + groups
         elif done.status != 0:
-            raise Fault(f"{job.words()} ends with status {done.status}, {done.words}{next_step(done.status, done.words)}")
+            raise failed(job, done)
         else:
             reports.append((group, room.report().decode("utf-8", "replace")))
     return merged(reports, bool(own), job.words()).encode()
@@ -138,62 +186,47 @@ def heard(room: Room, source: str) -> list[int]:
     """Returns the vessels of a share's log, from an audit with one subject that is nobody's MMSI."""
     done = room.audited(source, [799999999])
     if done.status != 0:
-        raise Fault(f"{room.job.words()} ends with status {done.status}, {done.words}{next_step(done.status, done.words)}")
+        raise failed(room.job, done)
     return vessels_of(room.report().decode("utf-8", "replace"))
 
 
 def clear(folder: str) -> None:
-    """Removes the folders of runs that were killed long ago."""
+    """Removes the folders of runs that were killed: on this machine if their process is gone, and of others if nothing
+    changed in them for a day."""
     for name in os.listdir(folder):
         path = os.path.join(folder, name)
-        if name.startswith("run.") and os.path.isdir(path) and time.time() - os.stat(path).st_mtime > STALE:
+        if name.startswith("run.") and os.path.isdir(path) and is_dead(name, path):
             shutil.rmtree(path, ignore_errors=True)
 
 
+def is_dead(name: str, path: str) -> bool:
+    """Returns whether the run of a folder is over."""
+    host, _, process = name.removeprefix("run.").rpartition(".")[0].rpartition(".")
+    if host == socket.gethostname() and process.isdecimal():
+        return not os.path.exists(f"/proc/{process}") if os.path.isdir("/proc/self") else False
+    try:
+        return time.time() - max(os.stat(one).st_mtime
+                                 for one in [path, *(entry.path for entry in os.scandir(path))]) > STALE
+    except OSError:
+        return False                                        # it goes at this moment
+
+
 def run_all(jobs: list[Job], kept: Kept, program: str, processes: int) -> tuple[int, list[str]]:
-    """Runs the jobs that have no result, `processes` at a time. Returns how many ran, and why others failed."""
+    """Runs the jobs that have no result, `processes` at a time. Returns how many ran, and why others failed. If it is
+    interrupted, its children end."""
     clear(kept.folder)
     faults, ran = [], 0
-    with concurrent.futures.ThreadPoolExecutor(processes) as pool:
+    pool = concurrent.futures.ThreadPoolExecutor(processes)
+    try:
         for done in [pool.submit(run_one, job, kept, program) for job in jobs]:
             try:
                 ran += done.result()
             except Fault as fault:
                 faults.append(str(fault))
-            except OSError as error:
-                faults.append(f"{error.filename or kept.folder}: {reason(error)}")
+    except BaseException:
+        pool.shutdown(wait=False, cancel_futures=True)
+        CHILDREN.kill()
+        raise
+    finally:
+        pool.shutdown()
     return ran, faults
-
-
-def commands(path: str, count: int, kept: str, program: str) -> list[str]:
-    """Returns a command for each job, which can run on any machine that sees the files under the same names."""
-    words = [TOOL, "one", os.path.abspath(path), "%d", "--kept", os.path.abspath(kept), "--program", program]
-    line = " ".join(word if word == "%d" else shlex.quote(word).replace("%", "%%") for word in words)
-    return [line % number for number in range(1, count + 1)]
-
-
-def list_sum(keys: list[str]) -> str:
-    """Returns a short name for a list of jobs, by their sums."""
-    return hashlib.sha256("\n".join(keys).encode()).hexdigest()[:16]
-
-
-def parallel_words(log: str, processes: int, hosts: str | None) -> list[str]:
-    """Returns GNU parallel's command line: it runs what its list of done jobs has as failed or not at all."""
-    words = ["parallel", "--joblog", log, "--resume-failed", "--jobs", str(processes)]
-    return words + (["--sshlogin", hosts] if hosts else [])
-
-
-def by_parallel(lines: list[str], log: str, processes: int, hosts: str | None) -> int:
-    """Runs commands by GNU parallel, with its list of done jobs in the file `log`; returns its status."""
-    if not shutil.which("parallel"):
-        raise Fault("GNU parallel is not here (Debian package parallel); without --parallel the jobs run by threads")
-    return subprocess.run(parallel_words(log, processes, hosts), input="\n".join(lines) + "\n", text=True).returncode
-
-
-def slurm(lines: list[str], memory: str, hours: int) -> str:
-    """Returns a script for sbatch: an array with a task for each job, or, of more jobs than an array takes, for every thousandth one."""
-    tasks = min(len(lines), MOST_TASKS)
-    task = lines[0].replace(" 1 --kept ", ' "$number" --kept ')
-    return "\n".join(["#!/bin/sh", "#SBATCH --job-name=colregs", f"#SBATCH --array=1-{tasks}", "#SBATCH --cpus-per-task=1", f"#SBATCH --mem={memory}",
-                      f"#SBATCH --time={hours}:00:00", "status=0", f'for number in $(seq "$SLURM_ARRAY_TASK_ID" {tasks} {len(lines)}); do',
-                      f"  {task} || status=1", "done", "exit $status", ""])

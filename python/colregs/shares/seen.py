@@ -1,7 +1,9 @@
-"""Keeps of the rows of `points` what a join of windows needs: the reports near the beginnings of windows, and who lay still all the time.
+"""Keeps of the rows of `points` what a join of windows needs: the reports near the beginnings of windows, and who lay
+still all the time.
 
-It runs as a process of its own between the program and a file. A `check` row has a vessel, a time, two places, a speed and a course, as `points` writes
-them. A `still` row has a vessel who never made half a knot, by her reports or, where these have no speed, by her way to the next one.
+It runs as a process of its own between the program and a file. A `check` row has a vessel, a time, two places, a speed
+and a course, as `points` writes them. A `still` row has a vessel who never made half a knot, by her reports or, where
+these have no speed, by her way to the next one.
 """
 import json
 import math
@@ -38,9 +40,12 @@ class Stillness:
 
 
 def rows_to_keep(rows: Iterable[bytes], stretches: list[tuple[int, int]]) -> Iterator[bytes]:
-    """Yields `check` rows for the reports in these stretches of time, and a `still` row for each vessel who lay still."""
+    """Yields `check` rows for the reports in these stretches of time, and a `still` row for each vessel who lay
+    still."""
     stillness = Stillness()
-    still, least, greatest = stillness.still, min((first for first, _ in stretches), default=0), max((last for _, last in stretches), default=-1)
+    still = stillness.still
+    least = min((first for first, _ in stretches), default=0)
+    greatest = max((last for _, last in stretches), default=-1)
     for row in rows:
         if not row.startswith(b"point,"):
             continue

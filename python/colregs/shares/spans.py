@@ -1,91 +1,249 @@
-"""Reads the files of an archive once for their times: what a plan of windows needs to know of each."""
+"""Reads the files of an archive once for their times: what a plan of windows needs to know of each, and where the lines
+of a time are."""
+import collections
+import itertools
 import subprocess
+import zlib
+from collections.abc import Iterable, Iterator
 from dataclasses import dataclass, field
+from typing import NamedTuple
 
-from colregs.errors import Fault
+from colregs.errors import Fault, reason
 from colregs.io.files import sum_of
-from colregs.io.lines import Stamps
+from colregs.io.lines import LONGEST, TAGS, Stamps, stamp_of_block
+from colregs.io.packing import packing
 from colregs.run.pipes import reader
 
 HOUR = 3600             # s
-FAR = 24                # hours behind all others from which on few stamps are not believed
+FAR = 24                # hours before or after all others from which on few stamps are not believed
 FEW = 10                # stamps that are few
+PIECE = 1 << 20         # bytes of lines that are read at once: a block, unless a file has more than MOST_BLOCKS
+MOST_BLOCKS = 2048
+GZIP = 31               # zlib's window for a member of gzip
+
+
+class Block(NamedTuple):
+    """Successive lines of a file: their bytes, whether the first one has a stamp, and the least, the greatest and the
+    last stamp.
+
+    A block without a stamp has 1 and 0 for the least and the greatest.
+    """
+
+    size: int
+    begins: bool
+    least: int
+    greatest: int
+    last: int
+
+    def joined(self, other: "Block") -> "Block":
+        """Returns this block and the one after it as one."""
+        if self.least > self.greatest or other.least > other.greatest:
+            told = self if other.least > other.greatest else other
+            return Block(self.size + other.size, self.begins, told.least, told.greatest, told.last)
+        return Block(self.size + other.size, self.begins, min(self.least, other.least),
+                     max(self.greatest, other.greatest), other.last)
 
 
 @dataclass
 class Span:
-    """A file: its sum, and for each hour of its stamps how many they are, the least and the greatest; and its last stamp."""
+    """A file: its sum, for each hour of its stamps how many they are, the least and the greatest, its last stamp, and
+    its blocks.
+
+    `members` are the places at which it can be begun if it is packed: bytes of the file, and the bytes of lines before
+    them. `open` says that the last line has no line feed.
+    """
 
     path: str
     sum: str
     hours: dict[int, list[int]] = field(default_factory=dict)
     last_stamp: int | None = None
+    blocks: list[Block] = field(default_factory=list)
+    members: list[tuple[int, int]] = field(default_factory=list)
+    open: bool = False
+    # how many hours, and their ends
+    known: tuple[int, tuple[int, int]] | None = field(default=None, repr=False, compare=False)
 
     def bounds(self, until: int) -> tuple[int, int] | None:
         """Returns the least and the greatest stamp up to a time; None if there is none."""
+        if self.hours and until >= self.ends()[1]:
+            return self.ends()
         told = [entry for entry in self.hours.values() if entry[1] <= until]
         return (min(entry[1] for entry in told), min(until, max(entry[2] for entry in told))) if told else None
+
+    def ends(self) -> tuple[int, int]:
+        """Returns the least and the greatest stamp; at least one stamp is known."""
+        if self.known is None or self.known[0] != len(self.hours):
+            self.known = len(self.hours), (min(entry[1] for entry in self.hours.values()),
+                                           max(entry[2] for entry in self.hours.values()))
+        return self.known[1]
+
+    def take(self, tags: list[bytes], until: int | None) -> tuple[int, int, int]:
+        """Takes the tag blocks of a piece; returns the least, the greatest and the last stamp, or 1, 0 and 0 if there
+        is none."""
+        told = [(stamp, count)
+                for tag, count in collections.Counter(tags).items()
+                if (stamp := stamp_of_block(tag)) is not None]
+        if not told:
+            return 1, 0, 0
+        for hour, group in itertools.groupby(told, lambda one: one[0] // HOUR):
+            counted = [one for one in group if until is None or one[0] <= until]
+            if counted:
+                least, greatest = min(counted)[0], max(counted)[0]
+                entry = self.hours.setdefault(hour, [0, least, greatest])
+                entry[:] = entry[0] + sum(count for _, count in counted), min(entry[1], least), max(entry[2], greatest)
+        self.last_stamp = next(stamp for tag in reversed(tags) if (stamp := stamp_of_block(tag)) is not None)
+        return min(told)[0], max(told)[0], self.last_stamp
+
+
+class Unclear(Exception):
+    """A packed file that is damaged, or no plain row of members: the command that unpacks it says more."""
 
 
 def read_span(path: str, until: int | None) -> Span:
     """Reads a file to its end; stamps after `until` count as none of its times."""
-    span, stamp_of, begin, end, entry = Span(path, sum_of(path)[0]), Stamps().of, 0, -1, [0, 0, 0]
+    total, kind = sum_of(path)[0], packing(path)
+    if kind == "gzip":
+        span = Span(path, total)
+        try:
+            return taken(span, unpacked(span), until)
+        except Unclear:
+            pass
+    return taken(Span(path, total), plain(path) if kind == "plain" else by_command(path), until)
+
+
+def taken(span: Span, pieces: Iterable[bytes], until: int | None) -> Span:
+    """Takes the pieces of a file, cut into blocks of whole lines."""
+    rest = b""
+    for piece in pieces:
+        lines, feed, rest_of_piece = piece.rpartition(b"\n")
+        if feed:
+            take_block(span, rest + lines + feed, until)
+            rest = rest_of_piece
+        else:
+            rest += piece
+    if rest:
+        span.open = True
+        take_block(span, rest, until)
+    return span
+
+
+def take_block(span: Span, lines: bytes, until: int | None) -> None:
+    """Takes whole lines as a block."""
+    tags = tags_of(lines)
+    begins = bool(tags) and lines.startswith(tags[0]) and stamp_of_block(tags[0]) is not None
+    add_block(span.blocks, Block(len(lines), begins, *span.take(tags, until)))
+
+
+def tags_of(lines: bytes) -> list[bytes]:
+    """Returns the tag blocks of lines that are short enough to be read, in order."""
+    if max(map(len, lines.split(b"\n"))) <= LONGEST:
+        return TAGS.findall(b"\n" + lines)
+    stamps = Stamps()
+    return [line[:line.find(b"\\", 1) + 1] for line in lines.split(b"\n") if stamps.of(line) is not None]
+
+
+def add_block(blocks: list[Block], block: Block) -> None:
+    """Adds a block; if there are too many, joins two by two."""
+    if len(blocks) >= 2 * MOST_BLOCKS:
+        blocks[:] = [one.joined(other) for one, other in zip(blocks[::2], blocks[1::2])]
+    blocks.append(block)
+
+
+def plain(path: str) -> Iterator[bytes]:
+    """Yields the bytes of a file."""
+    try:
+        with open(path, "rb") as source:
+            while piece := source.read(PIECE):
+                yield piece
+    except OSError as error:
+        raise Fault(f"{path} cannot be read: {reason(error)}") from None
+
+
+def unpacked(span: Span) -> Iterator[bytes]:
+    """Yields the bytes that gzip packed, and notes where members begin that lie some way apart."""
+    before, read, unpacker = 0, 0, zlib.decompressobj(GZIP)
+    for packed in plain(span.path):
+        read += len(packed)
+        while packed:
+            try:
+                piece = unpacker.decompress(packed, PIECE)
+            except zlib.error:
+                raise Unclear from None
+            before, packed = before + len(piece), unpacker.unconsumed_tail
+            if piece:
+                yield piece
+            if unpacker.eof:
+                packed, unpacker = unpacker.unused_data, zlib.decompressobj(GZIP)
+                add_member(span.members, (read - len(packed), before))
+    if not span.members or span.members[-1][0] != read:
+        raise Unclear                                   # it is cut off, or its last member was too near to be noted
+    span.members.pop()
+
+
+def add_member(members: list[tuple[int, int]], place: tuple[int, int]) -> None:
+    """Notes where a member begins, instead of the one before if that is near."""
+    if len(members) > 1 and place[1] - members[-2][1] < PIECE:
+        members.pop()
+    if len(members) >= 2 * MOST_BLOCKS:
+        del members[::2]
+    members.append(place)
+
+
+def by_command(path: str) -> Iterator[bytes]:
+    """Yields the bytes that a command unpacks."""
     with subprocess.Popen(["bash", "-c", reader([path])], stdout=subprocess.PIPE, stderr=subprocess.PIPE) as log:
         assert log.stdout and log.stderr
-        tag = b"\n"                                # only an empty line begins with this, and it changes nothing
-        for line in log.stdout:
-            if line.startswith(tag):
-                entry[0] += 1                       # a line with the tag block of the one before, which counts
-                continue
-            stamp = stamp_of(line)
-            if stamp is None:
-                continue
-            span.last_stamp, tag = stamp, b"\n"
-            if until is not None and stamp > until:
-                continue
-            if not begin <= stamp < end:
-                begin = stamp - stamp % HOUR
-                end, entry = begin + HOUR, span.hours.setdefault(begin // HOUR, [0, stamp, stamp])
-            tag = line[:line.find(b"\\", 1) + 1]
-            entry[0] += 1
-            if stamp > entry[2]:
-                entry[2] = stamp
-            elif stamp < entry[1]:
-                entry[1] = stamp
+        while piece := log.stdout.read(PIECE):
+            yield piece
         words = log.stderr.read().decode("utf-8", "replace").strip()
     if log.returncode:
         raise Fault(f"{path} was not read to its end: {words}")
-    return span
 
 
 @dataclass
 class Believed:
-    """The last stamp of an archive that is believed; and the stamps after it, how many and the greatest, which are not."""
+    """The first and the last stamp of an archive that are believed; and the stamps outside of them: how many, and the
+    one that is farthest."""
 
+    first: int
     last: int
-    beyond: int = 0
-    greatest: int = 0
+    outside: int = 0
+    farthest: int = 0
 
 
 def believed(spans: list[Span], start: int) -> Believed:
-    """Returns the last stamp that is believed: fewer than ten that lie more than a day after all others are not."""
+    """Returns the stamps that are believed: fewer than ten that lie more than a day before or after all others are
+    not."""
     hours: dict[int, list[int]] = {}
     for span in spans:
-        for hour, (count, _, greatest) in span.hours.items():
-            entry = hours.setdefault(hour, [0, greatest])
-            entry[0], entry[1] = entry[0] + count, max(entry[1], greatest)
+        for hour, (count, least, greatest) in span.hours.items():
+            entry = hours.setdefault(hour, [0, least, greatest])
+            entry[:] = entry[0] + count, min(entry[1], least), max(entry[2], greatest)
     order = sorted(hours)
     if not order:
-        return Believed(start)
-    beyond, cut, every = 0, len(order), sum(count for count, _ in hours.values())
+        return Believed(start, start)
+    counts = [hours[hour][0] for hour in order]
+    after = few_at_the_end(order, counts)
+    before = few_at_the_end([-hour for hour in reversed(order)], counts[::-1])
+    if before + after >= len(order):
+        before = 0
+    kept, left = order[before:len(order) - after], order[:before] + order[len(order) - after:]
+    first, last = hours[kept[0]][1], hours[kept[-1]][2]
+    far = max((stamp for hour in left for stamp in hours[hour][1:]), key=lambda stamp: max(first - stamp, stamp - last),
+              default=0)
+    return Believed(first, last, sum(hours[hour][0] for hour in left), far)
+
+
+def few_at_the_end(order: list[int], counts: list[int]) -> int:
+    """Returns how many of the last hours have few stamps and lie far behind all others."""
+    beyond, cut, every = 0, len(order), sum(counts)
     for k in range(len(order) - 1, 0, -1):
-        beyond += hours[order[k]][0]
+        beyond += counts[k]
         if beyond >= FEW or beyond * FEW > every:
             break
         if order[k] - order[k - 1] > FAR:
             cut = k
-    left = order[cut:]
-    return Believed(hours[order[cut - 1]][1], sum(hours[hour][0] for hour in left), max((hours[hour][1] for hour in left), default=0))
+    return len(order) - cut
 
 
 def clock_before(spans: list[Span], number: int, until: int) -> tuple[int | None, int | None]:

@@ -1,7 +1,9 @@
-"""Ship types that were reported before a window begins. Where ranks count they decide who gives way, and a window alone may lack them.
+"""Ship types that were reported before a window begins. Where ranks count they decide who gives way, and a window alone
+may lack them.
 
-They are read as the program reads them: from the sentences that are neither outside nor late, parts joined by identifier and channel. Of the types
-only those that give a rank of their own are carried; any other is as none (docs/AUDIT.md).
+They are read as the program reads them: from the sentences that are neither outside nor late, parts joined by
+identifier and channel. Of the types only those that give a rank of their own are carried; any other is as none
+(docs/AUDIT.md).
 """
 import bisect
 import re
@@ -15,7 +17,8 @@ HOUR = 3600                         # s
 LEAST, MOST = 200000000, 799999999  # MMSIs of ships
 CANDIDATE = re.compile(rb"![A-Z0-9]{2}VD[MO],(?:[2-9],|1,1,\d?,[A-Za-z0-9]?,[5CH])")
 HEAD = re.compile(rb"![A-Z0-9]{2}VD[MO],\d,1,\d?,[A-Za-z0-9]?,(.{7})", re.S)
-SHIP_TYPE = {5: (422, 232), 19: (312, 263), 24: (162, 40)}     # bits that the message needs, and the first of the eight of the type
+# bits that the message needs, and the first of the eight of the type
+SHIP_TYPE = {5: (422, 232), 19: (312, 263), 24: (162, 40)}
 
 
 def ship_type(bits: Bits) -> tuple[int, int] | None:
@@ -33,7 +36,8 @@ def ship_type(bits: Bits) -> tuple[int, int] | None:
 
 @dataclass
 class Stretch:
-    """Successive notes of one vessel, in the order of lines, that give her one rank: that rank's type, and the times of the notes."""
+    """Successive notes of one vessel, in the order of lines, that give her one rank: that rank's type, and the times of
+    the notes."""
 
     kind: int
     earliest: int       # the least time of any part of a note
@@ -42,7 +46,8 @@ class Stretch:
 
 @dataclass
 class Before:
-    """What is known before a window: ship types, and the vessels whose type the window may read differently than the whole log."""
+    """What is known before a window: ship types, and the vessels whose type the window may read differently than the
+    whole log."""
 
     types: dict[int, int] = field(default_factory=dict)
     unsure: set[int] = field(default_factory=set)
@@ -78,21 +83,24 @@ class Types:
     def take_sentence(self, line: bytes, clock: int | None) -> None:
         """Takes a line that may report a ship type, where the clock before it is at a time."""
         sentence, time = sentence_of(line), self.time
-        if sentence is None or time is None or not self.begin <= time <= self.end or clock is not None and time + self.slack < clock:
+        is_late = clock is not None and time is not None and time + self.slack < clock
+        if sentence is None or time is None or not self.begin <= time <= self.end or is_late:
             return
         message = self.joiner.take(sentence, time)
         told = ship_type(bits_of(message.parts)) if message else None
         if message and told:
             self.note(told[0], told[1] if told[1] in RANKED else 0, message)
         if sentence.total > 1:
-            near = bisect.bisect_left(self.firsts, time - 2 * JOINED_WITHIN - self.slack), bisect.bisect_right(self.firsts, time)
+            near = bisect.bisect_left(self.firsts,
+                                      time - 2 * JOINED_WITHIN - self.slack), bisect.bisect_right(self.firsts, time)
             for first in self.firsts[slice(*near)]:
                 self.compare(first, self.joiners[first].take(sentence, time), message)
 
     def note(self, mmsi: int, kind: int, message: Message) -> None:
         known = self.notes.setdefault(mmsi, [])
         if known and known[-1].kind == kind:
-            known[-1].earliest, known[-1].latest = min(known[-1].earliest, message.earliest), max(known[-1].latest, message.time)
+            known[-1].earliest, known[-1].latest = min(known[-1].earliest,
+                                                       message.earliest), max(known[-1].latest, message.time)
         else:
             known.append(Stretch(kind, message.earliest, message.time))
 
@@ -106,7 +114,9 @@ class Types:
     def before(self, first: int, last: int) -> Before:
         """Returns what is known before the window of lines from `first` to `last`."""
         found, hours = self.known_before(first), range(first // HOUR, last // HOUR + 1)
-        found.types = {mmsi: kind for mmsi, kind in found.types.items() if not self.heard.get(mmsi, set()).isdisjoint(hours)}
+        found.types = {
+            mmsi: kind for mmsi, kind in found.types.items() if not self.heard.get(mmsi, set()).isdisjoint(hours)
+        }
         return found
 
     def known_before(self, first: int) -> Before:

@@ -1,8 +1,10 @@
-"""Joins overlapping windows row by row: each row once, and a mark on each that no window has from before its meeting to after its end.
+"""Joins overlapping windows row by row: each row once, and a mark on each that no window has from before its meeting to
+after its end.
 
-The laws of shares by time (docs/TRAFFIC_SERVICE.md) say which rows of a window are those of the whole audit. Two vessels are engaged in a window at no
-step at which they are not engaged in the whole. So once the whole has a step at which they are not, or a meeting of theirs has ended in the window, the
-two agree; that step is called the pair's `sync` here. A window supplies what comes after the last settled step of the one before.
+The laws of shares by time (docs/TRAFFIC_SERVICE.md) say which rows of a window are those of the whole audit. Two
+vessels are engaged in a window at no step at which they are not engaged in the whole. So once the whole has a step at
+which they are not, or a meeting of theirs has ended in the window, the two agree; that step is called the pair's `sync`
+here. A window supplies what comes after the last settled step of the one before.
 """
 from collections.abc import Iterable
 from dataclasses import dataclass, field
@@ -23,7 +25,8 @@ OTHER = "the window and the one before it accept other reports of hers, as of tw
 
 @dataclass(order=True)
 class Doubt:
-    """Why rows are marked, or may be missing: of a vessel, of a pair, or of all (0), between two times in seconds since the Unix epoch."""
+    """Why rows are marked, or may be missing: of a vessel, of a pair, or of all (0), between two times in seconds since
+    the Unix epoch."""
 
     first: int
     last: int
@@ -37,8 +40,9 @@ class Doubt:
 class Window:
     """A window: its start in seconds, its steps counted from the first window's start, and its rows by pairs.
 
-    `settled` is the last step whose rows neither the window's end nor a later line can change, and `head` the last second of the reports that are
-    compared with those of the window before. `syncs` are those of the vessels that do not agree from the beginning on; None is never.
+    `settled` is the last step whose rows neither the window's end nor a later line can change, and `head` the last
+    second of the reports that are compared with those of the window before. `syncs` are those of the vessels that do
+    not agree from the beginning on; None is never.
     """
 
     start: int
@@ -74,7 +78,8 @@ class Joining:
         self.warm = scenario.steps(max(scenario.gap, STRADDLE)) + 1
         self.before: Window | None = None
         self.doubts: list[Doubt] = []
-        self.pending: dict[Pair, list[Stretch]] = {}        # rows that go on after the settled step of the window before
+        # rows that go on after the settled step of the window before
+        self.pending: dict[Pair, list[Stretch]] = {}
         self.held: list[Stretch] = []
         self.doubtful: set[Pair] = set()
 
@@ -87,7 +92,9 @@ class Joining:
             self.tie(before, window)
         found: list[Stretch] = []
         for pair in sorted(set(window.of_pair) | set(self.pending)):
-            found += self.settle(window, self.rows_from_first(window, pair) if before is None else self.rows_from_next(before, window, pair))
+            found += self.settle(
+                window,
+                self.rows_from_first(window, pair) if before is None else self.rows_from_next(before, window, pair))
         given, self.held, self.before = self.in_order(self.held), found, window
         return given
 
@@ -104,11 +111,15 @@ class Joining:
         tick, gap = self.scenario.tick, self.scenario.gap
         base = window.first + self.warm
         if base > before.settled:
-            raise Fault(f"the windows from {before.start} and {window.start} overlap by too little: {(base - before.settled) * tick} s more are needed")
+            raise Fault(f"the windows from {before.start} and {window.start} overlap by too little: "
+                        f"{(base - before.settled) * tick} s more are needed")
         begin, end = window.start - gap, min(window.head, before.start + (before.end - before.first) * tick + gap)
         lost = {mmsi for mmsi, sync in before.syncs.items() if sync is None}
         for mmsi in set(before.rows.checks) | set(window.rows.checks) | lost:
-            checks = [[check for check in part.rows.checks.get(mmsi, []) if begin <= check[0] <= end] for part in (before, window)]
+            checks = [[check
+                       for check in part.rows.checks.get(mmsi, [])
+                       if begin <= check[0] <= end]
+                      for part in (before, window)]
             at = agreed_from(checks[0], checks[1], begin, end, gap, mmsi in lost)
             step = None if at is None else window.first + -(-(at - window.start) // tick)
             if step is None or step > base:
@@ -120,12 +131,14 @@ class Joining:
             self.doubt(window, window.first, window.end, (mmsi, 0), DOUBT, OTHER)
         for name, sight in self.sights.items():
             if sight.values != {YES}:
-                self.doubt(window, window.first, window.end, (0, 0), DOUBT, f"the formula {name} is not of meetings alone, and the window may lack rows of it")
+                self.doubt(window, window.first, window.end, (0, 0), DOUBT,
+                           f"the formula {name} is not of meetings alone, and the window may lack rows of it")
 
     def doubt(self, window: Window, first: int, end: int, who: Pair, mark: str, reason: str) -> None:
         """Notes a doubt about the steps from `first` up to before `end`."""
         begin = window.start - window.first * self.scenario.tick
-        self.doubts.append(Doubt(begin + first * self.scenario.tick, begin + end * self.scenario.tick, *who, mark, reason))
+        self.doubts.append(
+            Doubt(begin + first * self.scenario.tick, begin + end * self.scenario.tick, *who, mark, reason))
 
     # the rows of a pair
 
@@ -137,7 +150,8 @@ class Joining:
         return OF_A_RULE if row.is_meeting else self.sights.get(row.fields[3], OF_A_RULE)
 
     def settle(self, window: Window, rows: list[Stretch]) -> list[Stretch]:
-        """Keeps the rows of a pair that go on after the settled step as pending, and returns those that end by it; what begins later is the next one's."""
+        """Keeps the rows of a pair that go on after the settled step as pending, and returns those that end by it; what
+        begins later is the next one's."""
         going = [row for row in rows if row.first <= window.settled < row.last]
         if going:
             self.pending[going[0].pair] = going
@@ -167,11 +181,13 @@ class Joining:
         return pair in self.doubtful or any(window.syncs.get(mmsi, ALWAYS) is None for mmsi in pair)
 
     def sync(self, before: Window, window: Window, pair: Pair) -> int | None:
-        """Returns the step from which on a window agrees with the whole about a pair; None if it does not within its settled steps."""
+        """Returns the step from which on a window agrees with the whole about a pair; None if it does not within its
+        settled steps."""
         if self.is_doubtful(window, pair):
             return None
         if window.fresh.intersection(pair) and all(window.syncs.get(mmsi, ALWAYS) == ALWAYS for mmsi in pair):
-            return window.first                             # a vessel that is not seen at this step: the two are not engaged
+            # a vessel that is not seen at this step: the two are not engaged
+            return window.first
         low = max(window.first + self.warm, *(window.syncs.get(mmsi, ALWAYS) or 0 for mmsi in pair))
         known = before.known_from(pair)
         if known is not None:
@@ -201,7 +217,8 @@ class Joining:
         return row
 
     def over_border(self, old: Stretch, new: Stretch | None, border: int, sync: int | None) -> Stretch:
-        """Returns the one row of a stretch that goes on over the settled step of the window before; `new` is this window's part of it.
+        """Returns the one row of a stretch that goes on over the settled step of the window before; `new` is this
+        window's part of it.
 
         A meeting that both have there is one meeting, whenever it began, and it ends in both alike.
         """
@@ -221,13 +238,18 @@ class Joining:
         if sync is None or known is None:
             return False
         begin = max(sync, known)
-        found = [{self.common(row, before.settled) for row in part.of_pair.get(pair, []) if self.is_common(row, begin, before.settled)}
+        found = [{
+            self.common(row, before.settled)
+            for row in part.of_pair.get(pair, [])
+            if self.is_common(row, begin, before.settled)
+        }
                  for part in (before, window)]
         other = sorted(found[0] ^ found[1])
         if not other:
             return False
         self.doubtful.add(pair)
-        self.doubt(window, window.first, window.end, pair, DOUBT, f"the windows from {before.start} and {window.start} differ in a row: {' '.join(other[0])}")
+        self.doubt(window, window.first, window.end, pair, DOUBT,
+                   f"the windows from {before.start} and {window.start} differ in a row: {' '.join(other[0])}")
         for row in [*self.held, *pending]:
             if row.pair == pair and row.last >= window.first:
                 self.mark(row, DOUBT)
@@ -239,5 +261,7 @@ class Joining:
         return sight.values == {YES} and sight.no_edge and sync + self.back(row) < row.first <= border
 
     def common(self, row: Stretch, border: int) -> tuple[str, ...]:
-        """Returns what of a row two windows have to report alike: all of it, or its beginning if it goes on over the settled step."""
-        return (*row.track, str(row.first), *row.fields[row.at + 1:]) if row.last <= border else (*row.track, str(row.first), "..")
+        """Returns what of a row two windows have to report alike: all of it, or its beginning if it goes on over the
+        settled step."""
+        end = row.fields[row.at + 1:] if row.last <= border else ("..",)
+        return (*row.track, str(row.first), *end)

@@ -1,6 +1,8 @@
-"""Which rows of a stream belong to a meeting that began before their window, so that no window has its beginning and its end.
+"""Which rows of a stream belong to a meeting that began before their window, so that no window has its beginning and
+its end.
 
-It is the rule by which colregs-many marks rows as `cut` (colregs/shares/windows.py), for rows that come one by one in the order of their last steps.
+It is the rule by which colregs-many marks rows as `cut` (colregs/shares/windows.py), for rows that come one by one in
+the order of their last steps.
 """
 from dataclasses import dataclass, field
 
@@ -11,15 +13,17 @@ Pair = tuple[int, int]
 class Beginnings:
     """Takes the rows of meetings and verdicts window by window.
 
-    `border` is the last step of a window that is its own, `base` the step of a window at which the next one has begun to agree with it, and `every` the
-    steps from one window to the next.
+    `border` is the last step of a window that is its own, `base` the step of a window at which the next one has begun
+    to agree with it, and `every` the steps from one window to the next.
     """
 
     border: int
     base: int
     every: int
-    open: dict[int, set[Pair]] = field(default_factory=dict)        # by a window's start: pairs whose meeting began before it, and has not ended
-    syncs: dict[tuple[int, Pair], int] = field(default_factory=dict)     # the step after the end of the first such meeting
+    # by a window's start: pairs whose meeting began before it, and has not ended
+    open: dict[int, set[Pair]] = field(default_factory=dict)
+    # the step after the end of the first such meeting
+    syncs: dict[tuple[int, Pair], int] = field(default_factory=dict)
 
     def take(self, start: int, next_start: int, meeting: bool, pair: Pair, first: int, last: int) -> bool:
         """Takes a row of the window that begins at `start`; returns whether its meeting began before that."""

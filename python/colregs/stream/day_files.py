@@ -1,7 +1,9 @@
-"""The lines of a stream in files by the day of their clock, from which runs are fed as they grow, also after a restart."""
+"""The lines of a stream in files by the day of their clock, from which runs are fed as they grow, also after a
+restart."""
 import calendar
 import collections
 import os
+import re
 import statistics
 import time
 from collections.abc import Callable, Iterator
@@ -13,14 +15,16 @@ from colregs.io.sentences import block
 from colregs.io.tag_blocks import blocks, stamp
 from colregs.stream.health import station_of
 
+BLOCK = 1 << 16                  # bytes that a run is fed at once
 Mark = tuple[str, int]           # a place in the day files: a day, and bytes from its beginning
+MARK = re.compile(r"\d+ \d+\n")
 LEAP, SURE = 3600, 10            # s: a time so far ahead counts once so many lines in a row have such
 LEAST_STATIONS, ACTIVE = 3, 100  # stations with names whose clocks are compared, and lines in which a station is heard
 RECENT, AHEAD = 21, 300          # else lines that are compared, and s that a stamp may lie ahead of their middle
 
 
 class Clock:
-    """The greatest time told so far; one that is far ahead of it counts once ten lines in a row tell such."""
+    """The greatest time so far; one that is far ahead of it counts once ten lines in a row have such a time."""
 
     def __init__(self) -> None:
         self.time: int | None = None
@@ -43,12 +47,14 @@ class Clock:
 class MedianClock:
     """The clock of most stations, or, if fewer than three have names, of most of the last lines. It can go back.
 
-    Its time is the greatest stamp that is at most a tolerance ahead of the middle. So no single station, and no few lines, set it.
+    Its time is the greatest stamp that is at most a tolerance ahead of the middle. So no single station, and no few
+    lines, set it.
     """
 
     def __init__(self, slack: int) -> None:
         self.slack, self.lines = slack, 0
         self.time: int | None = None
+        self.ahead: list[int] = []                              # none: it follows most lines at once
         self.stations: dict[str, tuple[int, int]] = {}          # their last stamps, and the numbers of those lines
         self.recent: collections.deque[int] = collections.deque(maxlen=RECENT)
 
@@ -76,7 +82,8 @@ class MedianClock:
         return self.slack if self.has_several() else AHEAD
 
     def timed(self, line: bytes) -> bytes:
-        """Returns a line with the clock's time if its own is ahead of that by more than the tolerance; else as it is."""
+        """Returns a line with the clock's time if its own is ahead of that by more than the tolerance; else as it
+        is."""
         at = stamp(line)
         if at is None or self.time is None or at <= self.time + self.tolerance():
             return line
@@ -98,7 +105,7 @@ def begin_of(day: str) -> int:
 
 
 class DayFiles:
-    """A folder with a file of lines for each day, the last of which grows."""
+    """A folder with a file of lines for each day; the last file grows."""
 
     def __init__(self, folder: str) -> None:
         self.folder = folder
@@ -144,6 +151,32 @@ class DayFiles:
         assert self.day is not None and self.out is not None        # a line was written
         return self.day, self.out.tell()
 
+    def place_for(self, at: int) -> Mark:
+        """Returns where a line would be written at a time of the clock."""
+        day = day_of(at)
+        return (day, 0) if self.out is None or self.day is None or day > self.day else self.place()
+
+    def add_marks(self, marks: dict[int, Mark]) -> None:
+        """Stores where the lines of some times begin, once they are written."""
+        for number, (day, offset) in marks.items():
+            with open(self.marks_path(day), "a", encoding="ascii") as out:
+                out.write(f"{number} {offset}\n")
+
+    def marks_path(self, day: str) -> str:
+        """Returns the file of a day's marks."""
+        return os.path.join(self.folder, day + ".marks")
+
+    def marks(self, day: str) -> dict[int, Mark]:
+        """Returns the stored marks of a day. A line that was cut off, or a place after the end of the day's file, is
+        none."""
+        try:
+            with open(self.marks_path(day), encoding="ascii") as source:
+                told = [line.split() for line in source if MARK.fullmatch(line)]
+        except (OSError, ValueError):
+            return {}
+        size = os.path.getsize(self.path(day))
+        return {int(number): (day, int(offset)) for number, offset in told if int(offset) <= size}
+
     def close(self) -> None:
         """Closes the file of the last day."""
         if self.out:
@@ -159,11 +192,12 @@ class DayFiles:
         return next((later for later in self.days() if later > day), None)
 
     def blocks(self, place: Mark, goes_on: Callable[[], Mark | None]) -> Iterator[bytes]:
-        """Yields the bytes from a place on as they arrive, up to the place that `goes_on` returns; yields an empty block while there are no more."""
+        """Yields the bytes from a place on as they arrive, up to the place that `goes_on` returns; yields an empty
+        block while there are no more."""
         day, offset = place
         while True:
             limit = goes_on()                          # asked first: what was written before it is read below
-            later, most = self.after(day), 1 << 16
+            later, most = self.after(day), BLOCK
             if limit and limit[0] == day:
                 most = min(most, limit[1] - offset)
             found = read_at(self.path(day), offset, most)
@@ -201,10 +235,11 @@ def whole_length(path: str) -> int:
     return 0
 
 
-def lines_of(path: str) -> Iterator[bytes]:
-    """Yields the lines of a file."""
+def lines_of(path: str, offset: int = 0) -> Iterator[bytes]:
+    """Yields the lines of a file from an offset on."""
     try:
         with open(path, "rb") as source:
+            source.seek(offset)
             yield from source
     except OSError as error:
         raise Fault(f"{path} cannot be read: {reason(error)}") from None

@@ -1,7 +1,8 @@
 """Keeps overlapping runs of the program over a stream that does not end, and writes each of their rows once.
 
-Windows begin at whole multiples of `every`, so that a restart makes the same ones, and each runs on into the next by the overlap. A row is of the
-window in whose own steps it ends; docs/TRAFFIC_SERVICE.md says why that is each row once, and what it needs.
+Windows begin at whole multiples of `every`, so that a restart makes the same ones, and each runs on into the next by
+the overlap. A row is of the window in whose own steps it ends; docs/TRAFFIC_SERVICE.md says why that is each row once,
+and what it needs.
 """
 import argparse
 import itertools
@@ -13,7 +14,7 @@ import threading
 import time
 from collections.abc import Collection, Iterator
 from types import TracebackType
-from typing import Any
+from typing import Any, Protocol
 
 from colregs.errors import DONE, FAILED, Fault, report
 from colregs.io.files import replace
@@ -66,17 +67,43 @@ class Numbers:
         return -(-(clock - self.more - start) // self.tick) - 1 - behind
 
 
-class Follow:
-    """A stream that is followed: its day files, the runs over its windows, and the rows that were written. Close it, or use it with `with`."""
+class Listener(Protocol):
+    """What looks at a stream as it is followed. With one, each window has a run of `points` too, and new lines wait
+    while the runs are behind."""
 
-    def __init__(self, given: argparse.Namespace, scenario: Scenario, program: str, sink: Sink) -> None:
-        self.given, self.scenario, self.program, self.sink = given, scenario, program, sink
+    def load(self, days: list[str]) -> None:
+        """Takes what an earlier run wrote into the day files of these days."""
+
+    def lines(self, lines: list[bytes], clock: int) -> None:
+        """Takes lines as they are in the day files, with the time of the clock after them."""
+
+    def point(self, row: str) -> None:
+        """Takes a row of `points`."""
+
+    def passed(self, clock: int) -> None:
+        """Takes the time of the clock, after the lines and rows that are there."""
+
+    def ended(self) -> None:
+        """Takes the end of a stream that ended for good, after its last row."""
+
+
+POINTS = "points"                # the mode whose rows only a listener gets
+
+
+class Follow:
+    """A stream that is followed: its day files, the runs over its windows, and the rows that were written. Close it, or
+    use it with `with`."""
+
+    def __init__(self, given: argparse.Namespace, scenario: Scenario, program: str, sink: Sink,
+                 listener: Listener | None = None) -> None:
+        self.given, self.scenario, self.program, self.sink, self.listener = given, scenario, program, sink, listener
         self.numbers = Numbers(scenario, given.every, -(-given.overlap // scenario.tick))
         self.files, self.senders = DayFiles(given.days), Senders()
         self.clock: Clock | MedianClock = MedianClock(scenario.slack) if given.clock == "median" else Clock()
         self.health = Health(given.days, scenario.slack, self.say)
         self.written, self.types = Written(given.days, sink), StreamTypes(given.days, scenario.slack, scenario.ranks)
-        self.beginnings = Beginnings(self.numbers.last, given.every + scenario.steps(max(scenario.gap, STRADDLE)) + 1, given.every)
+        self.beginnings = Beginnings(self.numbers.last, given.every + scenario.steps(max(scenario.gap, STRADDLE)) + 1,
+                                     given.every)
         self.restarts: dict[tuple[int, str, frozenset[int] | None], int] = {}     # of runs that were killed
         self.windows: dict[int, Window] = {}            # those that are open, by their starts
         self.over: set[int] = set()                     # the starts of those that are closed
@@ -88,13 +115,19 @@ class Follow:
         self.grouped, self.cut, self.faults = False, False, 0
         self.looked: int | None = None                  # when the clock was at the last look for new vessels
         self.state = os.path.join(given.days, "windows.json")
-        self.first: int | None = None                   # the first window that is not done, as it is stored for a restart
-        self.marks: dict[int, Mark] = {}                # by ten minutes of the clock, where a restart found their first line
+        # the first window that is not done, as it is stored for a restart
+        self.first: int | None = None
+        # by ten minutes of the clock, where their first line is in the day files
+        self.marks: dict[int, Mark] = {}
+        self.fresh: dict[int, Mark] = {}                # those that are not stored yet
+        # where the lines begin that are too far ahead of the clock to count yet
+        self.ahead: Mark | None = None
 
     def __enter__(self) -> "Follow":
         return self
 
-    def __exit__(self, kind: type[BaseException] | None, error: BaseException | None, trace: TracebackType | None) -> None:
+    def __exit__(self, kind: type[BaseException] | None, error: BaseException | None,
+                 trace: TracebackType | None) -> None:
         self.close()
 
     def close(self) -> None:
@@ -113,37 +146,63 @@ class Follow:
     # the lines
 
     def restart(self) -> None:
-        """Reads the earlier day files for the clock and the vessels, and opens the windows that hold the clock."""
-        for day in self.files.days()[-2:]:
-            offset = 0
-            for line in lines_of(self.files.path(day)):
-                now = self.clock.take(line)
-                if now is not None:
-                    self.marks.setdefault(now // MARK, (day, offset))
-                    self.hear(line)
-                    self.types.take(line, now)
-                offset += len(line)
+        """Reads the earlier day files for the clock and the vessels, from the first window on that is not done.
+
+        Then it opens the windows that hold the clock.
+        """
+        days, first = self.files.days()[-2:], self.undone()
+        if self.listener:
+            self.listener.load(days)
+        for day in days:
+            self.marks |= self.files.marks(day)
+        begin = self.known_place(first)
+        for day in days:
+            if day >= begin[0]:
+                self.read_again(day, begin[1] if day == begin[0] else 0)
         if self.clock.time is not None:
-            for start in range(self.undone(), self.now(), self.numbers.every * self.numbers.tick):
+            for start in range(self.now() if first is None else first, self.now(),
+                               self.numbers.every * self.numbers.tick):
                 if self.has_lines(start):               # a run that was killed may have been behind the clock
                     self.begin_window(start, True)
             self.open(again=True)
             self.close_those_over()
+
+    def known_place(self, first: int | None) -> Mark:
+        """Returns where to begin to read the day files, and sets the clock there. Without a stored window or a mark
+        before it, that is their beginning."""
+        before = [mark for mark in self.marks if first is not None and mark <= (first - self.numbers.more) // MARK]
+        if not before:
+            return "", 0
+        self.clock.time = max(before) * MARK
+        return self.marks[max(before)]
+
+    def read_again(self, day: str, offset: int) -> None:
+        """Reads a day's file from an offset on."""
+        for line in lines_of(self.files.path(day), offset):
+            now = self.clock.take(line)
+            if now is not None:
+                self.marks.setdefault(now // MARK, (day, offset))
+                self.hear(line)
+                self.types.take(line, now)
+                if self.listener:
+                    self.listener.lines([line], now)
+            offset += len(line)
 
     def has_lines(self, start: int) -> bool:
         """Returns whether the day files have lines from about a window's time."""
         first, last = start - self.numbers.more, start + self.numbers.ticks * self.numbers.tick + self.numbers.more
         return any(first // MARK <= mark <= last // MARK for mark in self.marks)
 
-    def undone(self) -> int:
-        """Returns the start of the first window of which an earlier run has not written all rows; if none is stored, the clock."""
+    def undone(self) -> int | None:
+        """Returns the start of the first window whose rows an earlier run has not all written; None if none is
+        stored."""
         try:
             with open(self.state, encoding="utf-8") as source:
                 stored = json.load(source)
             self.beginnings.load(stored.get("open", {}))
             return int(stored["first"])
         except (OSError, ValueError, KeyError, TypeError, AttributeError, IndexError):
-            return self.now()
+            return None
 
     def tell_done(self) -> None:
         """Stores for a restart which windows are not done yet."""
@@ -160,6 +219,7 @@ class Follow:
 
     def take(self, lines: list[bytes]) -> None:
         """Takes lines: writes them to the day files, and begins and ends windows."""
+        taken: list[bytes] = []
         for line in lines:
             line = stamped(line.rstrip(b"\r\n"), int(time.time())) + b"\n" if self.given.now else line
             before = self.clock.time
@@ -168,39 +228,57 @@ class Follow:
             self.health.take(came, came != line)
             if now is None:
                 continue                                # nobody knows its time yet
+            place = self.files.place_for(now)
             if now != before:
-                self.open(again=before is None)
+                self.open(again=before is None, place=self.ahead)
+            self.ahead = (self.ahead or place) if self.clock.ahead else None
+            if now // MARK not in self.marks:
+                self.marks[now // MARK] = self.fresh[now // MARK] = place
             self.files.write(line, now)
             self.hear(line)
             self.types.take(line, now)
+            taken.append(line)
         self.files.flush()
+        self.files.add_marks(self.fresh)
+        self.fresh = {}
+        if self.listener and self.clock.time is not None:
+            self.listener.lines(taken, self.clock.time)
         self.health.came()
         self.close_those_over()
         self.take_in_new(False)
         self.types.store()
         self.tell_done()
 
-    def open(self, again: bool) -> None:
-        """Begins the windows that are open by now."""
+    def open(self, again: bool, place: Mark | None = None) -> None:
+        """Begins the windows that are open by now; `place` is where the lines begin that were ahead of the clock until
+        now."""
         for start in self.numbers.starts(self.now()):
             if start not in self.windows and start not in self.over:
-                self.begin_window(start, again)
+                self.begin_window(start, again, place)
 
     def place_of(self, at: int) -> Mark:
         """Returns a place in the day files before which no line has a time as late as this."""
         marks = [mark for mark in self.marks if mark <= at // MARK]
         return self.marks[max(marks)] if marks else self.files.beginning(at)
 
-    def begin_window(self, start: int, again: bool) -> None:
-        """Begins the runs of a window, with the lines from now on; with `again` also with those of the day files before."""
-        place = self.place_of(start - self.numbers.gap) if again or self.files.out is None else self.files.place()
+    def begin_window(self, start: int, again: bool, place: Mark | None = None) -> None:
+        """Begins the runs of a window, with the lines from now or from a place on; with `again` also with those of the
+        day files before."""
+        if again or self.files.out is None:
+            place = self.place_of(start - self.numbers.gap)
         self.written.load(start)
-        window = self.windows[start] = Window(start, place, self.types.lines_before(start - self.numbers.gap))
+        window = self.windows[start] = Window(start, place or self.files.place(),
+                                              self.types.lines_before(start - self.numbers.gap))
         if self.grouped:
             self.split(window, sorted(self.vessels(window)))
         else:
             for mode in self.given.modes:
                 self.begin(window, mode, None)
+        if self.listener:
+            for run in self.runs:
+                if run.mode == POINTS and run.limit is None and self.files.out:
+                    run.end_at(self.files.place(), self.now(), False)       # the new window has the points from here on
+            self.begin(window, POINTS, None)
 
     def close_those_over(self) -> None:
         """Ends the runs of windows that no later line can change."""
@@ -218,6 +296,7 @@ class Follow:
         self.heard = {mmsi: at for mmsi, at in self.heard.items() if at >= oldest}
         self.written.forget(oldest)
         self.beginnings.forget(oldest)
+        self.marks = {mark: place for mark, place in self.marks.items() if mark >= oldest // MARK - 1}
 
     # the runs
 
@@ -231,7 +310,9 @@ class Follow:
 
     def vessels(self, window: Window) -> set[int]:
         """Returns who can be a subject of a window: the scenario's subjects, or who was heard since its lines began."""
-        return set(self.scenario.subjects) or {mmsi for mmsi, at in self.heard.items() if at >= window.start - self.numbers.gap}
+        return set(self.scenario.subjects) or {
+            mmsi for mmsi, at in self.heard.items() if at >= window.start - self.numbers.gap
+        }
 
     def split(self, window: Window, vessels: list[int], modes: Collection[str] = ()) -> None:
         """Begins runs of groups of subjects instead of one of all pairs."""
@@ -264,13 +345,15 @@ class Follow:
         elif status < 0 and self.restarts.get(run.key(), 0) < MOST_RESTARTS:
             self.begin_again(run)
         elif status != 0:
-            self.fault(f"a run of `{run.mode}` from {run.window.start} ended with status {status}, {words}{next_step(status, words)}")
+            self.fault(f"a run of `{run.mode}` from {run.window.start} ended with status {status}, "
+                       f"{words}{next_step(status, words)}")
 
     def begin_again(self, run: StreamRun) -> None:
         """Begins a run again that was killed, from the day files; the rows that it wrote are not written again."""
         self.restarts[run.key()] = self.restarts.get(run.key(), 0) + 1
         self.health.restarts += 1
-        self.say(f"a run of `{run.mode}` from {run.window.start} was killed by signal {-run.child.returncode}, and begins again from the day files")
+        self.say(f"a run of `{run.mode}` from {run.window.start} was killed by signal {-run.child.returncode}, and "
+                 "begins again from the day files")
         before = set(self.runs)
         self.begin(run.window, run.mode, run.group)
         if run.limit and run.closed is not None:
@@ -281,7 +364,8 @@ class Follow:
         """Splits a run with too many pairs into runs of groups, and a group into two."""
         vessels = sorted(run.group or self.vessels(run.window))
         if len(vessels) < 2:
-            self.fault(f"{vessels[0]} alone is in contact with more vessels than 4096 pairs take: take a smaller `detect.watch`, or a shorter --ticks-each")
+            self.fault(f"{vessels[0]} alone is in contact with more vessels than 4096 pairs take: take a smaller "
+                       "`detect.watch`, or a shorter --ticks-each")
             return
         before = set(self.runs)
         if run.group is None:
@@ -321,7 +405,8 @@ class Follow:
     def tell_long(self, run: StreamRun, row: str) -> None:
         """Reports once per run that a row is longer than the overlap."""
         if run.note_long():
-            self.say(f"a row of the window from {run.window.start} is longer than the overlap, so the next window tells it otherwise: {row}")
+            self.say(f"a row of the window from {run.window.start} is longer than the overlap, so the next window "
+                     f"reports it otherwise: {row}")
 
     def is_last(self, run: StreamRun) -> bool:
         """Returns whether a run is of the last window of a stream that ended for good."""
@@ -329,12 +414,16 @@ class Follow:
         return self.given.whole and run.closed is not None and following > run.closed
 
     def is_early(self, run: StreamRun) -> bool:
-        """Returns whether a window before this run's is not done: its rows come first, and none that comes later delays them."""
+        """Returns whether a window before this run's is not done: its rows come first, and none that comes later delays
+        them."""
         return any(other.mode == run.mode and other.window.start < run.window.start for other in self.runs)
 
     def handle(self, event: tuple[Any, ...]) -> None:
         """Takes a row or the end of a run."""
-        if event[0] == "row" and self.is_early(event[1]):
+        if event[0] == "row" and event[1].mode == POINTS:
+            if self.listener:
+                self.listener.point(event[2])
+        elif event[0] == "row" and self.is_early(event[1]):
             self.held.append((event[1], event[2]))
         elif event[0] == "row":
             self.row(*event[1:])
@@ -362,7 +451,8 @@ class Follow:
         waiting: list[tuple[Any, ...]] = []
         ended = False
         while not stop.is_set() and not (ended and not waiting):
-            if waiting and len(self.runs) < MOST_RUNS * len(self.given.modes) or waiting and not self.crowded():
+            if waiting and not self.is_behind() and (len(self.runs) < MOST_RUNS * len(self.given.modes)
+                                                     or not self.crowded()):
                 lines, mark = waiting.pop(0)
                 self.take(lines)
                 if mark is not None:
@@ -378,9 +468,16 @@ class Follow:
                     raise event[1]
             elif event:
                 self.handle(event)
+            if self.listener and self.clock.time is not None:
+                self.listener.passed(self.clock.time)
         source.stop()
         self.finish()
         return FAILED if self.faults else DONE
+
+    def is_behind(self) -> bool:
+        """Returns whether new lines wait for the runs, so that a listener gets rows and points of about one time
+        together."""
+        return self.listener is not None and any(run.behind for run in self.runs)
 
     def crowded(self) -> bool:
         """Returns whether many runs only have to end: those of open windows are no reason to wait."""
@@ -415,6 +512,8 @@ class Follow:
             event = self.next(True)
             if event and event[0] in ("row", "ended"):
                 self.handle(event)
+        if self.listener and self.given.whole:
+            self.listener.ended()
         self.health.write(self.clock.time, len(self.heard))
 
     def say(self, words: str) -> None:

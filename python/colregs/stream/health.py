@@ -1,4 +1,5 @@
-"""What a stream is like: its stations and their clocks, its lines, rows and restarts, as JSON lines, with a warning if something is amiss."""
+"""What a stream is like: its stations and their clocks, its lines, rows and restarts, as JSON lines, with a warning if
+something is amiss."""
 import json
 import os
 import re
@@ -12,9 +13,10 @@ from colregs.io.tag_blocks import stamp
 from colregs.model.earth import iso
 
 STATION = re.compile(rb"\\(?:[^\\]*,)?s:([^,*\\]+)[,*]")
-EVERY = 60                      # s of this machine's clock between two lines of health, and without a line before a warning
+# s of this machine's clock between two lines of health, and without a line before a warning
+EVERY = 60
 SHARE = 20                      # one in so many lines that are `late` or a `jump` is a reason to warn
-LEAST_LINES = 100               # lines of a window below which no share is told
+LEAST_LINES = 100               # lines of a window below which no share is reported
 OFF = 60                        # s by which a station's clock is off, and its slack
 
 
@@ -26,7 +28,8 @@ def station_of(line: bytes) -> str:
 
 @dataclass
 class Station:
-    """A station: its lines, its last stamp, and how far its stamps were from the middle of all stations' when they came, in seconds."""
+    """A station: its lines, its last stamp, and how far its stamps were from the middle of all stations' when they
+    came, in seconds."""
 
     lines: int = 0
     last: int = 0
@@ -77,7 +80,8 @@ class Health:
         if start == self.window:
             return                                          # another group of the same window
         self.window, self.outcomes, total = start, dict(counts), sum(counts.values()) - counts.get("outside", 0)
-        for name, step in (("late", "a station whose clock is ahead, or lines that come late: see health.jsonl, and give --clock median or a greater log.slack"),
+        for name, step in (("late", "a station whose clock is ahead, or lines that come late: see health.jsonl, and "
+                                    "give --clock median or a greater log.slack"),
                            ("jump", "two vessels under one MMSI, or wrong places")):
             if total >= LEAST_LINES and counts.get(name, 0) * SHARE > total:
                 self.say(f"{counts[name]} of {total} lines of the window from {iso(start)} are `{name}`: {step}")
@@ -98,10 +102,17 @@ class Health:
             if abs(station.offset) > OFF + self.slack and not station.warned:
                 station.warned = True
                 side = "ahead of" if station.offset > 0 else "behind"
-                self.say(f"the clock of the station {name or 'without a name'} is {abs(station.offset)} s {side} that of most stations")
+                self.say(f"the clock of the station {name or 'without a name'} is {abs(station.offset)} s {side} that "
+                         "of most stations")
         told: dict[str, Any] = {
-            "clock": None if clock is None else iso(clock), "lines": self.lines, "vessels": vessels, "rows": self.rows, "restarts": self.restarts,
-            "stations": {name: {"lines": one.lines, "offset": one.offset, "lag": one.lag, "lead": one.lead, "restamped": one.restamped}
-                         for name, one in sorted(self.stations.items())}, "last_window": self.outcomes}
+            "clock": None if clock is None else iso(clock), "lines": self.lines, "vessels": vessels, "rows": self.rows,
+            "restarts": self.restarts, "stations": {
+                name: {
+                    "lines": one.lines, "offset": one.offset, "lag": one.lag, "lead": one.lead,
+                    "restamped": one.restamped
+                }
+                for name, one in sorted(self.stations.items())
+            }, "last_window": self.outcomes
+        }
         with open(self.path, "a", encoding="utf-8") as out:
             out.write(json.dumps(told) + "\n")

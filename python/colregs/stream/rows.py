@@ -1,4 +1,5 @@
-"""Rows of a stream as JSON lines, each once: a file of rows for each day, and beside it standard output, a file or a command."""
+"""Rows of a stream as JSON lines, each once: a file of rows for each day, and beside it standard output, a file or a
+command."""
 import json
 import os
 import subprocess
@@ -12,18 +13,25 @@ from colregs.stream.day_files import day_of, whole_length
 
 
 def as_values(text: str, mode: str, start: int, tick: int, begins_before: bool = False) -> dict[str, Any]:
-    """Returns a row of the program as a dictionary, with times instead of steps; `row` and `run` are as the program has them.
+    """Returns a row of the program as a dictionary, with times instead of steps; `row` and `run` are as the program has
+    them.
 
-    `begins_before` says that the row's meeting began before the window, so that one run over the whole stream may have another row.
+    `begins_before` says that the row's meeting began before the window, so that one run over the whole stream may have
+    another row.
     """
     row = row_of(text.split(","))
     if not isinstance(row, (Meeting, Verdict, Alarm)):
         raise ValueError(f"`{text}` is no row of a stream")
-    made: dict[str, Any] = {"mode": mode, "run": start, "row": text, "kind": text.partition(",")[0], "subject": row.subject, "other": row.other}
+    made: dict[str, Any] = {
+        "mode": mode, "run": start, "row": text, "kind": text.partition(",")[0], "subject": row.subject,
+        "other": row.other
+    }
     if isinstance(row, Alarm):
-        return made | {"rule": row.rule, "step": iso(start + row.step * tick), "decided": iso(start + (row.decided + 1) * tick)}
+        return made | {
+            "rule": row.rule, "step": iso(start + row.step * tick), "decided": iso(start + (row.decided + 1) * tick)
+        }
     if isinstance(row, Meeting):
-        made |= {"encounter": row.kind, "least": row.least}
+        made |= {"encounter": row.encounter, "least": row.metres}
     else:
         made |= {"rule": row.rule, "value": row.value}
     made |= {"begins": iso(start + row.first * tick), "ends": iso(start + (row.last + 1) * tick)}
@@ -31,7 +39,8 @@ def as_values(text: str, mode: str, start: int, tick: int, begins_before: bool =
 
 
 def steps_of(text: str) -> tuple[int, int]:
-    """Returns the first step of a row and the one by which it is ordered: its last, or the one that decides an alarm."""
+    """Returns the first step of a row and the one by which it is ordered: its last, or the one that decides an
+    alarm."""
     fields = text.split(",")
     at = 5 if fields[0] == "verdict" else 4
     return int(fields[at]), int(fields[at + 1])
@@ -112,7 +121,8 @@ class Command:
 
 
 class Written:
-    """The rows that were written, by mode and window; each goes to the sink and then into the day's file, which a restart reads."""
+    """The rows that were written, by mode and window; each goes to the sink and then into the day's file, which a
+    restart reads."""
 
     def __init__(self, folder: str, sink: Sink) -> None:
         self.folder, self.sink = folder, sink

@@ -1,16 +1,18 @@
-"""A run of the program over a window of a stream: fed from the day files as they grow, its rows handed on as they come."""
+"""A run of the program over a window of a stream: fed from the day files as they grow, its rows handed on as they
+come."""
 import subprocess
 import threading
 from collections.abc import Callable, Collection
 from typing import Any
 
-from colregs.stream.day_files import DayFiles, Mark
+from colregs.stream.day_files import BLOCK, DayFiles, Mark
 
 PAUSE = 0.05                     # s between looks at a file that does not grow
 
 
 class Window:
-    """A window of a stream: its start, where its lines begin in the day files, and the lines of ship types that stand before them."""
+    """A window of a stream: its start, where its lines begin in the day files, and the lines of ship types that stand
+    before them."""
 
     def __init__(self, start: int, place: Mark, types: bytes = b"") -> None:
         self.start, self.place, self.types, self.grouped = start, place, types, False
@@ -32,17 +34,22 @@ class StreamRun:
         self.limit: Mark | None = None                  # where its log ends
         self.closed: int | None = None                  # and where the clock is there
         self.cut, self.long = False, False
-        self.child: subprocess.Popen[bytes] = subprocess.Popen(words, stdin=subprocess.PIPE, stdout=subprocess.PIPE, stderr=subprocess.PIPE)
-        self.threads = [threading.Thread(target=work, args=(files, rows), daemon=True) for work in (self.feed, self.read)]
+        self.behind = False                             # whether more lines are there than one block of them
+        self.child: subprocess.Popen[bytes] = subprocess.Popen(words, stdin=subprocess.PIPE, stdout=subprocess.PIPE,
+                                                               stderr=subprocess.PIPE)
+        self.threads = [
+            threading.Thread(target=work, args=(files, rows), daemon=True) for work in (self.feed, self.read)
+        ]
         for thread in self.threads:
             thread.start()
 
     def key(self) -> tuple[int, str, frozenset[int] | None]:
-        """Returns what tells this run from others: its window's start, its mode and its group."""
+        """Returns what distinguishes this run from others: its window's start, its mode and its group."""
         return self.window.start, self.mode, self.group
 
     def end_at(self, place: Mark, clock: int, cut: bool) -> None:
-        """Ends the log of this run at a place, where the clock is at a time; `cut` says that the stream continues some time."""
+        """Ends the log of this run at a place, where the clock is at a time; `cut` says that the stream continues some
+        time."""
         self.limit, self.closed, self.cut = place, clock, cut
 
     def note_long(self) -> bool:
@@ -57,6 +64,7 @@ class StreamRun:
         try:
             self.child.stdin.write(self.window.types)
             for block in files.blocks(self.window.place, lambda: self.limit):
+                self.behind = len(block) >= BLOCK
                 if block:
                     self.child.stdin.write(block)
                     self.child.stdin.flush()
@@ -66,7 +74,7 @@ class StreamRun:
                     waiting.wait(PAUSE)
             self.child.stdin.close()
         except (BrokenPipeError, ValueError, OSError):
-            pass                                        # the program has ended, which `read` tells
+            pass                                        # the program has ended, which `read` reports
 
     def read(self, _: object, rows: Callable[[tuple[Any, ...]], None]) -> None:
         """Hands on the program's rows, and then how it ended."""
@@ -78,17 +86,19 @@ class StreamRun:
         for line in stdout:
             if not line.endswith(b"\n"):
                 break                                   # the program was killed while it wrote this row
-            if line.startswith((b"meeting,", b"verdict,", b"alarm,")):
+            if line.startswith((b"meeting,", b"verdict,", b"alarm,", b"point,")):
                 rows(("row", self, line.decode().rstrip("\n")))
             elif line.startswith(b"lines,"):
                 _, outcome, count, _ = line.decode().split(",", 3)
                 self.counts[outcome] = int(count)
         self.child.wait()
+        self.behind = False
         listener.join()
         rows(("ended", self, b"".join(error).decode("utf-8", "replace").strip()))
 
     def is_mine(self, subject: int, other: int, own: Collection[int]) -> bool:
-        """Returns whether a row is this run's to report: its subject is in the group, or is no subject at all and the other is."""
+        """Returns whether a row is this run's to report: its subject is in the group, or is no subject at all and the
+        other is."""
         return self.group is None or subject in self.group or bool(own) and subject not in own and other in self.group
 
     def stop(self) -> None:

@@ -10,7 +10,8 @@ from typing import BinaryIO, Protocol
 from colregs.errors import Fault, report
 from colregs.io.files import replace
 
-BLOCK, PAUSE, AGAIN = 1 << 16, 0.2, 5     # bytes of a read; s between looks at a file; s before a command is begun again
+# bytes of a read; s between looks at a file; s before a command is begun again
+BLOCK, PAUSE, AGAIN = 1 << 16, 0.2, 5
 
 
 Mark = dict[str, int] | None                 # what a restart needs to know of the lines taken
@@ -72,7 +73,8 @@ class Command:
     def lines(self) -> Iterator[Lines]:
         """Yields the lines that the command writes."""
         while True:
-            self.child = subprocess.Popen(["sh", "-c", self.words], stdout=subprocess.PIPE, stdin=subprocess.DEVNULL, start_new_session=True)
+            self.child = subprocess.Popen(["sh", "-c", self.words], stdout=subprocess.PIPE, stdin=subprocess.DEVNULL,
+                                          start_new_session=True)
             assert self.child.stdout is not None
             yield from lines_of_blocks(blocks_of(self.child.stdout.fileno()))
             self.child.wait()
@@ -92,7 +94,8 @@ class Command:
 
 
 class File:
-    """A file that grows; where it is replaced or cut off, the new one is read from its beginning. A restart goes on behind the lines taken."""
+    """A file that grows; where it is replaced or cut off, the new one is read from its beginning. A restart goes on
+    behind the lines taken."""
 
     def __init__(self, path: str, state: str, ends: bool) -> None:
         self.path, self.state, self.ends = path, state, ends

@@ -33,7 +33,8 @@ class StreamTypes:
             self.types.notes[int(mmsi)] = [Stretch(kind, at, at)]
 
     def take(self, line: bytes, clock: int) -> None:
-        """Takes a line, where the clock of the stream is at a time; a stamp far ahead of it is no time of the types either."""
+        """Takes a line, where the clock of the stream is at a time; a stamp far ahead of it is no time of the types
+        either."""
         if self.counts:
             self.types.end = clock + LEAP
             self.types.take([line])
@@ -48,7 +49,11 @@ class StreamTypes:
 
     def store(self) -> None:
         """Stores the last type of each vessel, if one is another than before."""
-        now = {str(mmsi): [known[-1].kind, known[-1].earliest] for mmsi, known in self.types.notes.items() if known[-1].kind or len(known) > 1}
+        now = {
+            str(mmsi): [known[-1].kind, known[-1].earliest]
+            for mmsi, known in self.types.notes.items()
+            if known[-1].kind or len(known) > 1
+        }
         if now != self.stored:
             self.stored = now
             replace(self.path, json.dumps(now).encode())

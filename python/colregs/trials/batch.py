@@ -60,7 +60,8 @@ def with_progress(results: Iterable[Result], count: int, name: str) -> Iterator[
         if sys.stderr.isatty() and (now - shown > SHOWN_EVERY or done == count):
             shown, filled = now, BAR * done // count
             left = (now - begin) / done * (count - done)
-            print(f"\r{name}: [{'#' * filled}{'.' * (BAR - filled)}] {done} of {count} runs, {left:.0f} s left ", end="", file=sys.stderr, flush=True)
+            print(f"\r{name}: [{'#' * filled}{'.' * (BAR - filled)}] {done} of {count} runs, {left:.0f} s left ",
+                  end="", file=sys.stderr, flush=True)
         yield result
     if sys.stderr.isatty():
         print(file=sys.stderr)

@@ -1,4 +1,5 @@
-"""Fixed meetings: crossing angles by ratios of speed, and geometries of our own of the kind that the literature on collision avoidance uses."""
+"""Fixed meetings: crossing angles by ratios of speed, and geometries of our own of the kind that the literature on
+collision avoidance uses."""
 from __future__ import annotations
 
 import math
@@ -15,33 +16,38 @@ ANGLES = range(0, 360, 10)                       # degrees: the other's course a
 RATIOS = (0.5, 0.75, 1.0, 1.25, 1.5, 2.0)        # her speed against own ship's
 LENGTH = 100                                     # m
 SLOWEST = 1.5                                    # m/s: two that close more slowly meet too late to be a trial
-# Each geometry is a list of others: course against own ship's in degrees, and ratio of speed. All would be nearest at one moment if all kept on.
+# Each geometry is a list of others: course against own ship's in degrees, and ratio of speed. All would be nearest at
+# one moment if all kept on.
 AHEAD, STARBOARD, PORT, SLOW, FAST = (180.0, 1.0), (270.0, 1.0), (90.0, 1.0), (0.0, 0.4), (0.0, 1.7)
 BOW_STARBOARD, BOW_PORT, QUARTER_STARBOARD, QUARTER_PORT = (225.0, 1.0), (135.0, 1.0), (315.0, 1.3), (45.0, 1.3)
 GEOMETRIES: tuple[tuple[tuple[float, float], ...], ...] = (
     (AHEAD,), (STARBOARD,), (PORT,), (SLOW,), (FAST,),
     (AHEAD, STARBOARD), (AHEAD, PORT), (STARBOARD, PORT), (SLOW, STARBOARD), (SLOW, PORT), (SLOW, AHEAD),
     (BOW_STARBOARD, STARBOARD), (BOW_PORT, PORT), (QUARTER_STARBOARD, AHEAD),
-    (AHEAD, STARBOARD, PORT), (SLOW, STARBOARD, PORT), (SLOW, AHEAD, STARBOARD), (AHEAD, BOW_STARBOARD, STARBOARD), (AHEAD, BOW_PORT, PORT),
-    (SLOW, QUARTER_STARBOARD, QUARTER_PORT), (BOW_STARBOARD, BOW_PORT, AHEAD), (SLOW, FAST, BOW_STARBOARD),
+    (AHEAD, STARBOARD, PORT), (SLOW, STARBOARD, PORT), (SLOW, AHEAD, STARBOARD), (AHEAD, BOW_STARBOARD, STARBOARD),
+    (AHEAD, BOW_PORT, PORT), (SLOW, QUARTER_STARBOARD, QUARTER_PORT), (BOW_STARBOARD, BOW_PORT, AHEAD),
+    (SLOW, FAST, BOW_STARBOARD),
 )
 
 
 def begin_of(scenario: PilotScenario, own: Track, number: int, angle: float, ratio: float, seconds: float) -> Begin:
     """Returns one of the others, who would meet own ship after so many seconds."""
     track = Track((own.course + angle) % 360, own.speed * ratio)
-    return Begin(FIRST_OTHER + number, f"OTHER {number + 1}", LENGTH, nearest_place(own, track, seconds, (0.0, 0.0)), track, "fixed")
+    return Begin(FIRST_OTHER + number, f"OTHER {number + 1}", LENGTH, nearest_place(own, track, seconds, (0.0, 0.0)),
+                 track, "fixed")
 
 
 def crossing_jobs(scenario: PilotScenario, setting: Setting) -> list[Job]:
-    """Returns a run for each angle and ratio at which the two close; its seed is ten times the angle, and the number of the ratio."""
+    """Returns a run for each angle and ratio at which the two close; its seed is ten times the angle, and the number of
+    the ratio."""
     jobs = []
     for angle in ANGLES:
         for number, ratio in enumerate(RATIOS):
             track = Track((setting.track.course + angle) % 360, setting.track.speed * ratio)
             if math.dist(velocity(setting.track), velocity(track)) < SLOWEST:
                 continue
-            begin = begin_of(scenario, setting.track, 0, angle, ratio, seconds_to_nearest(scenario, setting.track, track))
+            begin = begin_of(scenario, setting.track, 0, angle, ratio,
+                             seconds_to_nearest(scenario, setting.track, track))
             jobs.append(Job(with_begins(setting, (begin,), f"crossing {angle} {ratio}"), angle * 10 + number))
     return jobs
 
@@ -52,7 +58,8 @@ def geometry_jobs(scenario: PilotScenario, setting: Setting) -> list[Job]:
     for number, others in enumerate(GEOMETRIES, 1):
         tracks = [Track((setting.track.course + angle) % 360, setting.track.speed * ratio) for angle, ratio in others]
         seconds = max(seconds_to_nearest(scenario, setting.track, track) for track in tracks)
-        begins = tuple(begin_of(scenario, setting.track, k, angle, ratio, seconds) for k, (angle, ratio) in enumerate(others))
+        begins = tuple(
+            begin_of(scenario, setting.track, k, angle, ratio, seconds) for k, (angle, ratio) in enumerate(others))
         jobs.append(Job(with_begins(setting, begins, f"geometry {number:02}"), number))
     return jobs
 

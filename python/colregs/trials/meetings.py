@@ -12,13 +12,15 @@ from colregs.pilot.states import Track
 OWN_LENGTH = 100           # m
 FIRST_OTHER = 200000100    # the MMSI of the first of the others
 SHORTEST = 600.0           # s until two that keep on are nearest, at least
-EARLIER = 1.2              # the others begin so much farther off than the watch or the horizon reach, so that no meeting has begun
+# the others begin so much farther off than the watch or the horizon reach, so that no meeting has begun
+EARLIER = 1.2
 MISS = 150                 # m: the standard deviation of the place at which another would be nearest
 
 
 @dataclass(frozen=True)
 class Kind:
-    """A kind of meeting by its geometry: the other's course against own ship's in degrees, and her speed against own ship's."""
+    """A kind of meeting by its geometry: the other's course against own ship's in degrees, and her speed against own
+    ship's."""
 
     name: str
     courses: tuple[float, float]
@@ -61,7 +63,8 @@ def seconds_to_nearest(scenario: PilotScenario, own: Track, other: Track) -> flo
     return max(SHORTEST, min(scenario.watch / closing, float(horizon)) * EARLIER)
 
 
-def drawn(scenario: PilotScenario, own: Track, kinds: tuple[str, ...], targets: tuple[int, int], draw: random.Random) -> tuple[str, list[Begin]]:
+def drawn(scenario: PilotScenario, own: Track, kinds: tuple[str, ...], targets: tuple[int, int],
+          draw: random.Random) -> tuple[str, list[Begin]]:
     """Returns the kind of a run, one of the list, and its others, at least `targets[0]` and at most `targets[1]`."""
     name, found = draw.choice(kinds), list[Begin]()
     for number in range(draw.randint(*targets)):
@@ -70,5 +73,7 @@ def drawn(scenario: PilotScenario, own: Track, kinds: tuple[str, ...], targets: 
         seconds = seconds_to_nearest(scenario, own, track) * (1.0 if number == 0 else draw.uniform(1.0, 1.5))
         miss = draw.gauss(0, MISS), draw.gauss(0, MISS)
         length = round(draw.triangular(20, 300, 100))
-        found.append(Begin(FIRST_OTHER + number, f"OTHER {number + 1}", length, nearest_place(own, track, seconds, miss), track, kind.name))
+        found.append(
+            Begin(FIRST_OTHER + number, f"OTHER {number + 1}", length, nearest_place(own, track, seconds, miss), track,
+                  kind.name))
     return name, found

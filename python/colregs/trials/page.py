@@ -1,4 +1,5 @@
-"""The page of trials: one file that asks nothing of a network, with the table, the worst runs as pictures with a slider of time, and polar pictures."""
+"""The page of trials: one file that asks nothing of a network, with the table, the worst runs as pictures with a slider
+of time, and polar pictures."""
 from __future__ import annotations
 
 import html
@@ -25,34 +26,50 @@ def asset(name: str) -> str:
 
 def run_words(result: Result) -> str:
     """Returns what happened in a run, in a few sentences."""
-    words = [f"Seed {result.seed}: least distance {result.least:.0f} m, {result.replans} plans, {result.none} times none, {result.lapsed} moments without a promise."]
+    words = [
+        f"Seed {result.seed}: least distance {result.least:.0f} m, {result.replans} plans, {result.none} times none, "
+        f"{result.lapsed} moments without a promise."
+    ]
     words += [f"Collision with {', '.join(map(str, result.collided))}."] if result.collided else []
     words += [f"Domain of {', '.join(map(str, result.entered))} entered."] if result.entered else []
-    words += [f"{breach.rule} towards {breach.other} broken at {breach.first} to {breach.last} s{'' if breach.planned else ', without a new plan'}."
-              for breach in result.broken]
+    words += [
+        f"{breach.rule} towards {breach.other} broken at {breach.first} to {breach.last} "
+        f"s{'' if breach.planned else ', without a new plan'}."
+        for breach in result.broken
+    ]
     return " ".join(words + ([result.fault] if result.fault else []))
 
 
 def run_picture(scenario: PilotScenario, result: Result) -> Json:
     """Returns what the page draws of a run; own ship is the first vessel, and has no domain."""
     lengths = [begin.length for begin in result.others]
-    return {"title": f"{result.kind} {result.seed}", "words": run_words(result), "every": FIX_EVERY,
-            "names": ["OWN SHIP"] + [begin.name for begin in result.others], "lengths": [OWN_LENGTH] + lengths,
-            "radii": [0] + [scenario.base + scenario.lengths * length for length in lengths],
-            "places": [fix.places for fix in result.fixes], "states": result.states, "broken": [asdict(breach) for breach in result.broken]}
+    return {
+        "title": f"{result.kind} {result.seed}", "words": run_words(result), "every": FIX_EVERY,
+        "names": ["OWN SHIP"] + [begin.name for begin in result.others], "lengths": [OWN_LENGTH] + lengths,
+        "radii": [0] + [scenario.base + scenario.lengths * length for length in lengths], "places": [
+            fix.places for fix in result.fixes
+        ], "states": result.states, "broken": [asdict(breach) for breach in result.broken]
+    }
 
 
 def crossing_picture(results: Sequence[Result]) -> Json | None:
     """Returns what the polar pictures draw, or nothing if there are no runs for them."""
-    values = [{"angle": result.seed // 10, "ratio": RATIOS[result.seed % 10], "least": round(result.least, 1), "turn": result.first_turn}
-              for result in results]
+    values = [{
+        "angle": result.seed // 10, "ratio": RATIOS[result.seed % 10], "least": round(result.least, 1),
+        "turn": result.first_turn
+    } for result in results]
     return {"ratios": RATIOS, "nearest": 300, "values": values} if values else None
 
 
-def page(title: str, about: str, scenario: PilotScenario, groups: Sequence[Group], pictured: Sequence[Result], crossing: Sequence[Result]) -> str:
+def page(title: str, about: str, scenario: PilotScenario, groups: Sequence[Group], pictured: Sequence[Result],
+         crossing: Sequence[Result]) -> str:
     """Returns the text of the page. No text of the data can end the script that holds it."""
-    data = {"about": about, "groups": [asdict(group) for group in groups], "runs": [run_picture(scenario, result) for result in pictured],
-            "crossing": crossing_picture(crossing)}
-    held = json.dumps(data, separators=(",", ":"), ensure_ascii=False).replace("<", "\\u003c").replace("\u2028", "\\u2028").replace("\u2029", "\\u2029")
+    data = {
+        "about": about, "groups": [asdict(group) for group in groups],
+        "runs": [run_picture(scenario, result) for result in pictured], "crossing": crossing_picture(crossing)
+    }
+    held = json.dumps(data, separators=(",", ":"), ensure_ascii=False)
+    for letter, escaped in (("<", "\\u003c"), ("\u2028", "\\u2028"), ("\u2029", "\\u2029")):
+        held = held.replace(letter, escaped)
     parts = {"title": html.escape(title), "style": asset("trials.css"), "data": held, "script": asset("trials.js")}
     return re.sub(r"\{\{(\w+)\}\}", lambda found: parts[found[1]], asset("trials.html"))

@@ -15,7 +15,8 @@ CARGO = 70                 # type of ship
 
 @dataclass(frozen=True)
 class Errors:
-    """What a ship's reports lack: the standard deviations of place (m), course and heading (degrees) and speed (knots), how seldom and how late."""
+    """What a ship's reports lack: the standard deviations of place (m), course and heading (degrees) and speed (knots),
+    how seldom and how late."""
 
     small: bool                # class B: reports by message 18, without a heading
     interval: int              # s between two reports
@@ -78,7 +79,8 @@ class Plane:
 
 @dataclass(frozen=True, order=True)
 class Sent:
-    """A line with the time at which it comes, in seconds since the Unix epoch; a report's course and speed, as it has them."""
+    """A line with the time at which it comes, in seconds since the Unix epoch; a report's course and speed, as it has
+    them."""
 
     at: int
     line: bytes
@@ -103,12 +105,16 @@ class Transmitter:
         found = list[Sent]()
         if second >= self.next_static:
             self.next_static = second + STATIC_EVERY
-            for fields in (name_part(self.ship.mmsi, self.ship.name), hull_part(self.ship.mmsi, CARGO, self.ship.hull())):
+            for fields in (
+                name_part(self.ship.mmsi, self.ship.name),
+                hull_part(self.ship.mmsi, CARGO, self.ship.hull()),
+            ):
                 found.append(Sent(start + second, block(start + second) + sentence(fields)))
         if second >= self.next:
             self.next += self.errors.interval
             heard = not self.errors.missed or self.draw.random() >= self.errors.missed
-            (report, reported), late = self.report(second), self.draw.randint(0, self.errors.delay) if self.errors.delay else 0
+            (report,
+             reported), late = self.report(second), self.draw.randint(0, self.errors.delay) if self.errors.delay else 0
             if heard:
                 found.append(Sent(start + second + late, block(start + second + late) + report, reported))
         return found
@@ -125,5 +131,7 @@ class Transmitter:
         speed = max(0.0, self.ship.state.speed + (draw.gauss(0, errors.speed) if errors.speed else 0.0))
         reported = Track(round(course * 10) % 3600 / 10, round(speed * 10) / 10)
         latitude, longitude = self.plane.position(place)
-        fields = latitude, longitude, round(speed * 10), round(course * 10) % 3600, NO_HEADING if errors.small else round(heading) % 360, second % 60
-        return sentence(class_b(self.ship.mmsi, fields) if errors.small else class_a(self.ship.mmsi, fields, 0)), reported
+        shown = NO_HEADING if errors.small else round(heading) % 360
+        fields = latitude, longitude, round(speed * 10), round(course * 10) % 3600, shown, second % 60
+        return sentence(
+            class_b(self.ship.mmsi, fields) if errors.small else class_a(self.ship.mmsi, fields, 0)), reported

@@ -1,4 +1,5 @@
-"""What trials show together: for each kind its collisions, domains, distances, answers, rules and ways lost, as rows and as JSON."""
+"""What trials show together: for each kind its collisions, domains, distances, answers, rules and ways lost, as rows
+and as JSON."""
 from __future__ import annotations
 
 import math
@@ -14,7 +15,8 @@ Json = dict[str, object]
 
 @dataclass(frozen=True)
 class Group:
-    """The runs of one kind with one number of others. Distances are in metres, shares in percent, quartiles from the least to the greatest."""
+    """The runs of one kind with one number of others. Distances are in metres, shares in percent, quartiles from the
+    least to the greatest."""
 
     kind: str
     others: int
@@ -39,8 +41,9 @@ class Group:
     faults: int                # runs with an answer that was neither a plan nor `none`
 
 
-HEAD = ("kind", "others", "runs", "collisions", "domains", "least", "least_quarter", "least_median", "least_three_quarters", "replans", "none",
-        "none_percent", "none_runs", "held", "lapsed", "escapes", "broke", "broke_percent", "planned", "rules", "way_lost", "turns", "faults")
+HEAD = ("kind", "others", "runs", "collisions", "domains", "least", "least_quarter", "least_median",
+        "least_three_quarters", "replans", "none", "none_percent", "none_runs", "held", "lapsed", "escapes", "broke",
+        "broke_percent", "planned", "rules", "way_lost", "turns", "faults")
 
 
 def quartiles(values: Sequence[float]) -> tuple[float, ...]:
@@ -60,13 +63,19 @@ def group_of(kind: str, others: int, results: Sequence[Result]) -> Group:
     for result in results:
         rules.update({breach.rule for breach in result.broken})
         reasons.update(result.reasons)
-    replans, none, broke = (sum(values) for values in zip(*((result.replans, result.none, bool(result.broken)) for result in results)))
-    return Group(kind, others, len(results), sum(bool(result.collided) for result in results), sum(bool(result.entered) for result in results),
-                 quartiles([result.least for result in results]), replans, none, percent(none, replans), sum(result.none > 0 for result in results),
-                 sum(result.held for result in results), sum(result.lapsed for result in results), sum(result.escapes for result in results),
-                 broke, percent(broke, len(results)), sum(any(breach.planned for breach in result.broken) for result in results),
-                 dict(sorted(rules.items())), dict(sorted(reasons.items())), round(statistics.median(result.way_lost for result in results), 1),
-                 round(statistics.mean(result.turns for result in results), 2), sum(bool(result.fault) for result in results))
+    replans, none, broke = (sum(values) for values in zip(*((result.replans, result.none, bool(result.broken))
+                                                            for result in results)))
+    return Group(kind, others, len(results), sum(bool(result.collided) for result in results),
+                 sum(bool(result.entered) for result in results),
+                 quartiles([result.least for result in results]), replans, none, percent(none, replans),
+                 sum(result.none > 0 for result in results), sum(result.held for result in results),
+                 sum(result.lapsed for result in results), sum(result.escapes for result in results), broke,
+                 percent(broke,
+                         len(results)), sum(any(breach.planned for breach in result.broken) for result in results),
+                 dict(sorted(rules.items())), dict(sorted(reasons.items())),
+                 round(statistics.median(result.way_lost for result in results), 1),
+                 round(statistics.mean(result.turns for result in results), 2),
+                 sum(bool(result.fault) for result in results))
 
 
 def groups_of(results: Sequence[Result]) -> list[Group]:
@@ -83,9 +92,9 @@ def rows_of(groups: Sequence[Group]) -> str:
     lines = [",".join(HEAD)]
     for group in groups:
         rules = " ".join(f"{rule}:{count}" for rule, count in group.rules.items())
-        values = (group.kind, group.others or "", group.runs, group.collisions, group.domains, *group.least[:4], group.replans, group.none,
-                  group.none_share, group.none_runs, group.held, group.lapsed, group.escapes, group.broke, group.broke_share, group.planned, rules,
-                  group.way_lost, group.turns, group.faults)
+        values = (group.kind, group.others or "", group.runs, group.collisions, group.domains, *group.least[:4],
+                  group.replans, group.none, group.none_share, group.none_runs, group.held, group.lapsed, group.escapes,
+                  group.broke, group.broke_share, group.planned, rules, group.way_lost, group.turns, group.faults)
         lines.append(",".join(str(value) for value in values))
     return "\n".join(lines) + "\n"
 
@@ -95,14 +104,17 @@ def run_json(result: Result) -> Json:
     found = asdict(result)
     for key in ("seconds", "fixes", "log"):
         del found[key]
-    return found | {"least": round(result.least, 2), "room": round(result.room, 2) if math.isfinite(result.room) else None, "way_lost": round(result.way_lost, 2),
-                    "off_track": round(result.off_track, 2)}
+    return found | {
+        "least": round(result.least, 2), "room": round(result.room, 2) if math.isfinite(result.room) else None,
+        "way_lost": round(result.way_lost, 2), "off_track": round(result.off_track, 2)
+    }
 
 
 def measured(results: Sequence[Result]) -> Json:
     """Returns how long plans took, in seconds of the clock: different each time."""
     seconds = [value for result in results for value in result.seconds]
-    return {"plans": len(seconds), "median": round(statistics.median(seconds), 4), "greatest": round(max(seconds), 4)} if seconds else {"plans": 0}
+    return {"plans": len(seconds), "median": round(statistics.median(seconds), 4), "greatest": round(max(seconds), 4)
+            } if seconds else {"plans": 0}
 
 
 def report_json(scenario: str, setting: Setting, results: Sequence[Result]) -> Json:

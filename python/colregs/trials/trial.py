@@ -44,7 +44,8 @@ class Setting:
 
 @dataclass
 class Fix:
-    """Where everybody is at a moment, for pictures: seconds after the start, and places in whole metres, own ship's first."""
+    """Where everybody is at a moment, for pictures: seconds after the start, and places in whole metres, own ship's
+    first."""
 
     second: int
     places: list[tuple[int, int]]
@@ -52,7 +53,8 @@ class Fix:
 
 @dataclass
 class Breach:
-    """A rule that own ship broke in the audit of the whole run; `planned` says that she followed a new plan when the breach began."""
+    """A rule that own ship broke in the audit of the whole run; `planned` says that she followed a new plan when the
+    breach began."""
 
     rule: str
     other: int
@@ -92,7 +94,8 @@ class Result:
     fixes: list[Fix] = field(default_factory=list)
     states: list[tuple[int, str, float, float]] = field(default_factory=list)
     log: bytes = b""
-    seconds: list[float] = field(default_factory=list)      # of the clock for each plan: measured, and different each time
+    # of the clock for each plan: measured, and different each time
+    seconds: list[float] = field(default_factory=list)
 
     @property
     def badness(self) -> tuple[bool, bool, int, int, int, float]:
@@ -131,7 +134,8 @@ class Wrong:
     """What one of the others does who turns the wrong way: at a moment, to a course."""
 
     def __init__(self, ship: Ship, until_nearest: float, draw: random.Random) -> None:
-        """Draws the moment, between a third of the time to the nearest approach and nine tenths, and a turn to port, seldom to starboard."""
+        """Draws the moment, between a third of the time to the nearest approach and nine tenths, and a turn to port,
+        seldom to starboard."""
         self.ship, self.at = ship, round(until_nearest * draw.uniform(0.35, 0.9))
         turn = draw.uniform(20, 60) * (-1 if draw.random() < 0.8 else 1)
         self.course = (ship.state.course + turn) % 360
@@ -145,19 +149,25 @@ class Wrong:
 class Trial:
     """A run of a seed."""
 
-    def __init__(self, scenario: PilotScenario, runner: Runner, setting: Setting, seed: int, pictured: bool = False) -> None:
+    def __init__(self, scenario: PilotScenario, runner: Runner, setting: Setting, seed: int,
+                 pictured: bool = False) -> None:
         """Draws the run. Each source of random numbers has its own seed, so that noise changes no meeting."""
         self.scenario, self.runner, self.setting, self.seed, self.pictured = scenario, runner, setting, seed, pictured
         kind, begins = setting.label, list(setting.begins)
         if not begins:
-            kind, begins = drawn(scenario, setting.track, setting.kinds, setting.targets, random.Random(f"{seed} meetings"))
+            kind, begins = drawn(scenario, setting.track, setting.kinds, setting.targets,
+                                 random.Random(f"{seed} meetings"))
         self.result = Result(seed, kind, begins)
         self.record, self.plane = Record(HISTORY + scenario.gap), Plane(scenario.latitude, scenario.longitude)
         self.noise = random.Random(f"{seed} noise")
         self.rates = Rates(scenario.turn_rate / 10 / scenario.tick, scenario.speed_rate / 10 / scenario.tick)
         self.own = self.make_own()
-        self.ships = [self.own.ship] + [Ship(begin.mmsi, begin.name, begin.length, begin.place, begin.track, self.rates) for begin in begins]
-        self.senders = [Transmitter(ship, self.plane, self.errors(ship is self.own.ship), self.noise) for ship in self.ships]
+        self.ships = [self.own.ship] + [
+            Ship(begin.mmsi, begin.name, begin.length, begin.place, begin.track, self.rates) for begin in begins
+        ]
+        self.senders = [
+            Transmitter(ship, self.plane, self.errors(ship is self.own.ship), self.noise) for ship in self.ships
+        ]
         self.sailors = [self.own] + (self.make_sailors() if setting.others == "planning" else [])
         self.wrong = self.make_wrong(random.Random(f"{seed} contrary")) if setting.others == "contrary" else []
         self.domains = [(ship, self.radius(ship)) for ship in self.ships[1:]]

@@ -1,11 +1,11 @@
-// The charts of a meeting: distance, course and speed by time, with the stretches of the rules shaded.
+// The charts of a meeting by time: distance and CPA, TCPA, course and speed, with the stretches of the rules shaded and the moment the duties began.
 "use strict";
 const Charts = (() => {
-  const WIDE = 640, LEFT = 58, RIGHT = 46, HIGH = 132, GAP = 36;
+  const WIDE = 640, LEFT = 58, RIGHT = 46, HIGH = 118, GAP = 36, ROWS = 4, SAMPLES = 300, LONGEST = 3600;
   const across = WIDE - LEFT - RIGHT;
-  let now = null;
+  let now = null, moment = null;
 
-  // The values of a report's field between two times, in parts: a part ends where a report tells none or the next comes too late.
+  // The values of a report's field between two times, in parts: a part ends if a report has none or the next comes too late.
   // Of courses `from` is the least value of the scale, 0 or -180 degrees; for other fields it is null.
   function told(track, field, first, last, from) {
     const parts = [];
@@ -14,7 +14,7 @@ const Charts = (() => {
     for (let k = Math.max(0, before(track.times, first)); k < track.times.length && track.times[k] <= last; k++) {
       const raw = track[field][k] / 10, value = from !== null && raw >= from + 360 ? raw - 360 : raw, previous = part[part.length - 1];
       if (track[field][k] < 0) { close(); continue; }
-      if (previous && (track.times[k] - previous[0] > HELD.gap || from !== null && Math.abs(value - previous[1]) > 180)) close();
+      if (previous && (track.parts.has(k) || from !== null && Math.abs(value - previous[1]) > 180)) close();
       part.push([track.times[k], value]);
     }
     close();
@@ -103,14 +103,50 @@ const Charts = (() => {
 
   function greatest(parts, least) { return Math.max(least, ...parts.map((part) => part.reduce((most, [, value]) => Math.max(most, value), 0))); }
 
+  // A value of the approach of the two at many moments, in parts: a part ends where it is null.
+  function approaches(meeting, value) {
+    const parts = [];
+    let part = [];
+    for (let k = 0; k <= SAMPLES; k++) {
+      const time = now.first + (now.last - now.first) * k / SAMPLES, found = approach(meeting.pair, time), told = found && value(found);
+      if (told !== null && told !== undefined) part.push([time, told]);
+      else { if (part.length) parts.push(part); part = []; }
+    }
+    if (part.length) parts.push(part);
+    return parts;
+  }
+
   function distanceChart(svg, top, meeting) {
     const parts = distances(meeting, now.first, now.last), high = greatest(parts, 1) * 1.08, every = nice(high / 5);
     times(svg, top, true);
-    const y = frame(svg, top, "Distance, m (right: nautical miles)", 0, high, every, (value) => (value / MILE).toFixed(every < 200 ? 2 : 1));
+    const y = frame(svg, top, "Distance, and green: CPA if both go on, m (right: nautical miles)", 0, high, every, (value) => (value / MILE).toFixed(every < 200 ? 2 : 1));
     shade(svg, top, meeting, null);
+    line(svg, approaches(meeting, (found) => Math.min(high, found.least)), y, "#0a7d3b", "cpa");
     line(svg, parts, y, "#222222", "distance");
+    dutyWords(svg, top, meeting);
     svg.append(drawn("circle", { cx: x(meeting.nearest), cy: y(meeting.least), r: 3.5, fill: "none", stroke: "#222222", "stroke-width": 1.5 }));
     ruleWords(svg, top, meeting);
+  }
+
+  // The time to the closest approach in minutes, while it is ahead and within an hour.
+  function tcpaChart(svg, top, meeting) {
+    const parts = approaches(meeting, (found) => (found.time > 0 && found.time <= LONGEST ? found.time / 60 : null)), high = greatest(parts, 1) * 1.08;
+    times(svg, top, true);
+    const y = frame(svg, top, "TCPA: time to the closest approach if both go on, minutes", 0, high, nice(high / 4));
+    shade(svg, top, meeting, null);
+    line(svg, parts, y, "#0a7d3b", "tcpa");
+  }
+
+  // When the duties of both began, and until when action is early.
+  function dutyWords(svg, top, meeting) {
+    const mark = (time, words, row) => {
+      svg.append(drawn("line", { x1: x(time), x2: x(time), y1: top, y2: top + HIGH, stroke: "#7a2e00", "stroke-width": 1.2, class: "duty" }));
+      svg.append(drawn("text", { x: x(time) + 3, y: top + HIGH - 5 - 11 * row, "font-size": 9.5, fill: "#7a2e00", stroke: "#ffffff", "stroke-width": 2.5,
+        "paint-order": "stroke" }, words));
+    };
+    if (!dutiesOf(meeting).length) return;
+    mark(begins(meeting), `duties begin ${clockOnly(begins(meeting))}`, 1);
+    if (HELD.early > 0 && begins(meeting) + HELD.early < now.last) mark(begins(meeting) + HELD.early, "early until here", 0);
   }
 
   function courseRange(both, from) {
@@ -132,7 +168,7 @@ const Charts = (() => {
     both.forEach((parts, k) => line(svg, parts, y, PAIR_COLOURS[k], field));
     if (!both.flat().length) {
       const middle = { x: LEFT + across / 2, y: top + HIGH / 2, "font-size": 11, fill: "#555555", "text-anchor": "middle" };
-      svg.append(drawn("text", middle, "no report tells it"));
+      svg.append(drawn("text", middle, "no report has it"));
     }
   }
 
@@ -157,10 +193,14 @@ const Charts = (() => {
       const box = svg.getBoundingClientRect(), at = (event.clientX - box.left) * WIDE / box.width;
       const time = now.first + (at - LEFT) / across * (now.last - now.first);
       if (time < now.first || time > now.last) return;
-      for (const [key, value] of [["x1", at], ["x2", at], ["y1", 16], ["y2", 16 + 3 * HIGH + 2 * GAP]]) hair.setAttribute(key, value);
+      for (const [key, value] of [["x1", at], ["x2", at], ["y1", 16], ["y2", 16 + ROWS * HIGH + (ROWS - 1) * GAP]]) hair.setAttribute(key, value);
       const places = meeting.pair.map((number) => placeAt(TRACKS[number], time));
       words.textContent = utc(time) + (places[0] && places[1] ? `, ${metres(Math.hypot(places[0][0] - places[1][0], places[0][1] - places[1][1]))} m` : "");
       MapView.point(meeting, time);
+    });
+    svg.addEventListener("click", (event) => {
+      const box = svg.getBoundingClientRect();
+      Playback.set(now.first + ((event.clientX - box.left) * WIDE / box.width - LEFT) / across * (now.last - now.first));
     });
     svg.addEventListener("mouseleave", () => { words.textContent = ""; hair.setAttribute("y2", hair.getAttribute("y1")); MapView.point(meeting, null); });
   }
@@ -168,13 +208,25 @@ const Charts = (() => {
   function draw(meeting, first, last) {
     now = { first, last };
     const top = 24, step = HIGH + GAP;
-    const svg = drawn("svg", { viewBox: `0 0 ${WIDE} ${top + 3 * step + 57}`, "font-family": "Helvetica, Arial, 'Liberation Sans', sans-serif" });
+    const svg = drawn("svg", { viewBox: `0 0 ${WIDE} ${top + ROWS * step + 57}`, "font-family": "Helvetica, Arial, 'Liberation Sans', sans-serif" });
     distanceChart(svg, top, meeting);
-    pairChart(svg, top + step, meeting, "courses", "Course over ground, degrees");
-    pairChart(svg, top + 2 * step, meeting, "speeds", "Speed over ground, knots");
-    legend(svg, top + 3 * step + 12, meeting);
+    tcpaChart(svg, top + step, meeting);
+    pairChart(svg, top + 2 * step, meeting, "courses", "Course over ground, degrees");
+    pairChart(svg, top + 3 * step, meeting, "speeds", "Speed over ground, knots");
+    legend(svg, top + ROWS * step + 12, meeting);
+    moment = drawn("line", { x1: LEFT, x2: LEFT, y1: 16, y2: 16 + ROWS * HIGH + (ROWS - 1) * GAP, stroke: "#b8860b", "stroke-width": 1.5, class: "moment",
+      visibility: "hidden" });
+    svg.append(moment);
     follow(svg, meeting);
     document.getElementById("charts").replaceChildren(svg);
   }
-  return { draw };
+
+  // Marks the moment of the playback.
+  function at(time) {
+    if (!moment) return;
+    const inside = time >= now.first && time <= now.last;
+    moment.setAttribute("visibility", inside ? "visible" : "hidden");
+    for (const end of inside ? ["x1", "x2"] : []) moment.setAttribute(end, x(time).toFixed(1));
+  }
+  return { draw, at };
 })();

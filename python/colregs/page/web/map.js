@@ -11,7 +11,7 @@ const MapView = (() => {
     let part = [];
     for (let k = 0; k < track.times.length; k++) {
       if (track.times[k] < first || track.times[k] > last) continue;
-      if (part.length && track.times[k] - track.times[k - 1] > HELD.gap) { parts.push(part); part = []; }
+      if (part.length && track.parts.has(k)) { parts.push(part); part = []; }
       part.push(L.point(track.xs[k], track.ys[k]));
     }
     if (part.length) parts.push(part);
@@ -49,11 +49,11 @@ const MapView = (() => {
     }
   }
 
-  // Leaflet's scale in metres, and below it nautical miles in place of statute ones.
+  // Leaflet's scale in metres, and below it nautical miles instead of statute ones.
   function addScale() {
     L.Control.Scale.include({ _updateImperial(most) {
       const tenths = this._getRoundNum(Math.max(1, most / MILE * 1000)) / 1000;
-      this._updateScale(this._iScale, `${tenths} nautical miles`, tenths / (most / MILE));
+      this._updateScale(this._iScale, `${tenths} nautical mile${tenths === 1 ? "" : "s"}`, tenths / (most / MILE));
     } });
     L.control.scale({ maxWidth: 160 }).addTo(map);
   }
@@ -82,6 +82,7 @@ const MapView = (() => {
     if (typeof L === "undefined") {
       document.getElementById("map").remove();
       document.getElementById("no-map").textContent = HELD.noMap;
+      Playback.start(null);
       return;
     }
     map = L.map("map", { preferCanvas: true, attributionControl: false, zoomSnap: 0.25, maxZoom: 20, minZoom: 2, fadeAnimation: false, zoomAnimation: false });
@@ -96,6 +97,7 @@ const MapView = (() => {
     chosen = L.layerGroup().addTo(map);
     addScale();
     map.on("moveend resize", drawNet);
+    Playback.start(map);
     view.whole();
   };
 

@@ -139,6 +139,22 @@ const Page = (() => {
     byId("commands").textContent = HELD.commands.join("\n");
   }
 
+  // Which verdicts stand at which value of the number that was swept.
+  function fillSweep() {
+    byId("sweep").hidden = !HELD.sweep;
+    if (!HELD.sweep) return;
+    const { key, values, rows, changing } = HELD.sweep;
+    byId("sweep-words").textContent = `The audit with ${key} from ${values[0]} to ${values[values.length - 1]}: ${changing} of ${counted(rows.length, "verdict")} `
+      + "depend on the number, and stand first.";
+    const cell = (word) => (word ? element("span", word, { class: word === "broken" ? "swept" : "quiet" }) : "");
+    const columns = [["Who is bound", 0], ["Towards", 1], ["Rule", 2]].map(([title, at]) => ({ title, of: (row) => row[at], by: (row) => row[at] }));
+    columns.push({ title: "From (UTC)", kind: "time", of: (row) => utc(row[3]), by: (row) => row[3] }, { title: "to", kind: "time", of: (row) => clockOnly(row[4]), by: (row) => row[4] });
+    values.forEach((value, k) => columns.push({ title: String(value), of: (row) => cell(row[5 + k]), by: (row) => row[5 + k] }));
+    const table = new Table(byId("sweep"), columns, rows.map((row) => Object.assign([...row], { text: undefined })), { words: (row) => row.slice(0, 3).join(" ") });
+    table.addBox("that depend on the number", (row) => new Set(row.slice(5)).size > 1);
+    table.filter();
+  }
+
   function margin(meeting) { return Math.max(300, Math.min(1800, (ends(meeting) - begins(meeting)) / 3)); }
 
   function describe(meeting) {
@@ -146,11 +162,12 @@ const Page = (() => {
     const part = (k) => `${nameOf(meeting.pair[k])}${meeting.what[k] ? ` (${meeting.what[k]})` : ""} ${meeting.kinds[k]}`;
     byId("chosen").textContent = `Meeting ${meeting.number + 1}: ${nameOf(a)} and ${nameOf(b)}`;
     const near = `${metres(meeting.least)} m (${miles(meeting.least)} nautical miles) at ${clockOnly(meeting.nearest)}`;
-    const words = element("span", `${utc(begins(meeting))} to ${endWords(meeting)} UTC. ${part(0)}; ${part(1)}. Nearest ${near}. `);
+    const words = element("span", `${meeting.told} `), more = element("span", `${utc(begins(meeting))} to ${endWords(meeting)} UTC. ${part(0)}; ${part(1)}. Nearest ${near}. `);
     const still = markWords(meeting);
     const when = (v) => `${clockOnly(begins(v))} to ${clockOnly(ends(v))}`;
     const rules = meeting.verdicts.flatMap((v) => [element("br"), chip(v), `${nameOf(v.pair[0])}, ${when(v)}: ${HELD.rules[v.rule].words}`]);
-    byId("chosen-words").replaceChildren(words, ...still, ...(rules.length ? rules : [element("span", "No rule is broken or open.")]));
+    const duties = dutiesOf(meeting).flatMap((duty) => [element("br"), element("span", duty, { class: "duty" })]);
+    byId("chosen-words").replaceChildren(words, element("br"), more, ...still, ...duties, ...(rules.length ? rules : [element("span", "No rule is broken or open.")]));
   }
 
   function choose(meeting, verdict) {
@@ -160,6 +177,7 @@ const Page = (() => {
     describe(meeting);
     Charts.draw(meeting, first, last);
     MapView.choose(meeting, first, last);
+    Playback.choose(meeting, first, last);
     Times.choose(meeting);
     meetingTable.draw();
     verdictTable.draw();
@@ -189,6 +207,7 @@ const Page = (() => {
     fillOthers();
     fillScenario();
     fillMarks();
+    fillSweep();
     byId("earlier").addEventListener("click", () => step(-1));
     byId("later").addEventListener("click", () => step(1));
     byId("whole").addEventListener("click", () => MapView.whole());

@@ -12,11 +12,11 @@ function sums(deltas, part) {
 // A vessel's reports: seconds after the start, metres, 1/10 knot and 1/10 degree; below 0 is what no report told.
 function tracked(vessel) {
   const [times, xs, ys, speeds, courses] = vessel.reports.length ? vessel.reports : [[], [], [], [], []];
-  return { times: sums(times, 1), xs: sums(xs, 10), ys: sums(ys, 10), speeds: sums(speeds, 1), courses: sums(courses, 1) };
+  return { times: sums(times, 1), xs: sums(xs, 10), ys: sums(ys, 10), speeds: sums(speeds, 1), courses: sums(courses, 1), parts: new Set(vessel.parts) };
 }
 
 const TRACKS = HELD.vessels.map(tracked);
-HELD.vessels.forEach((vessel) => { vessel.reports = vessel.reports.length ? vessel.reports[0].length : 0; });
+HELD.vessels.forEach((vessel) => { vessel.reports = vessel.count; });
 
 function latLng(x, y) {
   const [longitude, latitude, east, north] = HELD.plane;
@@ -33,14 +33,36 @@ function before(times, seconds) {
   return low - 1;
 }
 
-// Her place at a time, straight between two reports that are at most the gap apart, or null.
+// Her place at a time, straight between two reports of one part of her track, or null.
 function placeAt(track, seconds) {
   const k = before(track.times, seconds);
   if (k < 0) return null;
   if (track.times[k] === seconds) return [track.xs[k], track.ys[k]];
-  if (k + 1 >= track.times.length || track.times[k + 1] - track.times[k] > HELD.gap) return null;
+  if (k + 1 >= track.times.length || track.parts.has(k + 1)) return null;
   const part = (seconds - track.times[k]) / (track.times[k + 1] - track.times[k]);
   return [track.xs[k] + (track.xs[k + 1] - track.xs[k]) * part, track.ys[k] + (track.ys[k + 1] - track.ys[k]) * part];
+}
+
+// The headings that a vessel reported, each from its time on; below 0 is none.
+const HEADINGS = HELD.vessels.map((vessel) => ({ times: sums(vessel.headings[0], 1), values: sums(vessel.headings[1], 1) }));
+
+// Metres a second east and north, by the way from one report to the next; null where she is not seen.
+function motionAt(track, seconds) {
+  const k = before(track.times, seconds);
+  if (k < 0 || !placeAt(track, seconds)) return null;
+  const first = k + 1 < track.times.length && !track.parts.has(k + 1) ? k : k - 1;
+  if (first < 0 || track.parts.has(first + 1)) return null;
+  const time = track.times[first + 1] - track.times[first];
+  return [(track.xs[first + 1] - track.xs[first]) / time, (track.ys[first + 1] - track.ys[first]) / time];
+}
+
+// How near two come if both keep course and speed, in metres, and in how many seconds, below 0 if that is past; null where one is not seen.
+function approach(pair, seconds) {
+  const [p, q] = pair.map((number) => placeAt(TRACKS[number], seconds)), [u, v] = pair.map((number) => motionAt(TRACKS[number], seconds));
+  if (!p || !q || !u || !v) return null;
+  const x = q[0] - p[0], y = q[1] - p[1], across = v[0] - u[0], up = v[1] - u[1], square = across * across + up * up;
+  const time = square < 1e-4 ? 0 : -(x * across + y * up) / square, ahead = Math.max(0, time);
+  return { least: Math.hypot(x + across * ahead, y + up * ahead), time };
 }
 
 function two(number) { return String(number).padStart(2, "0"); }
@@ -94,6 +116,13 @@ function chip(verdict) {
 function stillWords(numbers, pair) {
   if (!numbers.length) return "";
   return numbers.length === 2 ? "both lie still" : `${nameOf(pair[numbers[0]])} lies still`;
+}
+
+// What each of two vessels is bound to from the beginning of their meeting on, in words.
+function dutiesOf(meeting) {
+  const early = HELD.early > 0 ? `, early until ${clockOnly(begins(meeting) + HELD.early)}` : "";
+  return meeting.pair.map((number, k) => [nameOf(number), HELD.duties[meeting.kinds[k]]]).filter(([, duty]) => duty).map(
+    ([name, duty]) => `${name} has to ${duty} from ${clockOnly(begins(meeting))} on${duty.includes("16") || duty.includes("14") ? early : ""}.`);
 }
 
 function counted(number, one) { return `${number.toLocaleString("en")} ${one}${number === 1 ? "" : "s"}`; }

@@ -1,4 +1,4 @@
-// The chart by time: a row for each two vessels, of which only those that are seen are drawn.
+// The chart by time: a row for each two vessels; only the rows in view are drawn.
 "use strict";
 const Times = (() => {
   const ROW = 20, LEFT = 250, RIGHT = 14;

@@ -1,0 +1,241 @@
+"""The alarms that a page shows: one item from a rule's first broken step to its last, preliminary first, then settled
+or withdrawn.
+
+A settled item is of alarms of `watch`: no later line changes them. A preliminary one is of the answer of the same
+program to the window so far, as if the log ended now. Each new answer confirms it or not; if not, the item stays and
+says that it was withdrawn.
+"""
+from collections.abc import Callable, Iterator, Mapping
+from dataclasses import dataclass, field
+from typing import Any
+
+from colregs.live.notes import Notes
+from colregs.stream.stretches import BOTH, OVER, AlarmStretch, Key, Stretches
+
+PRELIMINARY, SETTLED, WITHDRAWN = "preliminary", "settled", "withdrawn"
+DAY = 86400                     # s of the clock after its last step for which an item is listed
+MOST_ITEMS = 5000               # items that are listed at most: the latest
+WITHDRAWN_FOR = 3600            # s of the clock for which a withdrawn item is listed
+Span = tuple[int, int]          # when a stretch's first step begins and its last one ends
+About = dict[str, Any]
+
+
+@dataclass
+class Item:
+    """An alarm as the page shows it. Times are those of the stream's clock."""
+
+    id: str
+    key: Key
+    first: int
+    last: int
+    settled: AlarmStretch | None = None
+    expected: Span | None = None            # as the last answer has it
+    expected_at: int | None = None          # when an answer had it first
+    settled_at: int | None = None
+    withdrawn_at: int | None = None
+    over: bool = False
+    about: About = field(default_factory=dict)
+
+    @property
+    def state(self) -> str:
+        """Returns whether the item is settled, withdrawn or preliminary."""
+        return SETTLED if self.settled else WITHDRAWN if self.withdrawn_at is not None else PRELIMINARY
+
+    @property
+    def is_at_rest(self) -> bool:
+        """Returns whether both vessels are at rest in the stretch."""
+        return bool(self.about.get("at_rest") == BOTH)
+
+    def touches(self, first: int, last: int) -> bool:
+        """Returns whether a stretch overlaps the item or adjoins it."""
+        return self.first <= last and first <= self.last
+
+    def fit(self) -> None:
+        """Sets the item's steps from what is settled and what is expected."""
+        spans = [
+            span for span in ((self.settled.first, self.settled.last) if self.settled else None, self.expected) if span
+        ]
+        if spans:
+            self.first, self.last = min(first for first, _ in spans), max(last for _, last in spans)
+
+
+class Alarms:
+    """All items, in the order in which they came."""
+
+    def __init__(self, stretches: Stretches, notes: Notes, about: Callable[[Key, int, int], About]) -> None:
+        self.stretches, self.notes, self.about = stretches, notes, about
+        self.items: dict[str, Item] = {}
+        self.by_key: dict[Key, list[Item]] = {}
+        self.by_number: dict[int, Item] = {}
+        self.lasting: set[str] = set()          # items that can still grow or change their state
+        self.changed: set[str] = set()
+        self.dropped: set[str] = set()
+        self.counts = {PRELIMINARY: 0, SETTLED: 0, WITHDRAWN: 0}        # how many came to be so since the start
+        # seconds after the first step's end, and of how many
+        self.delays = {PRELIMINARY: [0, 0], SETTLED: [0, 0]}
+        self.clock = 0
+
+    # what settles
+
+    def settle(self, one: AlarmStretch) -> None:
+        """Takes a stretch that an alarm has joined."""
+        for number in one.absorbed:
+            self.absorb(number, one)
+        item = self.by_number.get(one.number) or self.matched(one.key, one.first, one.last,
+                                                              lambda item: item.settled is None)
+        if item is None:
+            item = self.new(one.key, one.first, one.last)
+        if item.settled is None:
+            item.settled, item.settled_at, item.withdrawn_at = one, self.clock or None, None
+            self.by_number[one.number] = item
+            if self.clock:                      # otherwise an earlier run wrote it, and counted it
+                self.count(SETTLED, self.clock - one.first - self.stretches.tick)
+        item.over = False
+        item.fit()
+        self.touch(item)
+
+    def absorb(self, number: int, one: AlarmStretch) -> None:
+        """Takes a stretch that turned out to be a part of another one."""
+        item = self.by_number.pop(number, None)
+        if item and one.number not in self.by_number:
+            self.by_number[one.number], item.settled = item, one
+        elif item:
+            self.drop(item)
+
+    def told(self, told: Mapping[str, Any]) -> None:
+        """Takes a line about a stretch: its names, place and marks, and perhaps that it is over."""
+        key = told["subject"], told["other"], told["rule"]
+        item = self.matched(key, told["first"], told["last"], lambda item: item.settled is not None)
+        if item:
+            item.about = {
+                name: told[name]
+                for name in ("subject_name", "other_name", "subject_type", "other_type", "position", "at_rest", "marks")
+            }
+            item.over = told["state"] == OVER
+            self.touch(item)
+
+    def restore(self, told: Mapping[str, Any]) -> None:
+        """Takes a stretch that is over, as a file has it."""
+        key = told["subject"], told["other"], told["rule"]
+        item = self.new(key, told["first"], told["last"])
+        item.settled, item.settled_at = AlarmStretch(0, key, told["first"], told["last"], 0), None
+        self.told(told)
+
+    # what is preliminary
+
+    def answer(self, spans: Mapping[Key, list[Span]], settled_to: int) -> None:
+        """Takes the broken stretches of an answer. Alarms before `settled_to` are settled: there the answer adds no
+        item."""
+        confirmed: set[str] = set()
+        for key, own in spans.items():
+            for first, last in own:
+                if last > settled_to or self.matched(key, first, last, lambda item: item.id in self.lasting):
+                    confirmed.add(self.expect(key, first, last).id)
+        for item in [self.items[name] for name in self.lasting if name not in confirmed]:
+            self.doubt(item)
+
+    def expect(self, key: Key, first: int, last: int) -> Item:
+        """Takes one broken stretch of an answer; returns its item."""
+        item = self.matched(key, first, last, lambda item: item.id in self.lasting or item.state == WITHDRAWN)
+        if item is None:
+            item = self.new(key, first, last)
+        if item.expected_at is None:
+            item.expected_at = self.clock
+            if item.settled is None:
+                self.count(PRELIMINARY, self.clock - first - self.stretches.tick)
+        if item.expected != (first, last) or item.withdrawn_at is not None:
+            item.expected, item.withdrawn_at = (first, last), None
+            item.fit()
+            if item.settled is None:
+                item.about = self.about(key, item.first, item.last)
+            self.touch(item)
+        return item
+
+    def doubt(self, item: Item) -> None:
+        """Takes that the last answer does not have an item, or no longer what goes beyond its settled steps."""
+        if item.settled is None:
+            item.withdrawn_at, item.expected = self.clock, None
+            self.count(WITHDRAWN, None)
+            self.touch(item)
+        elif item.expected and item.expected[1] > item.settled.last:
+            item.expected = None
+            item.fit()
+            self.touch(item)
+
+    # all items
+
+    def new(self, key: Key, first: int, last: int) -> Item:
+        """Returns a new item."""
+        name, more = "-".join(map(str, (*key, first))), 0
+        while name in self.items:
+            more += 1
+            name = "-".join(map(str, (*key, first, more)))
+        item = Item(name, key, first, last, about=self.about(key, first, last))
+        self.items[name] = item
+        self.by_key.setdefault(key, []).append(item)
+        return item
+
+    def matched(self, key: Key, first: int, last: int, fits: Callable[[Item], bool]) -> Item | None:
+        """Returns the latest item of a pair and rule that touches a stretch and fits."""
+        return next((item for item in reversed(self.by_key.get(key, [])) if item.touches(first, last) and fits(item)),
+                    None)
+
+    def touch(self, item: Item) -> None:
+        """Notes that an item changed."""
+        self.changed.add(item.id)
+        if item.over or item.state == WITHDRAWN:
+            self.lasting.discard(item.id)
+        else:
+            self.lasting.add(item.id)
+
+    def drop(self, item: Item) -> None:
+        """Removes an item from the list."""
+        del self.items[item.id]
+        self.by_key[item.key].remove(item)
+        if not self.by_key[item.key]:
+            del self.by_key[item.key]
+        if item.settled and self.by_number.get(item.settled.number) is item:
+            del self.by_number[item.settled.number]
+        self.lasting.discard(item.id)
+        self.changed.discard(item.id)
+        self.dropped.add(item.id)
+
+    def count(self, state: str, delay: int | None) -> None:
+        """Counts an item that came to be in a state, and how long after its first step."""
+        self.counts[state] += 1
+        if delay is not None:
+            self.delays[state][0] += delay
+            self.delays[state][1] += 1
+
+    def pass_time(self, clock: int) -> None:
+        """Ends the items that can no longer grow, and removes old ones."""
+        self.clock = clock
+        for item in [self.items[name] for name in self.lasting]:
+            if item.settled and self.stretches.is_over(item.settled, clock):
+                item.over, item.expected = True, None
+                item.fit()
+                self.touch(item)
+        for item in list(self.old(clock)):
+            self.drop(item)
+
+    def old(self, clock: int) -> Iterator[Item]:
+        """Yields the items that are too old or too many."""
+        many = len(self.items) - MOST_ITEMS
+        for number, item in enumerate(self.items.values()):
+            if number < many or clock > item.last + (WITHDRAWN_FOR if item.state == WITHDRAWN else DAY):
+                yield item
+
+    def note(self, item: Item) -> dict[str, Any] | None:
+        """Returns the acknowledgement of an item as the page has it, or None."""
+        note = self.notes.of(item.key, item.first, item.last)
+        return {"acknowledged": note.acknowledged, "note": note.note, "at": note.at} if note else None
+
+    def values(self, item: Item) -> dict[str, Any]:
+        """Returns an item as the page and the API have it."""
+        subject, other, rule = item.key
+        return {
+            "id": item.id, "state": item.state, "subject": subject, "other": other, "rule": rule, "first": item.first,
+            "last": item.last, "settled_to": item.settled.last if item.settled else None, "lasting": item.id
+            in self.lasting, "expected_at": item.expected_at, "settled_at": item.settled_at,
+            "withdrawn_at": item.withdrawn_at, **item.about, "note": self.note(item)
+        }

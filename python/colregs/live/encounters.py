@@ -1,0 +1,128 @@
+"""The encounters that last: their kinds for both vessels, as the program's last answer has them, and how near the two
+are.
+
+Distance, closest point and the time to it are computed here, from the newest accepted reports. They are not rows of the
+program, and not proved.
+"""
+import math
+from collections.abc import Iterable
+from dataclasses import dataclass, field
+from typing import Any
+
+from colregs.model import lost
+from colregs.model.rows import Meeting, row_of
+from colregs.model.rules import ENCOUNTERS
+from colregs.model.tracks import Track
+from colregs.stream.fleet import Fleet
+from colregs.stream.lately import rest_of
+
+DUTIES = {
+    "overtaking": "Rule 13: keeps out of the way",
+    "overtaken": "Rule 17: stands on",
+    "head_on": "Rule 14: alters to starboard",
+    "crossing_gives": "Rules 15 and 16: gives way",
+    "crossing_stands": "Rule 17: stands on",
+    "passing": "no duty from the geometry",
+    "unclassified": "not classed: Rule 8 alone",
+}
+RANKS = "; ranks count (Rule 18)"
+BEHIND = 2                      # steps by which a meeting may end before the last common report and still last
+Pair = tuple[int, int]
+
+
+@dataclass
+class Encounter:
+    """An encounter of two vessels: when it began, what it is for each, and the least distance so far in metres."""
+
+    pair: Pair
+    first: int
+    last: int
+    least: float
+    kinds: dict[int, str] = field(default_factory=dict)
+
+
+def lasts(fleet: Fleet, pair: Pair, end: int, tick: int) -> bool:
+    """Returns whether a meeting that ends at a time has not ended: no later report of both is there."""
+    ships = [fleet.ships.get(mmsi) for mmsi in pair]
+    return all(ship is not None and end + BEHIND * tick >= min(one.latest for one in ships if one) for ship in ships)
+
+
+def encounters_of(fleet: Fleet, meetings: Iterable[Meeting], start: int, tick: int) -> dict[Pair, Encounter]:
+    """Returns the encounters that last, of the meetings of an answer whose window begins at a time."""
+    found: dict[Pair, Encounter] = {}
+    for row in meetings:
+        pair, first, last = (min(row.pair), max(row.pair)), start + row.first * tick, start + (row.last + 1) * tick
+        if lasts(fleet, pair, last, tick):
+            known = found.setdefault(pair, Encounter(pair, first, last, row.least))
+            known.kinds[row.subject] = row.encounter
+            known.first, known.last, known.least = min(known.first, first), max(known.last,
+                                                                                last), min(known.least, row.least)
+    return found
+
+
+def distance_now(one: Track, two: Track, clock: int, gap: int) -> float | None:
+    """Returns how far apart two vessels are by now if both keep the course and speed of their last reports; None if
+    these are unknown."""
+    places = []
+    for track in (one, two):
+        way = lost.velocity(track, len(track.times) - 1, gap)
+        if way is None:
+            return None
+        passed = max(0, min(gap, clock - track.times[-1]))
+        places.append((track.xs[-1] + way[0] * passed, track.ys[-1] + way[1] * passed))
+    return math.dist(*places)
+
+
+class Encounters:
+    """The encounters that last, and how each was sent last."""
+
+    def __init__(self, fleet: Fleet, tick: int, ranks: bool) -> None:
+        self.fleet, self.tick, self.ranks = fleet, tick, ranks
+        self.known: dict[Pair, Encounter] = {}
+        self.sent: dict[str, dict[str, Any]] = {}
+
+    def answer(self, meetings: Iterable[Meeting], start: int) -> None:
+        """Takes the meetings of an answer."""
+        self.known = encounters_of(self.fleet, meetings, start, self.tick)
+
+    def values(self, one: Encounter, clock: int) -> dict[str, Any]:
+        """Returns an encounter as the page and the API have it."""
+        ships = [self.fleet.ships.get(mmsi) for mmsi in one.pair]
+        tracks = [ship.track for ship in ships if ship]
+        near = distance = None
+        if len(tracks) == 2:
+            near = lost.nearest_ahead(tracks[0], tracks[1], clock, self.fleet.gap)
+            distance = distance_now(tracks[0], tracks[1], clock, self.fleet.gap)
+        kinds = [one.kinds.get(mmsi, "") for mmsi in one.pair]
+        return {
+            "id": f"{one.pair[0]}-{one.pair[1]}", "pair": list(one.pair), "names": [
+                self.fleet.name(mmsi) for mmsi in one.pair
+            ], "kinds": [ENCOUNTERS.get(kind, kind) for kind in kinds], "duties": [
+                DUTIES[kind] + (RANKS if self.ranks else "") if kind in DUTIES else "" for kind in kinds
+            ], "first": one.first, "least": round(one.least), "distance": None if distance is None else round(distance),
+            "closest": round(near.least) if near else None, "closest_at": round(near.at) if near else None,
+            "at_rest": rest_of(self.fleet, one.pair, one.first, one.last)
+        }
+
+    def settled(self, pair: Pair, rows: Iterable[dict[str, Any]], clock: int) -> dict[str, Any]:
+        """Returns an encounter of settled rows of the stream as it was at a time."""
+        found: Encounter | None = None
+        for row in rows:
+            start, told = int(row["run"]), row_of(str(row["row"]).split(","))
+            if isinstance(told, Meeting):
+                found = found or Encounter(pair, start + told.first * self.tick, start +
+                                           (told.last + 1) * self.tick, told.least)
+                found.kinds[told.subject] = told.encounter
+        return self.values(found or Encounter(pair, clock, clock, 0), clock)
+
+    def all_values(self, clock: int) -> list[dict[str, Any]]:
+        """Returns all encounters that last."""
+        return [self.values(one, clock) for one in self.known.values()]
+
+    def changes(self, clock: int) -> tuple[list[dict[str, Any]], list[str]]:
+        """Returns the encounters that are not as they were sent last, and the names of those that are over."""
+        now = {value["id"]: value for value in self.all_values(clock)}
+        changed = [value for name, value in now.items() if self.sent.get(name) != value]
+        gone = [name for name in self.sent if name not in now]
+        self.sent = now
+        return changed, gone

@@ -1,0 +1,326 @@
+"""Alarms of `watch` as stretches: one from a rule's first broken step to its last, with who, where and what may explain
+it.
+
+The program writes a row per broken step. Rows of one pair and rule whose steps follow each other make one stretch.
+"""
+import collections
+import itertools
+import json
+import os
+import time
+from collections.abc import Callable, Iterator
+from dataclasses import dataclass, field
+from typing import Any
+
+from colregs.model.earth import Earth, iso
+from colregs.model.scenario import Scenario
+from colregs.stream.day_files import day_of, whole_length
+from colregs.stream.fleet import Fleet
+from colregs.stream.lately import marks_of, rest_of
+from colregs.stream.rows import Sink
+from colregs.stream.types import EVER
+
+Key = tuple[int, int, str]      # the vessel that a rule binds, the other one, and the rule
+BOTH = "both"                   # both vessels of a pair are at rest
+FORGOTTEN = 7200                # s after her last report that a vessel is forgotten
+AGAIN = 60                      # s of the stream's clock between two looks at who is at rest in one stretch
+COUNTED = 60                    # s of the clock between two lines that count what is hidden
+# s of this machine's clock that an alarm waits for the points up to its time, and the end of a stretch for alarms
+PATIENCE = 5
+# what a line says of a stretch: it is one of two vessels at rest, it begins, it is over
+RESTS, BEGINS, OVER = "rests", "begins", "over"
+
+
+@dataclass
+class AlarmStretch:
+    """A stretch: when its first broken step begins and its last one ends, and when the step ends that decided the last
+    alarm."""
+
+    number: int
+    key: Key
+    first: int
+    last: int
+    decided: int
+    alarms: int = 1
+    # the numbers of stretches that turned out to be parts of this one
+    absorbed: list[int] = field(default_factory=list)
+
+
+class Stretches:
+    """Joins alarms to stretches. `reach` is how far the rules look ahead, in steps: so long after its last step a
+    stretch can grow."""
+
+    def __init__(self, scenario: Scenario) -> None:
+        self.tick = scenario.tick
+        self.wait = (scenario.reach + 2) * scenario.tick + scenario.gap + scenario.slack
+        self.open: dict[Key, list[AlarmStretch]] = {}
+        self.numbers = itertools.count(1)
+
+    def take(self, key: Key, step: int, decided: int) -> AlarmStretch:
+        """Takes an alarm by the time at which its step begins and the deciding step ends; returns the stretch that it
+        is part of."""
+        known = self.open.setdefault(key, [])
+        near = [one for one in known if one.first - self.tick <= step <= one.last]
+        if not near:
+            new = AlarmStretch(next(self.numbers), key, step, step + self.tick, decided)
+            known.append(new)
+            return new
+        one = near[0]
+        one.alarms += not one.first <= step < one.last
+        for other in near[1:]:
+            one.first, one.last, one.alarms = min(one.first, other.first), max(one.last,
+                                                                               other.last), one.alarms + other.alarms
+            one.absorbed += [other.number, *other.absorbed]
+            known.remove(other)
+        one.first, one.last, one.decided = min(one.first, step), max(one.last,
+                                                                     step + self.tick), max(one.decided, decided)
+        return one
+
+    def is_over(self, one: AlarmStretch, clock: int) -> bool:
+        """Returns whether no later alarm can make a stretch longer."""
+        return clock > one.last + self.wait
+
+    def close(self, one: AlarmStretch) -> None:
+        """Forgets a stretch that is over."""
+        self.open[one.key].remove(one)
+        if not self.open[one.key]:
+            del self.open[one.key]
+
+    def over(self, clock: int) -> list[AlarmStretch]:
+        """Returns the stretches that are over, in the order of their ends."""
+        done = [one for known in self.open.values() for one in known if self.is_over(one, clock)]
+        return sorted(done, key=lambda one: (one.last, one.number))
+
+
+def about(fleet: Fleet, earth: Earth, tick: int, key: Key, first: int, last: int) -> dict[str, Any]:
+    """Returns the names, types, place and marks of a stretch. The place is the subject's when the first step begins, in
+    degrees."""
+    subject, other, _ = key
+    place = fleet.place(subject, first)
+    still, marks = marks_of(fleet, tick, (subject, other), first, last)
+    return {
+        "subject_name": fleet.name(subject), "other_name": fleet.name(other), "subject_type": fleet.kind_words(subject),
+        "other_type": fleet.kind_words(other), "position": earth.degrees(*place) if place else None, "at_rest": still,
+        "marks": marks
+    }
+
+
+def alarm_of(row: dict[str, Any], tick: int) -> tuple[Key, int, int]:
+    """Returns of a row of the stream, an alarm: its pair and rule, when its step begins, and when the step ends that
+    decides it."""
+    fields, start = str(row["row"]).split(","), int(row["run"])
+    return (int(fields[1]), int(fields[2]),
+            fields[3]), start + int(fields[4]) * tick, start + (int(fields[5]) + 1) * tick
+
+
+def rows_in(path: str) -> Iterator[dict[str, Any]]:
+    """Yields the rows of a file of JSON lines; none if it does not exist."""
+    if os.path.exists(path):
+        with open(path, encoding="utf-8") as source:
+            for line in source:
+                if line.endswith("\n"):
+                    yield json.loads(line)
+
+
+class StretchBook:
+    """The stretches of a stream with what is known of their vessels. Its lines are also in a file per day, so that a
+    restart writes none twice."""
+
+    def __init__(self, folder: str, scenario: Scenario, fleet: Fleet, tell: Callable[[dict[str, Any]], None],
+                 joined: Callable[[AlarmStretch], None] | None = None) -> None:
+        """Takes what to call with each line, and perhaps what to call with a stretch that an alarm has joined."""
+        self.folder, self.fleet, self.tell, self.joined = folder, fleet, tell, joined
+        self.stretches, self.earth = Stretches(scenario), Earth(scenario.values["reference"])
+        # the last state that was reported of each open stretch, and the clock then
+        self.states: dict[int, tuple[str, int]] = {}
+        self.restored: list[dict[str, Any]] = []                # the lines that an earlier run wrote
+        # what an earlier run reported: the beginnings of stretches by state, pair and rule
+        self.before: dict[tuple[str, Key], set[int]] = {}
+        self.waiting: collections.deque[tuple[dict[str, Any], float]] = collections.deque()
+        # when to report by this machine's clock that stretches are over that are so by the stream's
+        self.due: dict[int, float] = {}
+        self.clock = 0
+
+    def path(self, at: int) -> str:
+        """Returns the file of the stretches that begin on the day of a time."""
+        return os.path.join(self.folder, day_of(at) + ".stretches")
+
+    def load(self, days: list[str]) -> None:
+        """Takes what an earlier run wrote on these days: alarms, and the lines about their stretches."""
+        for day in days:
+            path = os.path.join(self.folder, day + ".stretches")
+            if os.path.exists(path):
+                os.truncate(path, whole_length(path))
+            for told in rows_in(path):
+                self.restored.append(told)
+                key = told["subject"], told["other"], told["rule"]
+                self.before.setdefault((told["state"], key), set()).add(told["first"])
+        for day in days:
+            for row in rows_in(os.path.join(self.folder, day + ".rows")):
+                if row["kind"] == "alarm":
+                    self.join_again(row)
+
+    def told_before(self, state: str, one: AlarmStretch) -> bool:
+        """Returns whether an earlier run reported this of a stretch."""
+        return any(one.first <= first < one.last for first in self.before.get((state, one.key), ()))
+
+    def take(self, row: dict[str, Any]) -> None:
+        """Takes a row of the stream that is an alarm. It waits until the points up to its time are there, for they come
+        from another run."""
+        self.waiting.append((row, time.monotonic() + PATIENCE))
+        self.release(False)
+
+    def release(self, all_of_them: bool) -> None:
+        """Joins the alarms that need not wait any longer."""
+        while self.waiting:
+            row, until = self.waiting[0]
+            if not all_of_them and alarm_of(row,
+                                            self.stretches.tick)[2] > self.fleet.clock and time.monotonic() < until:
+                return
+            self.waiting.popleft()
+            self.join(row)
+
+    def join(self, row: dict[str, Any]) -> None:
+        """Joins an alarm to its stretch."""
+        one = self.extended(row)
+        for number in one.absorbed:
+            self.states.pop(number, None)
+            self.due.pop(number, None)
+        state, at = self.states.get(one.number, ("", 0))
+        if not state or state == RESTS and self.clock >= at + AGAIN:
+            self.look(one, state)
+
+    def extended(self, row: dict[str, Any]) -> AlarmStretch:
+        """Returns the stretch of an alarm, with the alarm."""
+        one = self.stretches.take(*alarm_of(row, self.stretches.tick))
+        self.due.pop(one.number, None)
+        if self.joined:
+            self.joined(one)
+        return one
+
+    def join_again(self, row: dict[str, Any]) -> None:
+        """Joins an alarm of an earlier run. If that run was stopped before it reported it, the alarm waits like a new
+        one."""
+        one = self.extended(row)
+        state = next((state for state in (BEGINS, RESTS) if self.told_before(state, one)), None)
+        if state:
+            self.states[one.number] = state, 0
+        else:
+            self.waiting.append((row, time.monotonic() + PATIENCE))
+
+    def look(self, one: AlarmStretch, before: str) -> None:
+        """Reports that a stretch began, or that it is one of two vessels at rest."""
+        state = RESTS if rest_of(self.fleet, one.key[:2], one.first, one.last) == BOTH else BEGINS
+        self.states[one.number] = state, self.clock
+        if state != before and not self.told_before(state, one):
+            self.write(one, state)
+
+    def write(self, one: AlarmStretch, state: str, rested: bool = False) -> None:
+        """Reports a stretch, and stores that. `rested` says that it is over and was one of two vessels at rest all the
+        time."""
+        subject, other, rule = one.key
+        told = {
+            "mode": "watch", "kind": "stretch", "state": state, "subject": subject, "other": other, "rule": rule,
+            "begins": iso(one.first), "ends": iso(one.last), "decided": iso(one.decided), "alarms": one.alarms,
+            "first": one.first, "last": one.last, "rested": rested or state == RESTS, **about(
+                self.fleet, self.earth, self.stretches.tick, one.key, one.first, one.last)
+        }
+        self.tell(told)
+        with open(self.path(one.first), "a", encoding="utf-8") as out:
+            out.write(json.dumps(told, ensure_ascii=False) + "\n")
+
+    def pass_time(self, clock: int) -> None:
+        """Reports the stretches that are over by now. The clock can be ahead of the alarms, so each stretch first waits
+        for those on their way."""
+        self.clock, now = clock, time.monotonic()
+        self.release(False)
+        for one in self.stretches.over(clock):
+            if now >= self.due.setdefault(one.number, now + PATIENCE):
+                self.end(one)
+
+    def end(self, one: AlarmStretch) -> None:
+        """Reports that a stretch is over."""
+        self.stretches.close(one)
+        self.due.pop(one.number, None)
+        if (state := self.states.pop(one.number, None)) and not self.told_before(OVER, one):
+            self.write(one, OVER, state[0] == RESTS)
+
+    def finish(self, is_whole: bool) -> None:
+        """Joins the alarms that wait; if the stream ended for good, all stretches are over."""
+        self.release(True)
+        if is_whole:
+            for one in self.stretches.over(EVER):
+                self.end(one)
+
+
+class StretchSink:
+    """A sink that gets a line when a stretch of alarms begins and one when it is over, instead of a line per alarm;
+    other rows go on as they are.
+
+    Pairs at rest are only counted, unless `all_pairs` asks for them.
+    """
+
+    def __init__(self, sink: Sink, scenario: Scenario, folder: str, all_pairs: bool) -> None:
+        self.sink, self.all_pairs = sink, all_pairs
+        self.fleet = Fleet(scenario.gap)
+        self.book = StretchBook(folder, scenario, self.fleet, self.tell)
+        self.clock = 0
+        self.count = 0                                  # stretches of pairs at rest
+        self.counted = 0, 0                             # how many at the last line that says so, and the clock then
+
+    def load(self, days: list[str]) -> None:
+        """Takes what an earlier run wrote on these days."""
+        self.book.load(days)
+
+    def lines(self, lines: list[bytes], clock: int) -> None:
+        """Takes lines of the stream."""
+        for line in lines:
+            self.fleet.take_line(line, clock)
+
+    def point(self, row: str) -> None:
+        """Takes a row `point`."""
+        self.fleet.take_point(row)
+
+    def passed(self, clock: int) -> None:
+        """Takes the time of the stream's clock."""
+        self.clock = clock
+        self.book.pass_time(clock)
+        self.fleet.gone.clear()
+        self.fleet.forget(clock - FORGOTTEN)
+        count, at = self.counted
+        if count != self.count and clock >= at + COUNTED:
+            self.tell_count(clock)
+
+    def ended(self) -> None:
+        """Takes the end of a stream that ended for good."""
+        self.book.finish(True)
+
+    def write(self, line: str) -> None:
+        """Takes a row of the stream as a line of JSON."""
+        row = json.loads(line)
+        if row["kind"] == "alarm":
+            self.book.take(row)
+        else:
+            self.sink.write(line)
+
+    def tell(self, told: dict[str, Any]) -> None:
+        """Writes a stretch, or counts it."""
+        self.count += told["state"] == RESTS
+        if told["rested"] and not self.all_pairs:
+            return
+        told = {name: value for name, value in told.items() if name not in ("first", "last", "rested")}
+        self.sink.write(
+            json.dumps(told | {"state": OVER if told["state"] == OVER else BEGINS}, ensure_ascii=False) + "\n")
+
+    def tell_count(self, clock: int) -> None:
+        """Writes how many stretches of pairs at rest were not written since the beginning."""
+        self.counted = self.count, clock
+        self.sink.write(
+            json.dumps({"mode": "watch", "kind": "hidden", "stretches": self.count, "until": iso(clock)}) + "\n")
+
+    def close(self) -> None:
+        """Writes what is left, and ends."""
+        self.book.finish(False)
+        if self.counted[0] != self.count:
+            self.tell_count(self.clock)
+        self.sink.close()
