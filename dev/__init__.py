@@ -1,1 +1,2 @@
-"""What developers of the repository run: builds, proofs, checks, tests and measures. Users run `colregs` and what is in `tools/`."""
+"""What developers of the repository run: builds, proofs, checks, tests and measures. Users run `colregs` and what is in
+`tools/`."""

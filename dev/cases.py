@@ -14,7 +14,8 @@ from dev.repository import path_of
 
 SECONDS = 60      # the longest run of a case
 CASES = path_of("tests", "cases")
-OWN = {"args", "log", "stdout", "stderr", "status", "lengthened"}      # files that describe the case; the others are for the program
+# files that describe the case; the others are for the program
+OWN = {"args", "log", "stdout", "stderr", "status", "lengthened"}
 
 
 @dataclass(frozen=True)
@@ -76,7 +77,8 @@ class Case:
         """Runs the program on the case. Raises subprocess.TimeoutExpired after a minute."""
         with tempfile.TemporaryDirectory() as place:
             self.prepare(place)
-            done = subprocess.run([program, *self.read("args").decode().splitlines()], input=self.read("log"), cwd=place, capture_output=True, timeout=SECONDS)
+            done = subprocess.run([program, *self.read("args").decode().splitlines()], input=self.read("log"),
+                                  cwd=place, capture_output=True, timeout=SECONDS)
             return Result(done.returncode, done.stdout, done.stderr)
 
     def fault(self, program: str) -> str | None:

@@ -44,7 +44,9 @@ class Check(Protocol):
 
 def names() -> list[str]:
     """Returns the names of all checks."""
-    return sorted(name[:-3] for name in os.listdir(path_of("dev", "checks")) if name.endswith(".py") and not name.startswith("_"))
+    return sorted(name[:-3]
+                  for name in os.listdir(path_of("dev", "checks"))
+                  if name.endswith(".py") and not name.startswith("_"))
 
 
 def module(name: str) -> Check:
@@ -59,7 +61,8 @@ def summary(name: str) -> str:
 
 
 def the_program(given: str | None) -> str:
-    """Returns the path of the program to run: the given one, or that of `./colregs`. Raises SystemExit if there is none."""
+    """Returns the path of the program to run: the given one, or that of `./colregs`. Raises SystemExit if there is
+    none."""
     if given:
         if not os.access(given, os.X_OK):
             raise SystemExit(f"check: {given} is not a program that can be run")
@@ -87,7 +90,8 @@ def run(name: str, program: str) -> bool:
 
 def main(description: str | None) -> int:
     """Runs `dev/check` with the arguments of the command line, and returns its exit status."""
-    parser = argparse.ArgumentParser(prog="check", description=description, formatter_class=argparse.RawDescriptionHelpFormatter)
+    parser = argparse.ArgumentParser(prog="check", description=description,
+                                     formatter_class=argparse.RawDescriptionHelpFormatter)
     parser.add_argument("--program", metavar="P", help="the program to run")
     parser.add_argument("--list", action="store_true", help="list the checks, and run none")
     parser.add_argument("names", metavar="NAME", nargs="*", help="the checks to run, of those that --list shows")

@@ -15,7 +15,8 @@ from typing import IO, List, Mapping, Optional, Type
 from .repository import Fault, read_if_there, say
 
 EACH = 20.0      # seconds between two lines of progress
-_MEMORY = 2500 * 1000 * 1000      # bytes that one processor's work takes at most, by and large, when it proves or compiles
+# bytes that one processor's work takes at most, by and large, when it proves or compiles
+_MEMORY = 2500 * 1000 * 1000
 _DIE_WITH_PARENT = 1      # PR_SET_PDEATHSIG of prctl(2)
 _C = ctypes.CDLL(None, use_errno=True)
 
@@ -28,11 +29,13 @@ def _die_with_parent() -> None:
 class Child:
     """A process in a session of its own, with all that it starts."""
 
-    def __init__(self, command: List[str], output: IO[str], folder: Optional[str] = None, settings: Optional[Mapping[str, str]] = None):
-        """Starts the command: nothing on its standard input, and both its outputs into one file. Raises Fault if it cannot be started."""
+    def __init__(self, command: List[str], output: IO[str], folder: Optional[str] = None,
+                 settings: Optional[Mapping[str, str]] = None):
+        """Starts the command: nothing on its standard input, and both its outputs into one file. Raises Fault if it
+        cannot be started."""
         try:
-            self.run = subprocess.Popen(command, cwd=folder, env=settings, stdin=subprocess.DEVNULL, stdout=output, stderr=subprocess.STDOUT,
-                                        start_new_session=True, preexec_fn=_die_with_parent)
+            self.run = subprocess.Popen(command, cwd=folder, env=settings, stdin=subprocess.DEVNULL, stdout=output,
+                                        stderr=subprocess.STDOUT, start_new_session=True, preexec_fn=_die_with_parent)
         except OSError as fault:
             raise Fault("cannot build: %s does not start: %s" % (command[0], fault.strerror)) from None
 
@@ -64,7 +67,8 @@ class Progress:
         self._writer.start()
         return self
 
-    def __exit__(self, kind: Optional[Type[BaseException]], value: Optional[BaseException], trace: Optional[TracebackType]) -> None:
+    def __exit__(self, kind: Optional[Type[BaseException]], value: Optional[BaseException],
+                 trace: Optional[TracebackType]) -> None:
         self._ended.set()
         self._writer.join()
 
@@ -74,7 +78,8 @@ def _stopped(number: int, _: object) -> None:
 
 
 def end_as_interrupted() -> None:
-    """Makes the signals that ask a process to end raise KeyboardInterrupt, so that what is at work is stopped and removed."""
+    """Makes the signals that ask a process to end raise KeyboardInterrupt, so that what is at work is stopped and
+    removed."""
     for number in (signal.SIGTERM, signal.SIGHUP):
         signal.signal(number, _stopped)
 

@@ -1,7 +1,8 @@
 """Draws the pictures of docs/RULES.md: PYTHONPATH=python python3 -m dev.draw_rules FOLDER
 
-rules_risk.svg, rules_engaged.svg, rules_classes.svg and rules_ranks.svg, with the numbers of examples/crossing.toml. What is at risk, engaged, past and clear is
-computed as docs/RULES.md states it. The same script makes the same pictures.
+rules_risk.svg, rules_engaged.svg, rules_classes.svg and rules_ranks.svg, with the numbers of examples/crossing.toml.
+What is at risk, engaged, past and clear is computed as docs/RULES.md states it. The same script makes the same
+pictures.
 """
 from __future__ import annotations
 
@@ -16,7 +17,8 @@ from dev.repository import read
 
 Point = tuple[float, float]      # a place or a way on the plane, or a place in a picture
 Numbers = dict[str, Any]      # of a scenario, by table and key
-Meeting = tuple[str, Point, float, Point, Point]      # its kind, both speeds, the course of B, her place from A, and that of A in the picture
+# its kind, both speeds, the course of B, her place from A, and that of A in the picture
+Meeting = tuple[str, Point, float, Point, Point]
 
 INK, GREY, PALE, BLUE, RED, GREEN, AMBER = "#222222", "#777777", "#dddddd", "#0072b2", "#c0392b", "#3f7d20", "#c77700"
 
@@ -52,8 +54,10 @@ def hull(picture: Picture, at: Point, course: float, fill: str, size: float = 9)
     points = []
     for along, across in ((1.7, 0), (0.6, 0.55), (-1.3, 0.55), (-1.3, -0.55), (0.6, -0.55)):
         x, y = size * across, -size * along
-        points.append((at[0] + x * math.cos(angle) - y * math.sin(angle), at[1] + x * math.sin(angle) + y * math.cos(angle)))
-    picture.add("polygon", points=" ".join("%.1f,%.1f" % point for point in points), fill=fill, stroke=INK, stroke_width="0.8")
+        points.append(
+            (at[0] + x * math.cos(angle) - y * math.sin(angle), at[1] + x * math.sin(angle) + y * math.cos(angle)))
+    picture.add("polygon", points=" ".join("%.1f,%.1f" % point for point in points), fill=fill, stroke=INK,
+                stroke_width="0.8")
 
 
 def arrow(picture: Picture, begin: Point, end: Point, stroke: str, width: float = 1.6) -> None:
@@ -64,7 +68,8 @@ def arrow(picture: Picture, begin: Point, end: Point, stroke: str, width: float 
 
 
 def ring(picture: Picture, at: Point, radius: float, stroke: str, **more: str) -> None:
-    picture.add("circle", cx=float(at[0]), cy=float(at[1]), r=float(radius), fill="none", stroke=stroke, stroke_width="1.2", **more)
+    picture.add("circle", cx=float(at[0]), cy=float(at[1]), r=float(radius), fill="none", stroke=stroke,
+                stroke_width="1.2", **more)
 
 
 def arc(at: Point, radius: float, first: float, last: float) -> list[Point]:
@@ -87,7 +92,9 @@ def risk(given: Numbers) -> str:
     hull(picture, origin, 0, BLUE)
     picture.words(origin[0] - 24, origin[1] + 5, "A", 14, BLUE, "middle", "bold")
     cases = [((3300, 1000), (-8.0, -1.7), ["at risk: comes nearer than %d m" % detect["risk"]]),
-             ((3600, -350), (-3.0, 0.15), ["not at risk: it would take", "longer than the horizon, %d s" % detect["horizon"]]),
+             ((3600, -350), (-3.0, 0.15),
+              ["not at risk: it would take",
+               "longer than the horizon, %d s" % detect["horizon"]]),
              ((3000, -1000), (-8.0, 0.2), ["not at risk: stays farther off"])]
     for place, way, words in cases:
         held = at_risk(place, way, detect)
@@ -102,9 +109,13 @@ def risk(given: Numbers) -> str:
         picture.dot(on(moved(place, way, nearest(place, way, detect["horizon"]))), 3.5, stroke)
         picture.words(on(place)[0] + 8, on(place)[1] - 6, "B", 14, stroke, "start", "bold")
         for k, line in enumerate(words):
-            picture.words(on(moved(place, way, 130))[0] + 40, on(place)[1] + 22 + 14 * k, line, 12, stroke, "end", halo=True)
-    picture.words(12, 22, "As seen from A: how B moves against her. The arrow is the motion within a step, drawn longer.", 12)
-    picture.words(12, 38, "The dots go on with it, to the horizon at most; the dot on them is where they would be nearest.", 12)
+            picture.words(
+                on(moved(place, way, 130))[0] + 40,
+                on(place)[1] + 22 + 14 * k, line, 12, stroke, "end", halo=True)
+    picture.words(12, 22,
+                  "As seen from A: how B moves against her. The arrow is the motion within a step, drawn longer.", 12)
+    picture.words(12, 38,
+                  "The dots go on with it, to the horizon at most; the dot on them is where they would be nearest.", 12)
     return picture.text()
 
 
@@ -125,7 +136,8 @@ def engaged(given: Numbers) -> str:
     ring(picture, origin, detect["risk"] / scale, RED, stroke_dasharray="5 4")
     ring(picture, origin, detect["clear"] / scale, GREEN, stroke_dasharray="5 4")
     picture.words(origin[0], origin[1] + detect["risk"] / scale + 16, "risk: %d m" % detect["risk"], 12, RED, "middle")
-    picture.words(origin[0], origin[1] + detect["clear"] / scale + 16, "clear: %d m" % detect["clear"], 12, GREEN, "middle")
+    picture.words(origin[0], origin[1] + detect["clear"] / scale + 16, "clear: %d m" % detect["clear"], 12, GREEN,
+                  "middle")
     hull(picture, origin, 0, BLUE)
     picture.words(origin[0] - 22, origin[1] + 5, "A", 14, BLUE, "middle", "bold")
     for there, risky, held, _ in states:
@@ -133,22 +145,29 @@ def engaged(given: Numbers) -> str:
     first = next(k for k, state in enumerate(states) if state[2])
     calm = next(k for k in range(first, len(states)) if not states[k][1])
     last = next(k for k in range(first, len(states)) if not states[k][2])
-    for k, line, down, side in ((first, "risk begins", 24, "end"), (calm, "no risk, still engaged", -14, "start"), (last, "past and clear", -14, "end")):
+    for k, line, down, side in ((first, "risk begins", 24, "end"), (calm, "no risk, still engaged", -14, "start"),
+                                (last, "past and clear", -14, "end")):
         at = on(states[k][0])
-        picture.words(at[0] + (20 if k == first else 4), at[1] + down, "step %d: %s" % (k, line), 12, INK, side, halo=True)
-    for row, (name, field, stroke) in enumerate((("risk", 1, RED), ("engaged", 2, AMBER), ("past and clear", 3, GREEN))):
+        picture.words(at[0] + (20 if k == first else 4), at[1] + down, "step %d: %s" % (k, line), 12, INK, side,
+                      halo=True)
+    fields = ("risk", 1, RED), ("engaged", 2, AMBER), ("past and clear", 3, GREEN)
+    for row, (name, field, stroke) in enumerate(fields):
         y = 326 + 18 * row
         picture.words(112, y + 10, name, 12, INK, "end")
         for k, state in enumerate(states):
             picture.box(120 + 9 * k, y, 8, 12, stroke if state[field] else PALE)
     picture.words(120, 392, "steps 0 to %d, of %d s each" % (len(states) - 1, tick), 11, GREY)
-    picture.words(12, 22, "As seen from A: B comes from the right, and from step 18 on they pass wider. A dot is the first tick of a step.", 12)
+    picture.words(
+        12, 22,
+        "As seen from A: B comes from the right, and from step 18 on they pass wider. A dot is the first tick of a "
+        "step.", 12)
     return picture.text()
 
 
 def sector(picture: Picture, at: Point, radius: float, first: float, last: float, fill: str) -> None:
     points = [at] + arc(at, radius, first, last)
-    picture.add("polygon", points=" ".join("%.1f,%.1f" % point for point in points), fill=fill, stroke="#ffffff", stroke_width="1")
+    picture.add("polygon", points=" ".join("%.1f,%.1f" % point for point in points), fill=fill, stroke="#ffffff",
+                stroke_width="1")
 
 
 def seen(head: float, place: Point) -> float:
@@ -204,7 +223,8 @@ def classes(given: Numbers) -> str:
     sector(picture, at, radius, 247.5, 360, "#f4d3d0")
     sector(picture, at, radius, -ahead, ahead, "#f7e3a1")
     hull(picture, at, 0, BLUE, 11)
-    for degrees, words, anchor in ((0, "ahead: %g° to either side" % ahead, "middle"), (112.5, "112.5°", "start"), (247.5, "247.5°", "end")):
+    for degrees, words, anchor in ((0, "ahead: %g° to either side" % ahead, "middle"), (112.5, "112.5°", "start"),
+                                   (247.5, "247.5°", "end")):
         x, y = arc(at, radius + 6, degrees, degrees)[0]
         picture.words(x, y, words, 12, INK, anchor)
     for degrees, words in ((56, "starboard"), (180, "abaft"), (304, "port")):
@@ -212,8 +232,9 @@ def classes(given: Numbers) -> str:
         picture.words(x, y + 4, words, 13, INK, "middle")
     picture.words(12, 22, "Bearings from a vessel's own head", 12)
     picture.words(360, 22, "The kinds, as A sees them", 12)
-    kinds = [("overtaking", (2, 0.8), 0, (36, 44), (-15, 20)), ("head_on", (1, 1), 180, (2, 90), (0, 42)), ("crossing_gives", (1, 1), 270, (52, 40), (-10, 15)),
-             ("overtaken", (0.8, 2), 0, (-36, -48), (20, 0)), ("passing", (1, 1), 180, (-45, 64), (22, 24)), ("crossing_stands", (1, 1), 90, (-52, 40), (20, 15))]
+    kinds = [("overtaking", (2, 0.8), 0, (36, 44), (-15, 20)), ("head_on", (1, 1), 180, (2, 90), (0, 42)),
+             ("crossing_gives", (1, 1), 270, (52, 40), (-10, 15)), ("overtaken", (0.8, 2), 0, (-36, -48), (20, 0)),
+             ("passing", (1, 1), 180, (-45, 64), (22, 24)), ("crossing_stands", (1, 1), 90, (-52, 40), (20, 15))]
     for k, case in enumerate(kinds):
         meeting(picture, 360 + 155 * (k % 3), 34 + 172 * (k // 3), case, given)
     return picture.text()
@@ -228,13 +249,17 @@ def ranks(given: Numbers) -> str:
         picture.words(195 + 116 * k, 50, name, 12, INK, "middle")
         for other in range(5):
             gives, stands = k < other and k < 3, other < k and other < 3
-            words, fill = ("A gives way", "#cfe0f0") if gives else ("B gives way", "#eeeeee") if stands else ("", "#fafafa")
+            words, fill = (
+                ("A gives way", "#cfe0f0") if gives else ("B gives way", "#eeeeee") if stands else ("", "#fafafa")
+            )
             picture.box(140 + 116 * other, 60 + 36 * k, 110, 30, fill)
             picture.words(195 + 116 * other, 80 + 36 * k, words, 12, BLUE if gives else GREY, "middle")
     return picture.text()
 
 
-DRAWINGS = {"rules_risk.svg": risk, "rules_engaged.svg": engaged, "rules_classes.svg": classes, "rules_ranks.svg": ranks}
+DRAWINGS = {
+    "rules_risk.svg": risk, "rules_engaged.svg": engaged, "rules_classes.svg": classes, "rules_ranks.svg": ranks
+}
 
 
 def drawings() -> dict[str, str]:

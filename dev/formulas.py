@@ -1,6 +1,7 @@
 """Formulas as trees: read from text, and computed from the definitions that the proofs use.
 
-A tree is a tuple: ("word",), ("word", number), ("!", a), ("&", a, b), ("F", low, high, a) or ("S", low, high, a, b), with bounds in positions.
+A tree is a tuple: ("word",), ("word", number), ("!", a), ("&", a, b), ("F", low, high, a) or ("S", low, high, a, b),
+with bounds in positions.
 """
 from __future__ import annotations
 
@@ -88,7 +89,8 @@ def word_of(name: str) -> str:
 
 
 class Definitions:
-    """The clauses of a module of definitions that are made of names, numbers and applications, and what they compute to.
+    """The clauses of a module of definitions that are made of names, numbers and applications, and what they compute
+    to.
 
     Computing raises ValueError if a clause is not of that form, or if none fits.
     """
@@ -104,7 +106,8 @@ class Definitions:
             clause = re.match(r"(?!abbrev|unfoldable|pub|use|infix)([^ =:][^=:]*) =( .*|)$", line)
             if clause:
                 head = clause[1].split()
-                head = [head[1], head[0], *head[2:]] if len(head) == 3 and head[1] in self.INFIX else self._words(clause[1])
+                infix = len(head) == 3 and head[1] in self.INFIX
+                head = [head[1], head[0], *head[2:]] if infix else self._words(clause[1])
                 body = self._words(clause[2])
                 self._clauses.setdefault(head[0], []).append((head[1:], body))
             elif body is not None and line.startswith(" "):

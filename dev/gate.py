@@ -1,10 +1,13 @@
 """Measures the gate: python3 -m dev.gate [--of PID] [CRATE ..]
 
-Runs `rt ci` with these words at the top of the repository, and adds the CPU seconds of each crate's proof, of its tests and of its must-fail edits to the tables in
-dev/bench/data. With --of PID it runs nothing, and watches what that process starts until it ends, or until a signal TERM says that the gate has passed. What a kit's
-gate has cached from an earlier run takes no time and gets no row; a run in which every crate was proved also gets a row of its own. `rt ci --anew` proves everything.
+Runs `rt ci` with these words at the top of the repository, and adds the CPU seconds of each crate's proof, of its tests
+and of its must-fail edits to the tables in dev/bench/data. With --of PID it runs nothing, and watches what that process
+starts until it ends, or until a signal TERM says that the gate has passed. What a kit's gate has cached from an earlier
+run takes no time and gets no row; a run in which every crate was proved also gets a row of its own. `rt ci --anew`
+proves everything.
 
-The seconds are those that the kernel counts for each check, read four times a second, so a check may lack a quarter of a second.
+The seconds are those that the kernel counts for each check, read four times a second, so a check may lack a quarter of
+a second.
 """
 from __future__ import annotations
 
@@ -83,7 +86,8 @@ class Seen:
             key = (pid, found[pid].start)
             if not self.checks.get(key):
                 try:
-                    self.checks[key] = check_of(read_if_there(f"/proc/{pid}/cmdline").split("\0"), os.readlink(f"/proc/{pid}/cwd"))
+                    self.checks[key] = check_of(
+                        read_if_there(f"/proc/{pid}/cmdline").split("\0"), os.readlink(f"/proc/{pid}/cwd"))
                 except OSError:
                     continue
             self.seconds[key] = found[pid].seconds
@@ -104,7 +108,8 @@ class Seen:
 
 
 def watch(pid: int, seen: Seen) -> float:
-    """Watches a process until it ends or TERM comes, and returns the CPU seconds of all that it started, as far as it had waited for them."""
+    """Watches a process until it ends or TERM comes, and returns the CPU seconds of all that it started, as far as it
+    had waited for them."""
     ended = threading.Event()
     signal.signal(signal.SIGTERM, lambda *_: ended.set())
     first, total = processes().get(pid), 0.0
@@ -139,7 +144,10 @@ def crate_rows(table: dict[Check, float], names: list[str], date: str, commit: s
     for name in names:
         proof, tests, edits = (table.get((name, kind)) for kind in ("proof", "tests", "edits"))
         if not proof == tests == edits:      # all None
-            rows.append([date, commit, name, *("" if it is None else f"{it:.0f}" for it in (proof, tests)), str(edits_of(name) or ""), "" if edits is None else f"{edits:.0f}"])
+            rows.append([
+                date, commit, name, *("" if it is None else f"{it:.0f}" for it in (proof, tests)),
+                str(edits_of(name) or ""), "" if edits is None else f"{edits:.0f}"
+            ])
     return rows
 
 
@@ -153,17 +161,21 @@ def record(seen: Seen, begun: float, total: float) -> None:
     """Adds what a gate took to the tables."""
     git = ["git", "-C", TOP, "rev-parse", "--short=8", "HEAD"]
     commit = subprocess.run(git, stdout=subprocess.PIPE, stderr=subprocess.DEVNULL, text=True).stdout.strip()
-    date, names, table = datetime.datetime.now(datetime.timezone.utc).strftime("%Y-%m-%d"), list(listed_crates()), seen.table()
+    date = datetime.datetime.now(datetime.timezone.utc).strftime("%Y-%m-%d")
+    names, table = list(listed_crates()), seen.table()
     append(CRATES, crate_rows(table, names, date, commit))
     if all((name, "proof") in table for name in names):
         load = sum(seen.loads) / max(1, len(seen.loads))
         note = f"{seen.count()} checks; load {load:.1f}, {os.cpu_count()} processors"
-        append(RUNS, [[date, commit, f"{(time.time() - begun) / 60:.0f}", f"{max(total, sum(table.values())) / 60:.1f}", note, ""]])
+        append(RUNS, [[
+            date, commit, f"{(time.time() - begun) / 60:.0f}", f"{max(total, sum(table.values())) / 60:.1f}", note, ""
+        ]])
 
 
 def main() -> int:
     """Runs or watches the gate, and returns its status, or 0 for a gate that was watched."""
-    parser = argparse.ArgumentParser(prog="gate", description=__doc__, formatter_class=argparse.RawDescriptionHelpFormatter)
+    parser = argparse.ArgumentParser(prog="gate", description=__doc__,
+                                     formatter_class=argparse.RawDescriptionHelpFormatter)
     parser.add_argument("--of", metavar="PID", type=int, help="watch the gate that is this process")
     parser.add_argument("words", metavar="CRATE", nargs="*", help="the words for rt ci")
     given, more = parser.parse_known_args()

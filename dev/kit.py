@@ -16,11 +16,13 @@ SETTINGS = {"MIMALLOC_PURGE_DELAY": "-1", **os.environ}
 def asked(word: str) -> str:
     """Returns what `rt WORD` prints. Raises Fault if `rt` cannot be run."""
     try:
-        done = subprocess.run(["rt", word], stdin=subprocess.DEVNULL, stdout=subprocess.PIPE, stderr=subprocess.PIPE, universal_newlines=True)
+        done = subprocess.run(["rt", word], stdin=subprocess.DEVNULL, stdout=subprocess.PIPE, stderr=subprocess.PIPE,
+                              universal_newlines=True)
     except OSError:
         raise Fault("cannot build: the command rt is not on the PATH; README.md says where to get the kit") from None
     if done.returncode:
-        raise Fault("cannot build: `rt %s` ended with status %d: %s" % (word, done.returncode, " ".join(done.stderr.split())[-300:]))
+        raise Fault("cannot build: `rt %s` ended with status %d: %s" %
+                    (word, done.returncode, " ".join(done.stderr.split())[-300:]))
     return done.stdout.strip()
 
 
@@ -53,15 +55,22 @@ class Kit:
         return os.path.join(self.folder, "rattle", "examples/check" if name == "check" else name)
 
     def source_words(self, crate: str = PROGRAM) -> List[str]:
-        """Returns the words that hand a program to the kit as source: its root, and each library below it with those that it uses."""
+        """Returns the words that hand a program to the kit as source: its root, and each library below it with those
+        that it uses."""
         listed = listed_crates()
         below = crates_of(crate, listed)
         words = ["--crate-name", crate, path_of("crates", crate, "src", "main.rt")]
         for name in below[:-1]:
-            uses = dict.fromkeys(["core", "std", *[it for it in listed[name] if it not in listed], *[it for it in listed[name] if it in listed]])
+            uses = dict.fromkeys([
+                "core", "std", *[it for it in listed[name] if it not in listed],
+                *[it for it in listed[name] if it in listed]
+            ])
             words += ["--lib", "%s:%s=%s" % (name, ",".join(uses), path_of("crates", name, "src", "lib.rt"))]
         for name, uses_of in self.libraries(below, listed).items():
-            words += ["--lib", "%s:%s=%s" % (name, ",".join(uses_of), os.path.join(self.crate_folder(name), "src", "lib.rt"))]
+            words += [
+                "--lib",
+                "%s:%s=%s" % (name, ",".join(uses_of), os.path.join(self.crate_folder(name), "src", "lib.rt"))
+            ]
         return words
 
     def libraries(self, crates: List[str], listed: Dict[str, List[str]]) -> Dict[str, List[str]]:
@@ -71,6 +80,8 @@ class Kit:
         while waiting:
             name = waiting.pop(0)
             if name not in found:
-                found[name] = re.findall(r"^dep (\w+)$", read_if_there(os.path.join(self.folder, "rlibs", name + ".rlib", "format")), re.M)
+                found[name] = re.findall(r"^dep (\w+)$",
+                                         read_if_there(os.path.join(self.folder, "rlibs", name + ".rlib", "format")),
+                                         re.M)
                 waiting += found[name]
         return found

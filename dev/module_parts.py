@@ -1,7 +1,8 @@
 """Splits a module in LLVM's language into parts, which the compiler works on side by side.
 
-A part owns some of the large functions that several others call. It has copies of the functions that these need, so that calls are inlined as in one module, and only the
-declarations of the large functions of other parts. A function that `main` does not need is left out.
+A part owns some of the large functions that several others call. It has copies of the functions that these need, so
+that calls are inlined as in one module, and only the declarations of the large functions of other parts. A function
+that `main` does not need is left out.
 """
 from __future__ import annotations
 
@@ -9,7 +10,9 @@ import collections
 import re
 from typing import Dict, Iterable, Iterator, List, Set
 
-LARGE = 200      # lines from which on a function that several call gets a part of its own; from there on the compiler would hardly copy it into its callers
+# lines from which on a function that several call gets a part of its own; from there on the compiler would hardly copy
+# it into its callers
+LARGE = 200
 MAIN = "main"
 
 _NAME = re.compile(r'@("(?:[^"\\]|\\.)*"|[\w.$-]+)')
@@ -19,10 +22,12 @@ _INTERNAL, _SHARED, _DECLARED = "define internal ", "define hidden ", "declare h
 
 
 class Module:
-    """A module: its constants and functions by name, with the names that each refers to, and the lines before and after them."""
+    """A module: its constants and functions by name, with the names that each refers to, and the lines before and after
+    them."""
 
     def __init__(self, lines: Iterable[str]):
-        """Reads the module of a program. Raises ValueError if it has no `main`, or data that functions change, which cannot be copied."""
+        """Reads the module of a program. Raises ValueError if it has no `main`, or data that functions change, which
+        cannot be copied."""
         self.head: List[str] = []
         self.tail: List[str] = []
         self.constants: Dict[str, str] = {}
@@ -60,7 +65,8 @@ class Module:
         return self._groups.get(found.group(1), "") if found else ""
 
     def needed(self, roots: Iterable[str], edge: Set[str]) -> Set[str]:
-        """Returns what these functions need of the module, themselves included, but nothing that only a function of the edge needs."""
+        """Returns what these functions need of the module, themselves included, but nothing that only a function of the
+        edge needs."""
         found = set(roots)
         waiting = list(found)
         while waiting:
@@ -72,12 +78,14 @@ class Module:
         return found
 
     def large(self, among: Set[str]) -> Set[str]:
-        """Returns `main` and the functions that get parts of their own: large ones that several call, and those that must not be inlined."""
+        """Returns `main` and the functions that get parts of their own: large ones that several call, and those that
+        must not be inlined."""
         callers = collections.Counter(needed for name in among for needed in self._needs[name])
 
         def is_large(name: str) -> bool:
             attributes = self.attributes(name)
-            return "noinline" in attributes or len(self.functions[name]) > LARGE and callers[name] > 1 and "alwaysinline" not in attributes
+            shared = len(self.functions[name]) > LARGE and callers[name] > 1
+            return "noinline" in attributes or shared and "alwaysinline" not in attributes
 
         return {MAIN} | {name for name in among if name in self.functions and is_large(name)}
 
@@ -86,7 +94,8 @@ class Module:
         return sum(len(self.functions.get(name, ())) for name in names)
 
     def lines(self, own: Set[str], edge: Set[str]) -> Iterator[str]:
-        """Yields the module with these functions for all parts to call, what they need for itself, and the declarations of others of the edge."""
+        """Yields the module with these functions for all parts to call, what they need for itself, and the declarations
+        of others of the edge."""
         needed = self.needed(own, edge - own)
         yield from self.head
         yield from (line for name, line in self.constants.items() if name in needed)
@@ -115,7 +124,8 @@ def shares(module: Module, count: int) -> List[Set[str]]:
     shared: List[Set[str]] = [set() for _ in range(count)]
     needed: List[Set[str]] = [set() for _ in range(count)]
     sizes = [0] * count
-    # The most demanding first, each where the share then is the smallest; what a new function adds counts twice, so that functions with the same needs meet.
+    # The most demanding first, each where the share then is the smallest; what a new function adds counts twice, so
+    # that functions with the same needs meet.
     for name in sorted(edge, key=lambda it: (-module.size(needs[it]), it)):
         added = [module.size(needs[name] - needed[k]) for k in range(count)]
         k = min(range(count), key=lambda it: sizes[it] + 2 * added[it])

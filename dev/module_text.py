@@ -1,7 +1,8 @@
 """Turns the module that the kit makes for `rt try` into the one that its build of a proved program compiles.
 
-`rt try` compiles with checks for faults that a proof rules out: it marks each function for AddressSanitizer, calls a check before each step that could
-go wrong, and fills each new local. It also leaves out the inlining attributes of the sources. Here the checks and fills go, and the attributes come back.
+`rt try` compiles with checks for faults that a proof rules out: it marks each function for AddressSanitizer, calls a
+check before each step that could go wrong, and fills each new local. It also leaves out the inlining attributes of the
+sources. Here the checks and fills go, and the attributes come back.
 """
 from __future__ import annotations
 
@@ -53,7 +54,8 @@ class Inlining:
             for name in files:
                 if name.endswith(".rt"):
                     path = os.path.join(at, name)
-                    modules = tuple(it for it in os.path.relpath(path, folder)[:-3].split(os.sep) if it not in ("lib", "main", "mod"))
+                    modules = tuple(it for it in os.path.relpath(path, folder)[:-3].split(os.sep)
+                                    if it not in ("lib", "main", "mod"))
                     with open(path, encoding="utf-8", errors="replace") as lines:
                         for function, words in attributes_in(lines):
                             self._known[crate, function].append((modules, words))
@@ -61,7 +63,8 @@ class Inlining:
     def of(self, symbol: str) -> Attributes:
         """Returns the attributes of a function by its name in the module, as `crate::module::Type::name`.
 
-        If several functions of a crate have the name, it is that of the longest path of modules that the symbol begins with.
+        If several functions of a crate have the name, it is that of the longest path of modules that the symbol begins
+        with.
         """
         parts = re.sub(r"::<#.*?>", "", symbol).split("::")
         found = self._known.get((parts[0], parts[-1]), [])
@@ -97,7 +100,8 @@ def _as_built(line: str) -> str:
 
 
 def without_checks(lines: Iterable[str], inlining: Inlining) -> Iterator[str]:
-    """Yields the lines of a module in LLVM's language without its checks and fills, and with the inlining attributes of the sources."""
+    """Yields the lines of a module in LLVM's language without its checks and fills, and with the inlining attributes of
+    the sources."""
     groups, is_in_check = Groups(), False
     for line in lines:
         if is_in_check:

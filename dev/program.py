@@ -1,4 +1,5 @@
-"""Which program `./colregs` runs: the proved one if no source changed since, otherwise one of the same sources that is not proved."""
+"""Which program `./colregs` runs: the proved one if no source changed since, otherwise one of the same sources that is
+not proved."""
 from __future__ import annotations
 
 import fcntl
@@ -34,7 +35,8 @@ def cache() -> str:
         with open(os.path.join(folder, "lock"), "a", encoding="utf-8"):
             return folder
     except OSError as fault:
-        raise Fault("cannot build: %s cannot be written (%s); name another folder in COLREGS_CACHE" % (folder, fault.strerror)) from None
+        raise Fault("cannot build: %s cannot be written (%s); name another folder in COLREGS_CACHE" %
+                    (folder, fault.strerror)) from None
 
 
 def alone(folder: str) -> IO[str]:
@@ -49,7 +51,8 @@ def alone(folder: str) -> IO[str]:
 
 
 def stamp(path: str, begun: int) -> None:
-    """Sets the time of a file to when its sources began to be read, in nanoseconds, so that a later change of a source is seen."""
+    """Sets the time of a file to when its sources began to be read, in nanoseconds, so that a later change of a source
+    is seen."""
     try:
         os.utime(path, ns=(begun - CLOCK_STEP, begun - CLOCK_STEP))
     except OSError:
@@ -58,7 +61,10 @@ def stamp(path: str, begun: int) -> None:
 
 def _changed_since(changed: List[str]) -> str:
     more = " and %d more" % (len(changed) - 1) if len(changed) > 1 else ""
-    return "%s%s changed since the proof, so this program is not proved; ./colregs --prove proves it" % (changed[0], more)
+    return "%s%s changed since the proof, so this program is not proved; ./colregs --prove proves it" % (
+        changed[0],
+        more,
+    )
 
 
 def _is_proved(begun: int) -> Optional[str]:
@@ -86,7 +92,8 @@ def _unproved(folder: str) -> str:
         if not os.path.exists(program):
             for left in glob.glob(os.path.join(glob.escape(folder), "building-*")):
                 shutil.rmtree(left, ignore_errors=True)
-            say("nothing is built of these sources yet; building the program without its proofs, which takes a minute or two")
+            say("nothing is built of these sources yet; building the program without its proofs, which takes a minute "
+                "or two")
             unproved.build(program)
             known = sorted(glob.glob(os.path.join(glob.escape(folder), PROGRAM + "-*")), key=os.path.getmtime)
             for old in known[:-CACHED_PROGRAMS]:

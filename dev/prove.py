@@ -1,12 +1,14 @@
-"""Proves the crates that the program stands on, side by side, and builds the program: ./colregs --prove [--each SECONDS]
+"""Proves the crates that the program stands on, side by side, and builds the program: ./colregs --prove [--each
+SECONDS]
 
-The kit's `rattle build` proves a crate and writes the library that the crates above it read. A crate starts once those below it are proved: first the one with
-the longest path of sources above it, each on as many processors as no other crate waits for. Finished proofs are cached in crates/colregs/out/rlib, also if
-you interrupt the run, with the sum of everything that they read. Every 20 seconds a line on standard error names the crates at work.
+The kit's `rattle build` proves a crate and writes the library that the crates above it read. A crate starts once those
+below it are proved: first the one with the longest path of sources above it, each on as many processors as no other
+crate waits for. Finished proofs are cached in crates/colregs/out/rlib, also if you interrupt the run, with the sum of
+everything that they read. Every 20 seconds a line on standard error names the crates at work.
 
-It is not the gate: that is `rt ci`, which holds the sources to more, tries wrong bodies and runs the tests. Why not `rt` itself: `rt ci` gives one processor to
-a crate for which the others wait, and not each kit's caches what it proved. `rt all check` gives each crate one processor, and reads all sources first.
-`rt lib` waits for each other `rt` below it.
+It is not the gate: that is `rt ci`, which holds the sources to more, tries wrong bodies and runs the tests. Why not
+`rt` itself: `rt ci` gives one processor to a crate for which the others wait, and not each kit's caches what it proved.
+`rt all check` gives each crate one processor, and reads all sources first. `rt lib` waits for each other `rt` below it.
 """
 from __future__ import annotations
 
@@ -31,12 +33,16 @@ from .sums import Record, sums
 # Here `rt` allows sources that lie in libraries; it makes none of the program, and the gate leaves them.
 PLACE = path_of("crates", PROGRAM, "out", "rlib")
 MOST_JOBS = 4                    # the most processors that were tried for one crate
-# The facts that the last line of a proof may state. Others are refused: they may name what HANDLES does not allow, as a bound by which a function need not return.
-EXPECTED = {"logic", "functions", "axioms", "target", "cpu", "sum", "native", "logic-built", "libraries-built", "statements"}
+# The facts that the last line of a proof may state. Others are refused: they may name what HANDLES does not allow, as a
+# bound by which a function need not return.
+EXPECTED = {
+    "logic", "functions", "axioms", "target", "cpu", "sum", "native", "logic-built", "libraries-built", "statements"
+}
 
 
 class Crate:
-    """A crate that the program stands on: the crates of the repository that it names, those of the kit, and the size of its sources in bytes."""
+    """A crate that the program stands on: the crates of the repository that it names, those of the kit, and the size of
+    its sources in bytes."""
 
     def __init__(self, name: str, listed: Dict[str, List[str]]):
         self.name, self.below = name, [it for it in listed[name] if it in listed]
@@ -48,7 +54,8 @@ class Crate:
         return files_of(self.name, "src", "specs", "proofs")
 
     def sum(self, line: str, below: Dict[str, str]) -> str:
-        """Returns the sum of all that a proof of the crate reads: the kit's line, the crate's sources, and the crates below it by their own sums."""
+        """Returns the sum of all that a proof of the crate reads: the kit's line, the crate's sources, and the crates
+        below it by their own sums."""
         made = hashlib.sha256(repr((line, self.of_kit, [(it, below[it]) for it in self.below])).encode())
         for file in self.files():
             with open(file, "rb") as source:
@@ -70,7 +77,8 @@ class Proof:
     """A proof at work."""
 
     def __init__(self, crate: Crate, kit: Kit, room: str, jobs: int):
-        self.crate, self.jobs, self._begun, self._said = crate, jobs, time.monotonic(), tempfile.TemporaryFile("w+", errors="replace")
+        self.crate, self.jobs, self._begun = crate, jobs, time.monotonic()
+        self._said = tempfile.TemporaryFile("w+", errors="replace")
         self.made = os.path.join(room, crate.name + (".o" if crate.name == PROGRAM else ".rlib"))
         words = ["--crate-name", crate.name, "src/main.rt" if crate.name == PROGRAM else "src/lib.rt"]
         for name in crate.of_kit:
@@ -78,10 +86,15 @@ class Proof:
         for name in crate.below:
             words += ["--extern", "%s=%s" % (name, os.path.join(PLACE, name + ".rlib"))]
         words += ["-L", "dependency=%s/rlibs" % kit.folder, "-L", "dependency=" + PLACE]
-        words += ["--antt-project", kit.folder + "/rattle/logic/antt-project.json", "--logic-built", kit.folder + "/logic_built"]
+        words += [
+            "--antt-project", kit.folder + "/rattle/logic/antt-project.json", "--logic-built",
+            kit.folder + "/logic_built"
+        ]
         words += ["--jobs", str(jobs), "--links", crate.name + "="]
-        words += ["--toolchain", kit.folder + "/toolchain", "--backend", "llvm"] if crate.name == PROGRAM else ["--statements"]
-        self._child = Child([kit.tool("bin", "rattle"), "build", *words, "-o", self.made], self._said, path_of("crates", crate.name), SETTINGS)
+        words += ["--toolchain", kit.folder
+                  + "/toolchain", "--backend", "llvm"] if crate.name == PROGRAM else ["--statements"]
+        self._child = Child([kit.tool("bin", "rattle"), "build", *words, "-o", self.made], self._said,
+                            path_of("crates", crate.name), SETTINGS)
 
     def seconds(self) -> int:
         """Returns the whole seconds since the proof began."""
@@ -123,13 +136,15 @@ class Work:
         for name, crate in self.crates.items():
             self._sums[name] = crate.sum(line, self._sums)
             # A library is valid only above those that it was made from.
-            if set(crate.below) <= self.proved and os.path.isdir(crate.library) and read_if_there(crate.library + ".sum") == self._sums[name]:
+            is_valid = os.path.isdir(crate.library) and read_if_there(crate.library + ".sum") == self._sums[name]
+            if is_valid and set(crate.below) <= self.proved:
                 self.proved.add(name)
 
     def _begin(self, room: str) -> None:
         """Begins what may begin, the longest path first, each with its share of the processors that are free."""
         known = self.proved | {it.crate.name for it in self.at_work}
-        ready = sorted((it for it in self.crates.values() if it.name not in known and set(it.below) <= self.proved), key=lambda it: -self._lengths[it.name])
+        ready = sorted((it for it in self.crates.values() if it.name not in known and set(it.below) <= self.proved),
+                       key=lambda it: -self._lengths[it.name])
         for k, crate in enumerate(ready):
             free = self._processors - sum(it.jobs for it in self.at_work)
             if free < 1:
@@ -154,7 +169,9 @@ class Work:
 
     def _progress(self) -> str:
         at_work = sorted(self.at_work, key=lambda it: -it.seconds())
-        return "; ".join("crate %d of %d, %s, %d s" % (len(self.proved) + k + 1, len(self.crates), it.crate.name, it.seconds()) for k, it in enumerate(at_work))
+        return "; ".join(
+            "crate %d of %d, %s, %d s" % (len(self.proved) + k + 1, len(self.crates), it.crate.name, it.seconds())
+            for k, it in enumerate(at_work))
 
     def finish(self, room: str, each: float) -> None:
         """Proves all that is left, and reports what is at work every `each` seconds. Raises Fault if a proof fails."""
@@ -170,9 +187,11 @@ class Work:
 
 
 def put(kit: Kit, made: str, sources: Dict[str, str], begun: int) -> None:
-    """Links the program and puts it in its place, where no other run meets half of it. Raises Fault if it cannot be linked, or a source changed meanwhile."""
+    """Links the program and puts it in its place, where no other run meets half of it. Raises Fault if it cannot be
+    linked, or a source changed meanwhile."""
     new = PROVED + ".new"
-    linked = subprocess.run(kit.link([made], new), stdin=subprocess.DEVNULL, stdout=subprocess.PIPE, stderr=subprocess.STDOUT, errors="replace", universal_newlines=True)
+    linked = subprocess.run(kit.link([made], new), stdin=subprocess.DEVNULL, stdout=subprocess.PIPE,
+                            stderr=subprocess.STDOUT, errors="replace", universal_newlines=True)
     if linked.returncode:
         sys.stderr.write(linked.stdout)
         raise Fault("the program is proved and could not be linked")
@@ -193,7 +212,8 @@ def prove(each: float) -> None:
         room = tempfile.mkdtemp(prefix="at-work-", dir=PLACE)
         work = Work(kit, line)
         try:
-            say("proving %d crates side by side; the proofs of %d others are cached, as each will be that is finished" % (len(work.crates) - len(work.proved), len(work.proved)))
+            say("proving %d crates side by side; the proofs of %d others are cached, as each will be that is finished" %
+                (len(work.crates) - len(work.proved), len(work.proved)))
             work.finish(room, each)
             put(kit, os.path.join(room, PROGRAM + ".o"), work.sources, begun)
             say("all %d crates are proved, and the program is built" % len(work.crates))
@@ -208,7 +228,8 @@ def prove(each: float) -> None:
 
 def main(words: List[str]) -> int:
     """Runs `./colregs --prove` with these arguments, and returns its exit status."""
-    parser = argparse.ArgumentParser(prog="colregs --prove", description=__doc__, formatter_class=argparse.RawDescriptionHelpFormatter)
+    parser = argparse.ArgumentParser(prog="colregs --prove", description=__doc__,
+                                     formatter_class=argparse.RawDescriptionHelpFormatter)
     parser.add_argument("--each", type=float, default=EACH, help="seconds between two lines of progress")
     try:
         prove(parser.parse_args(words).each)

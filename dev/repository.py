@@ -7,7 +7,8 @@ from typing import Dict, List
 
 TOP = os.path.dirname(os.path.dirname(os.path.abspath(__file__)))
 PROGRAM = "colregs"
-NO_PROGRAM = 21      # the exit status if there is no program to run: no run of the program ends with it (docs/REPORT.md)
+# the exit status if there is no program to run: no run of the program ends with it (docs/REPORT.md)
+NO_PROGRAM = 21
 
 
 class Fault(Exception):
@@ -40,7 +41,8 @@ def read_if_there(path: str) -> str:
 
 
 def listed_crates() -> Dict[str, List[str]]:
-    """Reads crates.txt: each crate with the crates that its line names, in the order of the file. A line may have more words before its colon, as `staticlib`."""
+    """Reads crates.txt: each crate with the crates that its line names, in the order of the file. A line may have more
+    words before its colon, as `staticlib`."""
     listed: Dict[str, List[str]] = {}
     for line in read("crates.txt").splitlines():
         head, _, below = line.partition("#")[0].partition(":")

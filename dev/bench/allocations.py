@@ -1,11 +1,12 @@
 #!/usr/bin/env python3
 """Refuses each allocation of a run in turn: allocations.py PROGRAM [--most N] [RUN ..]
 
-RUN is one or more of points, audit, plan, drill and migrate, and else each of them. The built program is run once to count its allocations, and then
-once for each of them, of which that one alone is refused: a small library, which this script has the C compiler make, stands before the
-allocator. A run has to end with the right answer and the right bytes, or with the status of want of memory (8), of a failed write (6) or of words
-that the system does not give (20), having written no more than a front of the right bytes. Each other end has a line, and then the status is 1. Beyond --most allocations, 3000, as many
-are tried, evenly spread. `points` and `audit` read logs of several blocks.
+RUN is one or more of points, audit, plan, drill and migrate; the default is each of them. The program runs once to
+count its allocations, and then once for each allocation, with only that one refused: a small library, which the C
+compiler makes from this script, stands before the allocator. A run must end with the right answer and the right bytes,
+or with the status of out of memory (8), of a failed write (6) or of arguments that the system does not provide (20)
+after a prefix of the right bytes. Every other end has a line, and then the status is 1. Of more than --most allocations
+(3000) that many are tried, evenly spread. `points` and `audit` read logs of several blocks.
 """
 import argparse
 import collections
@@ -33,16 +34,37 @@ static unsigned long count, refused;
 static void begin(void) __attribute__((constructor));
 static void begin(void) { const char *n = getenv("REFUSED"); refused = n ? strtoul(n, 0, 10) : 0; count = 0; }
 static void finish(void) __attribute__((destructor));
-static void finish(void) { const char *f = getenv("COUNTED"); if (f) { unsigned long n = count; FILE *o = fopen(f, "w"); if (o) { fprintf(o, "%lu", n); fclose(o); } } }
+static void finish(void) {
+    unsigned long counted = count;
+    const char *name = getenv("COUNTED");
+    FILE *out = name ? fopen(name, "w") : 0;
+    if (out) { fprintf(out, "%lu", counted); fclose(out); }
+}
 static int is_refused(void) { if (++count != refused) return 0; errno = ENOMEM; return 1; }
-void *malloc(size_t n) { static void *(*next)(size_t); if (!next) next = dlsym(RTLD_NEXT, "malloc"); return is_refused() ? 0 : next(n); }
-void *realloc(void *p, size_t n) { static void *(*next)(void *, size_t); if (!next) next = dlsym(RTLD_NEXT, "realloc"); return is_refused() ? 0 : next(p, n); }
-void *aligned_alloc(size_t a, size_t n) { static void *(*next)(size_t, size_t); if (!next) next = dlsym(RTLD_NEXT, "aligned_alloc"); return is_refused() ? 0 : next(a, n); }
-int posix_memalign(void **p, size_t a, size_t n) { static int (*next)(void **, size_t, size_t); if (!next) next = dlsym(RTLD_NEXT, "posix_memalign"); return is_refused() ? ENOMEM : next(p, a, n); }
+void *malloc(size_t n) {
+    static void *(*next)(size_t);
+    if (!next) next = dlsym(RTLD_NEXT, "malloc");
+    return is_refused() ? 0 : next(n);
+}
+void *realloc(void *p, size_t n) {
+    static void *(*next)(void *, size_t);
+    if (!next) next = dlsym(RTLD_NEXT, "realloc");
+    return is_refused() ? 0 : next(p, n);
+}
+void *aligned_alloc(size_t a, size_t n) {
+    static void *(*next)(size_t, size_t);
+    if (!next) next = dlsym(RTLD_NEXT, "aligned_alloc");
+    return is_refused() ? 0 : next(a, n);
+}
+int posix_memalign(void **p, size_t a, size_t n) {
+    static int (*next)(void **, size_t, size_t);
+    if (!next) next = dlsym(RTLD_NEXT, "posix_memalign");
+    return is_refused() ? ENOMEM : next(p, a, n);
+}
 """
 
 
-def main():
+def main() -> int:
     words = argparse.ArgumentParser(description=__doc__, formatter_class=argparse.RawDescriptionHelpFormatter)
     words.add_argument("program")
     words.add_argument("--most", type=int, default=3000)
@@ -52,13 +74,16 @@ def main():
     with tempfile.TemporaryDirectory() as room:
         with open(f"{room}/shim.c", "w") as source:
             source.write(SHIM)
-        subprocess.run([os.environ.get("CC", "cc"), "-O1", "-shared", "-fPIC", "-o", f"{room}/shim.so", f"{room}/shim.c", "-ldl"], check=True)
+        subprocess.run(
+            [os.environ.get("CC", "cc"), "-O1", "-shared", "-fPIC", "-o", f"{room}/shim.so", f"{room}/shim.c", "-ldl"],
+            check=True)
 
-        def once(run, refused):
+        def once(run: str, refused: int) -> tuple[int, bytes]:
             scenario, log = RUNS[run]
             known = {**os.environ, "LD_PRELOAD": f"{room}/shim.so", "REFUSED": str(refused), "COUNTED": f"{room}/count"}
             with open(f"{EXAMPLES}/{log}" if log else os.devnull, "rb") as source:
-                ended = subprocess.run([asked.program, run, f"{EXAMPLES}/{scenario}"], stdin=source, capture_output=True, env=known, timeout=60)
+                ended = subprocess.run([asked.program, run, f"{EXAMPLES}/{scenario}"], stdin=source,
+                                       capture_output=True, env=known, timeout=60)
             return ended.returncode, ended.stdout
 
         for run in asked.runs:
@@ -66,13 +91,14 @@ def main():
             with open(f"{room}/count") as source:
                 count = int(source.read())
             step = max(1, -(-count // asked.most))
-            ends = collections.Counter()
+            ends = collections.Counter[str]()
             for refused in range(1, count + 2, step):
                 status, out = once(run, refused)
                 is_right = (status, out) == right
                 if not is_right and (status not in (6, 8, 20) or not right[1].startswith(out)):
                     bad = 1
-                    print(f"{run}: allocation {refused}: status {status}, {len(out)} bytes, where {right[0]} and {len(right[1])} are right")
+                    print(f"{run}: allocation {refused}: status {status}, {len(out)} bytes, where {right[0]} and "
+                          f"{len(right[1])} are right")
                 ends["the right answer" if is_right else f"status {status}"] += 1
             print(f"{run}: {count} allocations; " + ", ".join(f"{n} times {end}" for end, n in sorted(ends.items())))
     return bad

@@ -1,8 +1,9 @@
 #!/usr/bin/env python3
-"""Times plans by the library and by processes, and prints the table for RESULTS.md: calls.py LIBRARY PROGRAM [YARDSTICK] [--plans N] [--rounds N]
+"""Times plans by the library and by processes, and prints the table for RESULTS.md: calls.py LIBRARY PROGRAM
+[YARDSTICK] [--plans N] [--rounds N]
 
-LIBRARY is a folder that .ci/library made. In each round each way plans the example N times in turn; the table has the medians. It ends with status 1 if a plan by the
-library takes more than a quarter of a process's time.
+LIBRARY is a folder that .ci/library made. In each round each way plans the example N times in turn; the table has the
+medians. It ends with status 1 if a plan by the library takes more than a quarter of a process's time.
 """
 import argparse
 import statistics
@@ -19,7 +20,8 @@ MOST = 0.25     # of a process's time
 def microseconds(timer: Path, how: str, plans: int, program: list[Path]) -> tuple[float, float]:
     """Runs the timer once; the elapsed and the CPU microseconds of a plan."""
     words = [timer, how, str(plans), TOP / "examples" / f"{CASE}.toml", TOP / "examples" / f"{CASE}.log", *program]
-    elapsed, cpu = subprocess.run([str(it) for it in words], cwd=timer.parent, stdout=subprocess.PIPE, check=True).stdout.split()
+    elapsed, cpu = subprocess.run([str(it) for it in words], cwd=timer.parent, stdout=subprocess.PIPE,
+                                  check=True).stdout.split()
     return float(elapsed), float(cpu)
 
 
@@ -31,13 +33,18 @@ def main() -> int:
     words.add_argument("--plans", type=int, default=1000)
     words.add_argument("--rounds", type=int, default=5)
     given = words.parse_args()
-    ways: dict[str, tuple[str, list[Path]]] = {"library": ("library", []), "process": ("process", [given.program.resolve()])}
+    ways: dict[str,
+               tuple[str,
+                     list[Path]]] = {"library": ("library", []), "process": ("process", [given.program.resolve()])}
     if given.yardstick:
         ways["yardstick's process"] = ("process", [given.yardstick.resolve()])
     with tempfile.TemporaryDirectory(prefix="calls-") as folder:
         timer = Path(folder) / "calls"
         library = given.library.resolve()
-        subprocess.run(["cc", "-O2", f"-I{library / 'include'}", TOP / "dev" / "bench" / "calls.c", library / "lib" / "libcolregs.a", "-o", timer], check=True)
+        subprocess.run([
+            "cc", "-O2", f"-I{library / 'include'}", TOP / "dev" / "bench" / "calls.c",
+            library / "lib" / "libcolregs.a", "-o", timer
+        ], check=True)
         taken: dict[str, list[tuple[float, float]]] = {way: [] for way in ways}
         for _ in range(given.rounds):
             for way, (how, program) in ways.items():

@@ -1,30 +1,35 @@
 #!/usr/bin/env python3
 """Writes the made-up log of examples/harbour.log to standard output: twelve vessels in Elliott Bay for 400 seconds.
 
-Each line has a tag block (NMEA 0183 4.10) with its time. Beside position reports there are ships' static reports in one and in two
-sentences, and lines as receivers write them that say nothing: a wrong sum, another sentence, a damaged payload, an empty line.
-The log is the same at each run.
+Each line has a tag block (NMEA 0183 4.10) with its time. Beside position reports there are ships' static reports in one
+and in two sentences, and lines as receivers write them that say nothing: a wrong sum, another sentence, a damaged
+payload, an empty line. The log is the same at each run.
 """
 import math
 import random
+from collections.abc import Iterator
 
-from sentences import armour, position_report, sentence, tagged, voyage
+from sentences import START, Entry, Vessel, armour, position_report, sentence, tagged, voyage
 
-START = 1700000000
 NAMES = ["BRAVO ONE", "COASTAL STAR", "DELTA QUEEN", "EVERGREEN", "FAIRWIND", "GULL"]
 
 
-def vessels(draw):
+def vessels(draw: random.Random) -> Iterator[Vessel]:
     for k in range(12):
         course = draw.randrange(0, 3600)
         yield {
-            "mmsi": 366900001 + 137 * k, "kind": 18 if k % 4 == 3 else 1, "course": course, "speed": draw.randrange(20, 220),
-            "north": 28549600 + draw.randrange(-30000, 30000), "east": -73407500 + draw.randrange(-40000, 40000),
-            "period": draw.choice([10, 12, 20, 30]), "phase": draw.randrange(0, 10),
+            "mmsi": 366900001 + 137 * k,
+            "kind": 18 if k % 4 == 3 else 1,
+            "course": course,
+            "speed": draw.randrange(20, 220),
+            "north": 28549600 + draw.randrange(-30000, 30000),
+            "east": -73407500 + draw.randrange(-40000, 40000),
+            "period": draw.choice([10, 12, 20, 30]),
+            "phase": draw.randrange(0, 10),
         }
 
 
-def reports(vessel):
+def reports(vessel: Vessel) -> Iterator[Entry]:
     for elapsed in range(vessel["phase"], 401, vessel["period"]):
         way = vessel["speed"] * elapsed / 36000
         angle = math.radians(vessel["course"] / 10)
@@ -36,13 +41,16 @@ def reports(vessel):
         yield elapsed, [tagged(START + elapsed, sentence(1, 1, "", "AB"[elapsed % 2], payload, fill))]
 
 
-def names(fleet):
+def names(fleet: list[Vessel]) -> Iterator[Entry]:
     for k, vessel in enumerate(fleet[:6]):
         payload, fill = armour(voyage(vessel["mmsi"], NAMES[k], 70 + k, 80 + 10 * k, 20 + k, 10, 12))
-        yield 3 * k, [tagged(START + 3 * k, sentence(2, 1, k, "A", payload[:56], 0)), sentence(2, 2, k, "A", payload[56:], fill)]
+        yield 3 * k, [
+            tagged(START + 3 * k, sentence(2, 1, k, "A", payload[:56], 0)),
+            sentence(2, 2, k, "A", payload[56:], fill)
+        ]
 
 
-def damage():
+def damage() -> Iterator[Entry]:
     yield 40, [tagged(START + 40, "!AIVDM,1,1,,A,15MqCp0P1tG?wbhK>c@6imL`0000,0*00")]
     yield 90, [tagged(START + 90, "$GPGGA,000130,4736.0,N,12220.0,W,1,08,1.0,0.0,M,,M,,*5B")]
     yield 91, [""]
@@ -50,7 +58,7 @@ def damage():
     yield 200, [tagged(START + 200, "!AIVDM,1,1,,A,,0*26")]
 
 
-def main():
+def main() -> None:
     draw = random.Random(7)
     fleet = list(vessels(draw))
     lines = [entry for vessel in fleet for entry in reports(vessel)] + list(names(fleet)) + list(damage())

@@ -1,9 +1,12 @@
 #!/usr/bin/env python3
-"""Compares two programs on logs of mutated lines: mutated.py PROGRAM OTHER [--first SEED] [--count N] [--lines N] [--mode points]
+"""Compares two programs on logs of mutated lines.
 
-Each log is made from a seed out of sentences of a made-up fleet, with and without tag blocks, in one part and in two: bytes are changed,
-lost, doubled and put in, lines are cut, joined and told again, and some have their sums made right again, so that the mutation is met behind
-the sum. Both programs' reports, statuses and lines on standard error have to be the same. By default ten logs of 100,000 lines.
+    dev/bench/mutated.py PROGRAM OTHER [--first SEED] [--count N] [--lines N] [--mode points]
+
+Each log is made from a seed out of sentences of a made-up fleet, with and without tag blocks, in one part and in two:
+bytes are changed, lost, doubled and put in, lines are cut, joined and repeated, and some have their checksums corrected
+again, so that the mutation passes the checksum. Both programs' reports, statuses and lines on standard error must be
+the same. By default ten logs of 100,000 lines.
 """
 import argparse
 import os
@@ -12,30 +15,28 @@ import subprocess
 import sys
 import tempfile
 
-from sentences import armour, position_report, sentence, tagged, total
+from sentences import HARBOUR, START, armour, position_report, sentence, tagged, total
 
-HERE = os.path.dirname(os.path.abspath(__file__))
-SCENARIO = os.path.join(HERE, "..", "..", "examples", "harbour.toml")
-START = 1700000000
 PARTS = [
     "!AIVDM,2,1,3,B,55P5TL01VIaAL@7WKO@mBplU@<PDhh000000001S;AJ::4A80?4i@E53,0*3E",
     "!AIVDM,2,2,3,B,1@0000000000000,2*55",
 ]
 
 
-def good_line(draw, second):
+def good_line(draw: random.Random, second: int) -> str:
     if draw.random() < 0.1:
         line = draw.choice(PARTS)
     else:
         kind = draw.choice([1, 1, 1, 2, 3, 18])
-        payload, fill = armour(position_report(
-            kind, 200000001 + draw.randrange(40), 28549600 + draw.randrange(-50000, 50000), -73407500 + draw.randrange(-50000, 50000),
-            draw.randrange(0, 1024), draw.randrange(0, 4096), draw.randrange(0, 512), second % 60))
+        payload, fill = armour(
+            position_report(kind, 200000001 + draw.randrange(40), 28549600 + draw.randrange(-50000, 50000),
+                            -73407500 + draw.randrange(-50000, 50000), draw.randrange(0, 1024), draw.randrange(0, 4096),
+                            draw.randrange(0, 512), second % 60))
         line = sentence(1, 1, "", "AB"[draw.randrange(2)], payload, fill)
     return tagged(START + second + draw.randrange(-90, 90), line) if draw.random() < 0.7 else line
 
 
-def with_sum(line):
+def with_sum(line: str) -> str:
     """The line with the sum of its sentence made right."""
     begin, star = line.rfind("!"), line.rfind("*")
     if begin < 0 or star < begin:
@@ -43,7 +44,7 @@ def with_sum(line):
     return line[:star] + "*" + total(line[begin + 1:star].encode("latin-1").decode("latin-1")) + line[star + 3:]
 
 
-def mutated(draw, line):
+def mutated(draw: random.Random, line: str) -> str:
     for _ in range(draw.choice([1, 1, 1, 2, 5])):
         if not line:
             return line
@@ -68,7 +69,7 @@ def mutated(draw, line):
     return line
 
 
-def made_log(seed, lines):
+def made_log(seed: int, lines: int) -> bytes:
     draw = random.Random(seed)
     made = []
     for k in range(lines):
@@ -81,12 +82,12 @@ def made_log(seed, lines):
     return ("\n".join(made) + draw.choice(["", "\n", "\r\n"])).encode("latin-1")
 
 
-def run(program, mode, log, place):
+def run(program: str, mode: str, log: bytes, place: str) -> tuple[int, bytes, bytes]:
     done = subprocess.run([os.path.abspath(program), mode, "scenario.toml"], input=log, capture_output=True, cwd=place)
     return done.returncode, done.stdout, done.stderr
 
 
-def main():
+def main() -> None:
     words = argparse.ArgumentParser(description=__doc__, formatter_class=argparse.RawDescriptionHelpFormatter)
     words.add_argument("program")
     words.add_argument("other")
@@ -95,9 +96,9 @@ def main():
     words.add_argument("--lines", type=int, default=100000)
     words.add_argument("--mode", default="points")
     asked = words.parse_args()
-    counts = {}
+    counts: dict[str, int] = {}
     with tempfile.TemporaryDirectory() as place:
-        with open(SCENARIO) as text, open(os.path.join(place, "scenario.toml"), "w") as out:
+        with open(HARBOUR) as text, open(os.path.join(place, "scenario.toml"), "w") as out:
             out.write(text.read())
         for seed in range(asked.first, asked.first + asked.count):
             log = made_log(seed, asked.lines)
@@ -112,8 +113,8 @@ def main():
                     _, outcome, count, *_ = row.split(",")
                     counts[outcome] = counts.get(outcome, 0) + int(count)
     print("the same: %d logs" % asked.count)
-    for outcome, count in counts.items():
-        print("%9d %s" % (count, outcome))
+    for outcome, lines in counts.items():
+        print("%9d %s" % (lines, outcome))
 
 
 if __name__ == "__main__":

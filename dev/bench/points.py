@@ -3,12 +3,12 @@
 
     dev/bench/points.py [--program COLREGS] [--reports N] [--vessels N] [--rounds N] [PROGRAM ...]
 
-It writes a log of N position reports of ITU-R M.1371 message 1 (two million by default), each a line of its own with a
-right sum and a tag block that tells its time, and a scenario. The vessels report in turn, once a second, and go on at 11
-knots, so every report is accepted. Each program first runs once and its `point` rows are counted: all must write as many.
-Then it times each program in turn, some rounds long, with the log as standard input and its output thrown away, and prints
-the least time of each and its ratio to `wc -l`. A PROGRAM is a shell command that runs where scenario.toml lies; `{log}` in
-it stands for the log's path. The numbers are of this machine and this run: compare the ratios.
+It writes a scenario and a log of N position reports of ITU-R M.1371 message 1 (two million by default), each in one
+line with a right checksum and a tag block with its time. The vessels report in turn, once a second, at 11 knots, so
+every report is accepted. Each program first runs once and must write as many rows `point` as the others. Then each
+program is timed in turn, some rounds long, with the log as standard input and its output discarded; the least time of
+each is printed with its ratio to `wc -l`. A PROGRAM is a shell command that runs in the folder of scenario.toml;
+`{log}` in it stands for the log's path. Compare the ratios, since the seconds are of this machine and this run.
 """
 import argparse
 import os
@@ -19,34 +19,31 @@ import sys
 import tempfile
 import time
 
-from sentences import armour, position_report, sentence, tagged
-
-HERE = os.path.dirname(os.path.abspath(__file__))
-SCENARIO = os.path.join(HERE, "..", "..", "examples", "harbour.toml")
-START = 1700000000
+from sentences import HARBOUR, START, TOP, armour, position_report, sentence, tagged
 
 
-def write_log(path, reports, vessels):
+def write_log(path: str, reports: int, vessels: int) -> None:
     draw = random.Random(1)
-    places = [(28549600 + draw.randrange(-500000, 500000), -73407500 + draw.randrange(-500000, 500000)) for _ in range(vessels)]
+    places = [(28549600 + draw.randrange(-500000, 500000), -73407500 + draw.randrange(-500000, 500000))
+              for _ in range(vessels)]
     with open(path, "w") as out:
         for k in range(reports):
             vessel, second = k % vessels, k // vessels
             latitude, longitude = places[vessel]
-            payload, fill = armour(position_report(
-                1, 200000001 + vessel, latitude + 30 * second, longitude, draw.randrange(0, 300), draw.randrange(0, 3600),
-                draw.randrange(0, 360), second % 60))
+            payload, fill = armour(
+                position_report(1, 200000001 + vessel, latitude + 30 * second, longitude, draw.randrange(0, 300),
+                                draw.randrange(0, 3600), draw.randrange(0, 360), second % 60))
             out.write(tagged(START + second, sentence(1, 1, "", "AB"[k % 2], payload, fill)) + "\n")
 
 
-def rows(command, log, cwd):
+def rows(command: str, log: str, cwd: str) -> int:
     """How many `point` rows the program writes."""
     with open(log, "rb") as source:
         done = subprocess.run(command, shell=True, stdin=source, stdout=subprocess.PIPE, cwd=cwd)
     return sum(row.startswith(b"point,") for row in done.stdout.splitlines())
 
 
-def seconds(command, log, cwd):
+def seconds(command: str, log: str, cwd: str) -> float:
     with open(log, "rb") as source:
         begin = time.perf_counter()
         done = subprocess.run(command, shell=True, stdin=source, stdout=subprocess.DEVNULL, cwd=cwd)
@@ -56,17 +53,17 @@ def seconds(command, log, cwd):
     return end - begin
 
 
-def main():
+def main() -> None:
     words = argparse.ArgumentParser(description=__doc__, formatter_class=argparse.RawDescriptionHelpFormatter)
     words.add_argument("--reports", type=int, default=2000000)
     words.add_argument("--vessels", type=int, default=4000)
     words.add_argument("--rounds", type=int, default=5)
-    words.add_argument("--program", default=os.path.join(HERE, "..", "..", "crates", "colregs", "out", "colregs"))
+    words.add_argument("--program", default=os.path.join(TOP, "crates", "colregs", "out", "colregs"))
     words.add_argument("programs", nargs="*", metavar="PROGRAM")
     given = words.parse_args()
     with tempfile.TemporaryDirectory() as place:
         log = os.path.join(place, "log")
-        shutil.copy(SCENARIO, os.path.join(place, "scenario.toml"))
+        shutil.copy(HARBOUR, os.path.join(place, "scenario.toml"))
         write_log(log, given.reports, given.vessels)
         commands = ["wc -l", "%s points scenario.toml" % os.path.abspath(given.program)]
         commands += [program.replace("{log}", log) for program in given.programs]

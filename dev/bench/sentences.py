@@ -1,10 +1,18 @@
-"""AIS sentences as text, for benchmarks and examples: the package's one writer, with a message's values as arguments."""
+"""AIS sentences as text, for benchmarks and examples: the package's one writer, with a message's values as
+arguments."""
 import os
 import sys
+from typing import Any
 
-sys.path.insert(0, os.path.join(os.path.dirname(os.path.abspath(__file__)), "..", "..", "python"))
+TOP = os.path.dirname(os.path.dirname(os.path.dirname(os.path.abspath(__file__))))
+sys.path.insert(0, os.path.join(TOP, "python"))
 from colregs.io import sentences as writer  # noqa: E402
 from colregs.io.sentences import Fields  # noqa: E402
+
+HARBOUR = os.path.join(TOP, "examples", "harbour.toml")
+Vessel = dict[str, Any]             # a made-up vessel; each benchmark has keys of its own
+Entry = tuple[int, list[str]]       # a time, and the lines of a message that come then
+START = 1700000000          # the window of most benchmarks begins at this time
 
 
 def armour(fields: Fields) -> tuple[str, int]:
@@ -20,7 +28,8 @@ def total(body: str) -> str:
 
 def sentence(count: int, number: int, sequence: object, channel: str, payload: str, fill: int) -> str:
     """Returns one sentence, the part `number` of `count`."""
-    return writer.part(payload.encode(), fill, b"AIVDM", channel.encode(), count, number, str(sequence).encode()).decode()
+    return writer.part(payload.encode(), fill, b"AIVDM", channel.encode(), count, number,
+                       str(sequence).encode()).decode()
 
 
 def tagged(time: int, text: str) -> str:
@@ -28,7 +37,8 @@ def tagged(time: int, text: str) -> str:
     return writer.block(time).decode() + text
 
 
-def position_report(kind: int, mmsi: int, latitude: int, longitude: int, sog: int, cog: int, heading: int, second: int, status: int = 0) -> Fields:
+def position_report(kind: int, mmsi: int, latitude: int, longitude: int, sog: int, cog: int, heading: int, second: int,
+                    status: int = 0) -> Fields:
     """Returns the fields of message 1, 2, 3 or 18."""
     report = latitude, longitude, sog, cog, heading, second
     return writer.class_b(mmsi, report) if kind == 18 else [(kind, 6)] + writer.class_a(mmsi, report, status)[1:]

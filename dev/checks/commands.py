@@ -1,9 +1,11 @@
 """The commands that README.md and docs/ show run as shown.
 
-A command is in a fenced block of the kind `console`, in a line that begins with `$ `; a line after it that begins with `> ` continues it. What it writes follows, on
-standard output and standard error; a line `..` stands for any lines. The blocks of a page run in order, in one empty folder that has the program as ./colregs, and
-`examples`, `tools` and `python`. No other fenced block may show a command. A block is skipped, with a note, if it needs sqlite3, jq, parallel, GDAL or a C
-compiler, or the library for C, and the machine lacks it. `python3 -m dev.checks.commands PROGRAM` writes what the commands print that show nothing yet into the pages.
+A command is in a fenced block of the kind `console`, in a line that begins with `$ `; a line after it that begins with
+`> ` continues it. What it writes follows, on standard output and standard error; a line `..` stands for any lines. The
+blocks of a page run in order, in one empty folder that has the program as ./colregs, and `examples`, `tools` and
+`python`. No other fenced block may show a command. A block is skipped, with a note, if it needs sqlite3, jq, parallel,
+GDAL or a C compiler, or the library for C, and the machine lacks it. `python3 -m dev.checks.commands PROGRAM` writes
+what the commands print that show nothing yet into the pages.
 """
 from __future__ import annotations
 
@@ -43,7 +45,8 @@ class Command:
         """Returns what the command needs and the machine lacks, or None."""
         if "--libs colregs" in self.text and not os.path.isdir(LIBRARY):
             return "the library for C"
-        return next((word for word in TOOLS if re.search(rf"(?<![\w./-]){word}(?![\w.-])", self.text) and not shutil.which(word)), None)
+        return next((word for word in TOOLS
+                     if re.search(rf"(?<![\w./-]){word}(?![\w.-])", self.text) and not shutil.which(word)), None)
 
 
 def blocks(lines: list[str]) -> Iterator[list[Command]]:
@@ -62,16 +65,24 @@ def blocks(lines: list[str]) -> Iterator[list[Command]]:
         elif kind == "console" and block:
             block[-1].shown.append(line)
         elif kind is not None and (line.startswith("$ ") or kind in ("sh", "bash", "shell", "console")):
-            raise ValueError(f"line {k + 1}: a command in a block that is not of the kind console, or a line before any")
+            raise ValueError(
+                f"line {k + 1}: a command in a block that is not of the kind console, or a line before any")
 
 
 def run(block: list[Command], folder: str) -> list[list[str]]:
     """Returns the lines that each command of a block writes, as far as they ran."""
     script = "".join(f"{command.text}\n__status=$?; printf '\\n%s\\n' '{END}'; (exit $__status)\n" for command in block)
-    settings = {**os.environ, "COLREGS_PROGRAM": os.path.join(folder, "colregs"), "PKG_CONFIG_PATH": os.path.join(LIBRARY, "pkgconfig"), "LD_LIBRARY_PATH": LIBRARY}
-    done = subprocess.run(["bash", "-c", script], cwd=folder, stdin=subprocess.DEVNULL, stdout=subprocess.PIPE, stderr=subprocess.STDOUT, env=settings, timeout=SECONDS)
+    settings = {
+        **os.environ, "COLREGS_PROGRAM": os.path.join(folder, "colregs"),
+        "PKG_CONFIG_PATH": os.path.join(LIBRARY, "pkgconfig"), "LD_LIBRARY_PATH": LIBRARY
+    }
+    done = subprocess.run(["bash", "-c", script], cwd=folder, stdin=subprocess.DEVNULL, stdout=subprocess.PIPE,
+                          stderr=subprocess.STDOUT, env=settings, timeout=SECONDS)
     pieces = done.stdout.decode(errors="replace").split(f"\n{END}\n")
-    return [piece[:-1].split("\n") if piece.endswith("\n") else piece.split("\n") if piece else [] for piece in pieces[:len(block)]]
+    return [
+        piece[:-1].split("\n") if piece.endswith("\n") else piece.split("\n") if piece else []
+        for piece in pieces[:len(block)]
+    ]
 
 
 def prepare(program: str, folder: str) -> None:
@@ -120,7 +131,9 @@ def check(found: Findings) -> None:
         count += len(ran)
         for command, wrote in ran:
             if not command.writes(wrote):
-                found.fault("\n    ".join([f"{page}, line {command.line + 1}: `{command.text.partition(chr(10))[0]}` writes", *wrote[:LINES]]))
+                found.fault("\n    ".join([
+                    f"{page}, line {command.line + 1}: `{command.text.partition(chr(10))[0]}` writes", *wrote[:LINES]
+                ]))
     found.note(f"{count} commands ran")
 
 

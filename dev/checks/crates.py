@@ -1,7 +1,8 @@
 """Each crate that a line of crates.txt lists is named by some source of the line's crate.
 
-A crate that is listed and not named costs the gate time: `rt ci` computes the sum of a crate's sources, and of those below it, along each path down to them, so
-each listed crate multiplies the paths. What a crate has by the types of another need not be listed.
+A crate that is listed and not named costs the gate time: `rt ci` computes the sum of a crate's sources, and of those
+below it, along each path down to them, so each listed crate multiplies the paths. What a crate has by the types of
+another need not be listed.
 """
 from __future__ import annotations
 

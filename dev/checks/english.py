@@ -1,7 +1,9 @@
-"""Plain English: words that have a plainer one are reported in pages, comments and messages; files that dev/english_allowed lists as clean may have none.
+"""Plain English: words that have a plainer one are reported in pages, comments and messages; files that
+dev/english_allowed lists as clean may have none.
 
-dev/english_allowed has lines `clean PATTERN`, for files in which a finding fails the check, and lines `allow PATH: WORDS`, for words that stay. Every other file is only counted.
-`python3 -m dev.checks.english [PATH ..]` prints each finding with what to write instead.
+dev/english_allowed has lines `clean PATTERN`, for files in which a finding fails the check, and lines `allow PATH:
+WORDS`, for words that stay. A pattern that ends with a slash covers all files below that folder. Every other file is
+only counted. `python3 -m dev.checks.english [PATH ..]` prints each finding with what to write instead.
 """
 from __future__ import annotations
 
@@ -32,7 +34,8 @@ WORDS = [(re.compile(pattern, re.I), better) for pattern, better in (
     (r"\bso (?:many|much) (?:\w+ )?(?:as|of the)\b", "N, the number of"),
     (r"\b(?:is|are|was|be) (?:not )?to be had\b|\bis had\b", "is (not) available"),
     (r"\bhas no place here\b", "out of scope:"),
-    (r"\b(?:a|an) (?:row|line|file|word|test|table|job) (?:a|an|each) (?:mode|line|job|row|crate|vessel)\b", "one ... per ..."),
+    (r"\b(?:a|an) (?:row|line|file|word|test|table|job) (?:a|an|each) (?:mode|line|job|row|crate|vessel)\b",
+     "one ... per ..."),
     (r"\bby the clock\b|\bof a processor\b", "elapsed, CPU"),
     (r"\breckon(?:s|ed)?\b", "compute, estimate"),
     (r"\b(?:nothing )?is said of\b|\bit is said\b|\bone says\b", "name who says what"),
@@ -70,7 +73,8 @@ def of_page(text: str) -> Iterator[tuple[int, str]]:
 
 
 def of_python(text: str) -> Iterator[tuple[int, str]]:
-    """Yields the comments and the texts of a Python file. A file that Python cannot read yields nothing: other checks report it."""
+    """Yields the comments and the texts of a Python file. A file that Python cannot read yields nothing: other checks
+    report it."""
     try:
         for token in tokenize.generate_tokens(io.StringIO(text).readline):
             if token.type in (tokenize.COMMENT, tokenize.STRING):
@@ -114,14 +118,20 @@ class Allowed:
 
     def __init__(self, text: str):
         lines = [line.split(None, 1) for line in text.splitlines() if line.strip() and not line.startswith("#")]
-        self.unknown = [" ".join(line) for line in lines if len(line) < 2 or line[0] not in ("clean", "allow") or line[0] == "allow" and ": " not in line[1]]
+        self.unknown = [
+            " ".join(line)
+            for line in lines
+            if len(line) < 2 or line[0] not in ("clean", "allow") or line[0] == "allow" and ": " not in line[1]
+        ]
         self._clean = [line[1].strip() for line in lines if line[0] == "clean" and len(line) == 2]
         self._words = {tuple(line[1].strip().split(": ", 1)) for line in lines if line[0] == "allow" and len(line) == 2}
         self.unused = set(self._words)
 
     def is_clean(self, path: str) -> bool:
         """Returns whether a file may have no finding."""
-        return any(pathlib.PurePosixPath(path).match(pattern) for pattern in self._clean)
+        return any(
+            path.startswith(pattern) if pattern.endswith("/") else pathlib.PurePosixPath(path).match(pattern)
+            for pattern in self._clean)
 
     def allows(self, finding: Finding) -> bool:
         """Returns whether a finding may stay, and notes that it is there."""
@@ -132,7 +142,8 @@ class Allowed:
 
 def files() -> Iterable[str]:
     """Returns the files of the repository that git knows or would take, but for data."""
-    listed = subprocess.run(["git", "-C", TOP, "ls-files", "-z", "--cached", "--others", "--exclude-standard"], stdout=subprocess.PIPE, check=True, text=True).stdout
+    listed = subprocess.run(["git", "-C", TOP, "ls-files", "-z", "--cached", "--others", "--exclude-standard"],
+                            stdout=subprocess.PIPE, check=True, text=True).stdout
     return sorted(path for path in listed.split("\0") if path and not path.startswith(NOT_PROSE))
 
 
@@ -171,7 +182,8 @@ def check(found: Findings) -> None:
     if faults[FIRST:]:
         found.fault(f"and {len(faults) - FIRST} more")
     if counts:
-        found.note("in files that are not yet listed as clean: " + ", ".join(f"{name} {count}" for name, count in sorted(counts.items())))
+        found.note("in files that are not yet listed as clean: "
+                   + ", ".join(f"{name} {count}" for name, count in sorted(counts.items())))
 
 
 if __name__ == "__main__":

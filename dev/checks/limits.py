@@ -1,4 +1,5 @@
-"""The refusals that a log meets before its end: the earliest place is reported, and exactly what the lines before it decide is written.
+"""The refusals that a log meets before its end: the earliest place is reported, and exactly what the lines before it
+decide is written.
 
 The logs are made up, of 4097 vessels, and of 65 vessels that are so near that 4160 pairs are in contact.
 """
@@ -51,7 +52,8 @@ def check(found: Findings) -> None:
         rows = "".join(row + "\n" for row in runs.run("points", held)[1].splitlines() if row.startswith("point,"))
         found.same("points of 4096 vessels", rows.count("\n"), 4096)
         compare("a 4097th vessel", "points", held + one_more + report(300000002, 0, 0), VESSELS, rows)
-        compare("a 4097th vessel in the last line, which has no line feed", "points", (held + one_more)[:-1], VESSELS, rows)
+        compare("a 4097th vessel in the last line, which has no line feed", "points", (held + one_more)[:-1], VESSELS,
+                rows)
         near = b"".join(report(200000001 + k, second, k) for second in (0, 300) for k in range(65))
         far, early = (b"".join(report(400000001 + k, second, 1000) for k in range(4097)) for second in (700, 300))
         # The first tick is settled once the clock is past it by the gap of 600 s and the slack of 60 s.

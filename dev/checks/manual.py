@@ -1,8 +1,9 @@
 """The pages agree with what the program reports of itself: modes, options, statuses and version.
 
-docs/colregs.1 has each mode with its line, each option with its text, each status with its meaning, the version and the example of `--help`, and no others. The
-line of usage, docs/REPORT.md, README.md, the completion for bash, and `./colregs --help` before anything is built have the same modes in the same order;
-docs/REPORT.md the same options and statuses; and the completion the same options.
+docs/colregs.1 has each mode with its line, each option with its text, each status with its meaning, the version and the
+example of `--help`, and no others. The line of usage, docs/REPORT.md, README.md, the completion for bash, and
+`./colregs --help` before anything is built have the same modes in the same order; docs/REPORT.md the same options and
+statuses; and the completion the same options.
 """
 from __future__ import annotations
 
@@ -60,7 +61,8 @@ class Help:
 
 
 def compare(found: Findings, kind: str, wanted: dict[str, str], there: dict[str, str]) -> None:
-    """Adds a fault for each entry that only one of the two has, or whose text on the page does not begin with that of `--help`."""
+    """Adds a fault for each entry that only one of the two has, or whose text on the page does not begin with that of
+    `--help`."""
     for tag in sorted(set(wanted) ^ set(there)):
         found.fault(f"docs/colregs.1: {kind} {tag} is {'missing' if tag in wanted else 'not in --help'}")
     for tag in sorted(set(wanted) & set(there)):
@@ -74,7 +76,8 @@ def help_unbuilt() -> str:
         for name in ("docs", "crates.txt"):
             os.symlink(path_of(name), os.path.join(place, name))
         shutil.copy(path_of("colregs"), place)
-        return subprocess.run([os.path.join(place, "colregs"), "--help"], stdout=subprocess.PIPE, check=True, text=True).stdout
+        return subprocess.run([os.path.join(place, "colregs"), "--help"], stdout=subprocess.PIPE, check=True,
+                              text=True).stdout
 
 
 def first(pattern: str, text: str) -> str:
@@ -91,17 +94,21 @@ def lists(program: str, listed: Help) -> Iterator[tuple[str, list[str], list[str
     yield "the line of usage", first(r"usage: ([\w|]+) SCENARIO\n", usage).split("|"), modes
     yield "./colregs --help before it is built", re.findall(r"^  (\w+) +[A-Z]", help_unbuilt(), re.M), modes
     yield "tools/completion/colregs.bash, modes", first(r'modes="([^"]*)"', completion).split(), modes
-    yield "tools/completion/colregs.bash, options", first(r'options="([^"]*)"', completion).split(), re.findall(r"--[a-z]+", " ".join(options))
+    yield "tools/completion/colregs.bash, options", first(r'options="([^"]*)"', completion).split(), re.findall(
+        r"--[a-z]+", " ".join(options))
     yield "README.md, modes", re.findall(r"^\| `(\w+)` \|", read("README.md"), re.M), modes
     yield "docs/REPORT.md, modes", re.findall(r"^    colregs (\w+) SCENARIO", report, re.M), modes
-    yield "docs/REPORT.md, options", re.findall(r"^\| `(--\w+)` \|", report, re.M), [it.split()[0] for it in options if "help" not in it and "version" not in it]
+    yield "docs/REPORT.md, options", re.findall(r"^\| `(--\w+)` \|", report, re.M), [
+        it.split()[0] for it in options if "help" not in it and "version" not in it
+    ]
     yield "docs/REPORT.md, the line of usage", first(r"`usage: (\S+) SCENARIO`", report).split("\\|"), modes
     yield "docs/REPORT.md, statuses", re.findall(r"^\| (\d+) \| (?:`\w+` )?\|", report, re.M), list(listed.statuses)
 
 
 def check(found: Findings) -> None:
     """Adds a fault for each difference."""
-    shown, version = (subprocess.run([found.program, word], stdout=subprocess.PIPE, check=True, text=True).stdout for word in ("--help", "--version"))
+    shown, version = (subprocess.run([found.program, word], stdout=subprocess.PIPE, check=True, text=True).stdout
+                      for word in ("--help", "--version"))
     listed, page = Help.of(shown), read("docs", "colregs.1")
     if not (listed.modes and listed.options and len(listed.statuses) > 1):
         found.fault("--help shows no modes, options or statuses")

@@ -1,8 +1,9 @@
 """The pages: their links, their sizes, the crates that docs/MAP.md names, and the form of the decisions.
 
-Each link within the repository leads to a file, and to a heading of it if it names one. README.md has at most 6 KB. The size of all pages in docs/ is reported,
-with its aim of 160 KB. Each crate of tests in crates.txt has one row in docs/MAP.md, whose drawing names each crate of the program and of the library. The decisions of
-docs/DECISIONS.md have their numbers in order, and each says what it rules out.
+Each link within the repository leads to a file, and to a heading of it if it names one. README.md has at most 6 KB. The
+size of all pages in docs/ is reported, with its aim of 160 KB. Each crate of tests in crates.txt has one row in
+docs/MAP.md, whose drawing names each crate of the program and of the library. The decisions of docs/DECISIONS.md have
+their numbers in order, and each says what it rules out.
 """
 from __future__ import annotations
 
@@ -23,7 +24,10 @@ DOCS_BYTES = 160 * 1000      # an aim: it is reported, and fails nothing
 def anchors(text: str) -> set[str]:
     """Returns the names by which the headings of a page can be linked to."""
     heads = re.findall(r"^#+ +(.*)$", without_blocks(text), re.M)
-    return {re.sub(r"[^\w\- ]", "", re.sub(r"\[([^\]]*)\]\([^)]*\)", r"\1", head).lower()).replace(" ", "-") for head in heads}
+    return {
+        re.sub(r"[^\w\- ]", "", re.sub(r"\[([^\]]*)\]\([^)]*\)", r"\1", head).lower()).replace(" ", "-")
+        for head in heads
+    }
 
 
 def broken_links(page: str, text: str) -> Iterator[str]:

@@ -42,13 +42,15 @@ class Runs:
 
     def run(self, *words: str, streams: str = "<log") -> Ended:
         """Runs the program with these arguments, and with streams as a shell redirects them."""
-        done = subprocess.run(["sh", "-c", f'exec "$0" "$@" {streams}', self._found.program, *words], cwd=self._folder, capture_output=True, text=True, env={**os.environ})
+        done = subprocess.run(["sh", "-c", f'exec "$0" "$@" {streams}', self._found.program, *words], cwd=self._folder,
+                              capture_output=True, text=True, env={**os.environ})
         return Ended(done.returncode, done.stderr.rstrip("\n"), done.stdout)
 
     def expect(self, status: int, line: str, *words: str, streams: str = "<log") -> str:
         """Adds a fault if a run ends with another status or line, and returns what it wrote."""
         ended = self.run(*words, streams=streams)
-        self._found.same(f"`{' '.join(words)[:60]} {streams}`, status and standard error", (ended.status, ended.line), (status, line))
+        self._found.same(f"`{' '.join(words)[:60]} {streams}`, status and standard error", (ended.status, ended.line),
+                         (status, line))
         return ended.output
 
     def shows(self, text: str, output: str) -> None:
@@ -62,7 +64,9 @@ def arguments(runs: Runs) -> None:
     long = runs.write(f"{7:0200d}", runs.scenario)
     runs.expect(0, "", "points", long)
     runs.expect(4, "scenario: not read", "points", "0" + long)
-    for words in (["points"], ["points", "scenario.toml", "more"], ["audit", "scenario.toml", "--start=x"], ["audit", "scenario.toml", "--ticks", "0"]):
+    for words in (["points"], ["points", "scenario.toml",
+                               "more"], ["audit", "scenario.toml",
+                                         "--start=x"], ["audit", "scenario.toml", "--ticks", "0"]):
         runs.expect(2, USAGE, *words)
     output = runs.expect(0, "", "--help", streams=NOTHING)
     runs.shows("Usage: colregs [OPTIONS] <MODE> <SCENARIO>", output)
@@ -81,7 +85,10 @@ def streams(runs: Runs, found: Findings) -> None:
     written = runs.expect(7, "limit: log 100", "points", short)
     # The whole lines before the limit are judged, and their rows written.
     runs.write("front", read("examples", "harbour.log")[:100].rpartition("\n")[0] + "\n")
-    rows = [row for row in runs.run("points", "scenario.toml", streams="<front").output.splitlines() if row.startswith("point,")]
+    rows = [
+        row for row in runs.run("points", "scenario.toml", streams="<front").output.splitlines()
+        if row.startswith("point,")
+    ]
     found.same("rows before the limit of a log", written.splitlines(), rows)
 
 
@@ -101,11 +108,14 @@ def guesses(runs: Runs, found: Findings) -> None:
     for name in sorted(os.listdir(path_of("examples"))):
         if name.endswith(".log"):
             with open(path_of("examples", name), "rb") as log:
-                guess = subprocess.run([sys.executable, path_of("tools", "colregs-scenario"), "--program", found.program], stdin=log, capture_output=True, text=True)
+                guess = subprocess.run(
+                    [sys.executable, path_of("tools", "colregs-scenario"), "--program", found.program], stdin=log,
+                    capture_output=True, text=True)
             if guess.returncode:
                 found.fault(f"no scenario is guessed of {name}: {guess.stderr.strip()}")
             else:
-                runs.expect(0, "", "audit", runs.write("guessed.toml", guess.stdout), streams=f"<'{path_of('examples', name)}'")
+                runs.expect(0, "", "audit", runs.write("guessed.toml", guess.stdout),
+                            streams=f"<'{path_of('examples', name)}'")
 
 
 def check(found: Findings) -> None:

@@ -1,8 +1,9 @@
 """docs/READING.md names exactly the definitions that the clauses of `run` reach.
 
-From the names in the contract of `colregs_program::run` it follows each definition to those that it cites, through the `use` lines of `specs/`. READING.md must name
-every module that holds one of them, before the heading "Beside `run`", and no other, each with its number of lines. `python3 -m dev.checks.reading` prints the modules
-that are reached, with what is reached of each.
+From the names in the contract of `colregs_program::run` it follows each definition to those that it cites, through the
+`use` lines of `specs/`. READING.md must name every module that holds one of them, before the heading "Beside `run`",
+and no other, each with its number of lines. `python3 -m dev.checks.reading` prints the modules that are reached, with
+what is reached of each.
 """
 from __future__ import annotations
 
@@ -17,10 +18,13 @@ from dev.repository import path_of, read
 NEEDS_PROGRAM = False
 BESIDE = "**Beside `run`**"
 
-_USE = re.compile(r"^\s*(?:pub\s+)?(?:ghost\s+)?use\s+Rattle\.(\w+)\.specs\.([\w.]+?)(?:\.\{([^}]*)\}|\s+as\s+(\w+))?;?\s*$")
+_USE = re.compile(
+    r"^\s*(?:pub\s+)?(?:ghost\s+)?use\s+Rattle\.(\w+)\.specs\.([\w.]+?)(?:\.\{([^}]*)\}|\s+as\s+(\w+))?;?\s*$")
 _PUBLISHED = re.compile(r"^pub use Rattle\.(\w+)\.specs\.([\w.]+)\s*$")
-# A definition begins with a name before its arguments or its type, at the margin or in the margin of a module with arguments.
-_BEGINS = re.compile(r"^(\s*)(?:abbrev |unfoldable |opaque )?(?:pub )?(?:abbrev |unfoldable )?(?:record |data )?(\S+)\s*(?:\(|\{|:)")
+# A definition begins with a name before its arguments or its type, at the margin or in the margin of a module with
+# arguments.
+_BEGINS = re.compile(
+    r"^(\s*)(?:abbrev |unfoldable |opaque )?(?:pub )?(?:abbrev |unfoldable )?(?:record |data )?(\S+)\s*(?:\(|\{|:)")
 _WORD = re.compile(r"[^\s(){}\[\],;.\\]+")
 _KEYWORDS = ("use", "pub", "where", "let")
 
@@ -45,7 +49,8 @@ class Unknown(Exception):
 
 
 def home(place: Place) -> Place:
-    """Returns the module that holds the definitions of another, which may only publish them. Raises Unknown if there is none."""
+    """Returns the module that holds the definitions of another, which may only publish them. Raises Unknown if there is
+    none."""
     if os.path.exists(path_of("crates", place.path())):
         return place
     library = path_of("crates", place.crate, "specs", "Lib.antt")
@@ -119,7 +124,8 @@ class Module:
 
 
 def reached() -> dict[Place, set[str]]:
-    """Returns each module that `run` reaches, with the names that are reached of it. Raises Unknown if a module has no file."""
+    """Returns each module that `run` reaches, with the names that are reached of it. Raises Unknown if a module has no
+    file."""
     modules: dict[Place, Module] = {}
     found: dict[Place, set[str]] = {}
     waiting = list(Module(read("crates", "colregs_program", "src", "program.rt")).imported())
@@ -136,7 +142,8 @@ def reached() -> dict[Place, set[str]]:
 
 
 def listed(text: str) -> Iterator[tuple[Place, int]]:
-    """Yields the modules that a text names, each with the number of lines that it states. Raises Unknown if there is no such module."""
+    """Yields the modules that a text names, each with the number of lines that it states. Raises Unknown if there is no
+    such module."""
     crate = ""
     for name, lines in re.findall(r"`([\w/]+)`\s+\((\d+)\)", text):
         if "/specs/" in name:

@@ -1,10 +1,15 @@
-"""docs/RULES.md: each formula is that of the definitions and behaves as its rule, and the numbers, units and drawings are right.
+"""docs/RULES.md: each formula is that of the definitions and behaves as its rule, and the numbers, units and drawings
+are right.
 
-- Each formula of the page is the tree of the definitions (`rule_set/specs/RuleTrees`), read with the numbers of the scenario that the page names for it; each rule, with
+- Each formula of the page is the tree of the definitions (`rule_set/specs/RuleTrees`), read with the numbers of the
+scenario that the page names for it; each rule, with
   ranks and without, has its formula on the page.
-- Audited by the program beside its rule, as a formula of the scenario, each has the rows and the total of its rule: over all shipped examples with their own numbers of
-  detection and action, and with some of these altered; if ranks count, also with vessels that fish. Each has some row that is broken or open there.
-- The table of numbers has each number of `detect`, `act` and `rules`, once, and states rightly what the shipped scenarios have.
+- Audited by the program beside its rule, as a formula of the scenario, each has the rows and the total of its rule:
+over all shipped examples with their own numbers of
+  detection and action, and with some of these altered; if ranks count, also with vessels that fish. Each has some row
+  that is broken or open there.
+- The table of numbers has each number of `detect`, `act` and `rules`, once, and states rightly what the shipped
+scenarios have.
 - The drawings are what dev/draw_rules.py makes.
 """
 from __future__ import annotations
@@ -28,7 +33,9 @@ NEEDS_PROGRAM = True
 # For each sort of formula the scenario that has its numbers, and what the scenario says of ranks.
 SORTS = {"": ("crossing", 0), "ranks": ("crossing", 1), "version 2": ("harbour_of_twenty", 0)}
 # Numbers of detection and action with which more rules are broken than with those of the examples.
-ALTERED: list[dict[str, int]] = [{}, {"clear": 4000}, {"apparent_turn": 450}, {"apparent_turn": 450, "risk": 2000, "clear": 4000}, {"steady_turn": 0, "horizon": 1200}]
+ALTERED: list[dict[str, int]] = [{}, {"clear": 4000}, {"apparent_turn": 450},
+                                 {"apparent_turn": 450, "risk": 2000,
+                                  "clear": 4000}, {"steady_turn": 0, "horizon": 1200}]
 FORMULAS = 5      # the most formulas of a scenario
 SIX_BIT = "0123456789:;<=>?@ABCDEFGHIJKLMNOPQRSTUVW`abcdefghijklmnopqrstuvw"
 
@@ -48,16 +55,24 @@ def scenarios() -> list[str]:
 # ---- trees
 
 def trees(sort: str) -> tuple[int, dict[str, Tree]]:
-    """Returns the tick of a sort's scenario, and the tree of each rule by its name, from the definitions and the numbers of that scenario."""
+    """Returns the tick of a sort's scenario, and the tree of each rule by its name, from the definitions and the
+    numbers of that scenario."""
     name, ranks = SORTS[sort]
     values = scenario(name)
     numbers, tick = dict(values["rules"]), values["window"]["tick"]
     kinds = ("safe_head_on", "safe_overtaking", "safe_crossing", "safe_other")
-    numbers["safe"] = ("One", numbers["safe"]) if values["version"] == 1 else ("PerKind", *(numbers[kind] for kind in kinds))
+    numbers["safe"] = (
+        ("One", numbers["safe"]) if values["version"] == 1 else ("PerKind", *(numbers[kind] for kind in kinds))
+    )
     given = {"tick": tick, "numbers": numbers, "ranks": ("Counted" if ranks else "Ignored",)}
     definitions = Definitions(read("crates", "rule_set", "specs", "RuleTrees.antt"))
-    listed = re.findall(r'rule_named \(codes "(\w+)"\) \(tree\.(\w+) ([\w ]+)\)', read("crates", "rule_set", "specs", "NamedTrees.antt"))
-    return tick, {rule: definitions.call(body, [given[word] for word in words.split()]) for rule, body, words in listed if ranks or rule != "r18"}
+    listed = re.findall(r'rule_named \(codes "(\w+)"\) \(tree\.(\w+) ([\w ]+)\)',
+                        read("crates", "rule_set", "specs", "NamedTrees.antt"))
+    return tick, {
+        rule: definitions.call(body, [given[word] for word in words.split()])
+        for rule, body, words in listed
+        if ranks or rule != "r18"
+    }
 
 
 def shown(page: str, found: Findings) -> Formulas:
@@ -103,7 +118,8 @@ def written(values: dict[str, int]) -> str:
 
 
 def altered(name: str, sort: str, numbers: dict[str, int], texts: list[tuple[str, str]]) -> str:
-    """Returns the scenario of an example with the rules' numbers of the sort, some other numbers altered, and formulas at its end."""
+    """Returns the scenario of an example with the rules' numbers of the sort, some other numbers altered, and formulas
+    at its end."""
     source, ranks = SORTS[sort]
     wanted, values = scenario(source), scenario(name)
     lines = [f"version = {wanted['version']}\n"]
@@ -116,21 +132,24 @@ def altered(name: str, sort: str, numbers: dict[str, int], texts: list[tuple[str
 
 def rows(report: str, rule: str) -> tuple[list[tuple[str, str]], list[str]]:
     """Returns the verdicts of a rule or of a formula, without its name, and its totals."""
-    return re.findall(rf"^verdict,(\d+,\d+),{rule},(\w+,\d+,\d+)$", report, re.M), re.findall(rf"^total,{rule},(.*)$", report, re.M)
+    return re.findall(rf"^verdict,(\d+,\d+),{rule},(\w+,\d+,\d+)$", report,
+                      re.M), re.findall(rf"^total,{rule},(.*)$", report, re.M)
 
 
 def fishing(line: str) -> str:
     """Returns a line of a log in which a vessel with an odd MMSI fishes, by the status of her position report."""
     found = re.fullmatch(r"(.*)!(AIVDM,1,1,,[AB],[123].{5})(.)(.*)\*\w\w(\n?)", line)
     value = SIX_BIT.find(found[3]) if found else -1
-    if not found or value < 0 or not value & 16:      # the six bits are the last two of the MMSI and the four of the status
+    # the six bits are the last two of the MMSI and the four of the status
+    if not found or value < 0 or not value & 16:
         return line
     body = found[2] + SIX_BIT[value & 48 | 7] + found[4]
     return f"{found[1]}!{body}*{total(body.encode()):02X}{found[5]}"
 
 
 def logs(ranks: int) -> Iterator[tuple[str, str]]:
-    """Yields the shipped logs, and if ranks count also with vessels that fish: the name of the scenario of each, and the log."""
+    """Yields the shipped logs, and if ranks count also with vessels that fish: the name of the scenario of each, and
+    the log."""
     for name in sorted(name[:-4] for name in os.listdir(path_of("examples")) if name.endswith(".log")):
         lines = read("examples", name + ".log").splitlines(keepends=True)
         yield name, "".join(lines)
@@ -150,7 +169,8 @@ def audited(program: str, text: str, log: str) -> tuple[str, str]:
 def compare_rows(formulas: Formulas, found: Findings) -> None:
     """Audits each formula beside its rule, and compares their rows. Each has to have some row."""
     seen = {(sort, rule): 0 for sort in formulas for rule in formulas[sort]}
-    parts = [(sort, list(texts.items())[k:k + FORMULAS]) for sort, texts in formulas.items() if sort in SORTS for k in range(0, len(texts), FORMULAS)]
+    parts = [(sort, list(texts.items())[k:k + FORMULAS]) for sort, texts in formulas.items() if sort in SORTS
+             for k in range(0, len(texts), FORMULAS)]
     for (sort, texts), numbers in itertools.product(parts, ALTERED):
         for name, log in logs(SORTS[sort][1]):
             report, fault = audited(found.program, altered(name, sort, numbers, texts), log)
@@ -191,21 +211,24 @@ def values_shipped() -> dict[str, list[int]]:
 
 
 def compare_numbers(page: str, found: Findings) -> None:
-    """Compares the table of numbers with docs/SCENARIO.md and the shipped scenarios: each key once, its unit, the least and the greatest number."""
+    """Compares the table of numbers with docs/SCENARIO.md and the shipped scenarios: each key once, its unit, the least
+    and the greatest number."""
     known, values = units(), values_shipped()
     for key, unit in re.findall(r"^\| `(\w+\.\w+)` \| .*? \| (.*?) ?\|", page, re.M):
         found.same(f"the unit of `{key}`", unit, known.get(key))
     listed = re.findall(r"^\| `(\w+\.\w+)` \| (.*?) \|", page, re.M)
     for key, stated in listed:
         least, greatest = min(values.get(key, [-1])), max(values.get(key, [-1]))
-        found.same(f"`{key}` in the shipped scenarios", stated, f"{least}" if least == greatest else f"{least} to {greatest}")
+        found.same(f"`{key}` in the shipped scenarios", stated,
+                   f"{least}" if least == greatest else f"{least} to {greatest}")
     found.same("the keys of the table of numbers", sorted(key for key, _ in listed), sorted(values))
 
 
 def compare_drawings(page: str, found: Findings) -> None:
     """Compares the drawings in docs/ with those that are made."""
     made = draw_rules.drawings()
-    found.same("the drawings that the page shows", sorted(set(re.findall(r"\]\((rules_\w+\.svg)\)", page))), sorted(made))
+    found.same("the drawings that the page shows", sorted(set(re.findall(r"\]\((rules_\w+\.svg)\)", page))),
+               sorted(made))
     for name, text in made.items():
         if read("docs", name) != text:
             found.fault(f"docs/{name} is not what dev/draw_rules.py makes")

@@ -7,12 +7,11 @@ import sys
 import unittest
 from unittest import mock
 
-sys.path.insert(1, os.path.join(os.path.dirname(os.path.dirname(os.path.dirname(os.path.abspath(__file__)))), "python"))
-from colregs.io.sentences import class_a, sentence  # noqa: E402
-from dev.checking import Findings, module, names, summary  # noqa: E402
-from dev.checks import commands, crates, english, gate, manual, pages, program, reading, rules  # noqa: E402
-from dev.formulas import Definitions, Text  # noqa: E402
-from dev.tests.given import TOP, InFolder  # noqa: E402
+from colregs.io.sentences import class_a, sentence
+from dev.checking import Findings, module, names, summary
+from dev.checks import commands, contracts, crates, english, gate, manual, pages, program, reading, repeats, rules
+from dev.formulas import Definitions, Text
+from given import TOP, InFolder
 
 HELP = """Audits a log
 
@@ -65,14 +64,17 @@ class Manual(unittest.TestCase):
         self.assertEqual(found.faults, [])
         manual.compare(found, "status", listed.statuses, manual.entries(manual.section(MANUAL, "EXIT STATUS")))
         self.assertEqual(found.faults, ["docs/colregs.1: status 2 is missing", "docs/colregs.1: status 21 is missing"])
-        manual.compare(found, "mode", listed.modes, {"points": "other words", "audit": "how rules were kept", "drill": "x"})
+        manual.compare(found, "mode", listed.modes,
+                       {"points": "other words", "audit": "how rules were kept", "drill": "x"})
         self.assertIn("docs/colregs.1: mode drill is not in --help", found.faults)
-        self.assertIn("docs/colregs.1: mode points is 'other words', and --help says 'the points of a log'", found.faults)
+        self.assertIn("docs/colregs.1: mode points is 'other words', and --help says 'the points of a log'",
+                      found.faults)
 
 
 class Pages(unittest.TestCase):
     def test_links_lead_to_files_and_headings(self) -> None:
-        good = "# Head `x` of it\n[a](README.md) [b](#head-x-of-it) [c](https://a.example) `[d](nowhere)`\n```\n[e](nowhere)\n```\n"
+        good = ("# Head `x` of it\n[a](README.md) [b](#head-x-of-it) [c](https://a.example) `[d](nowhere)`\n"
+                "```\n[e](nowhere)\n```\n")
         self.assertEqual(list(pages.broken_links("PAGE.md", good.replace("#head-x-of-it", "README.md#install"))), [])
         self.assertEqual(pages.anchors(good), {"head-x-of-it"})
         self.assertEqual(list(pages.broken_links("docs/PAGE.md", "[a](../nowhere.md) [b](../README.md#nowhere)")),
@@ -82,16 +84,32 @@ class Pages(unittest.TestCase):
         listed: dict[str, list[str]] = {"colregs": ["low"], "colregs_c": ["low"], "low": [], "low_rows": ["low"]}
         drawing = "```\ncolregs  colregs_c\nlow\n```\n"
         self.assertEqual(list(pages.crates_in_map(drawing + "| `low_rows` | x |\n", listed)), [])
-        self.assertEqual(list(pages.crates_in_map(drawing.replace("\nlow", ""), listed)), ["docs/MAP.md: low_rows has 0 rows", "docs/MAP.md: the drawing lacks low"])
+        self.assertEqual(list(pages.crates_in_map(drawing.replace("\nlow", ""), listed)),
+                         ["docs/MAP.md: low_rows has 0 rows", "docs/MAP.md: the drawing lacks low"])
 
     def test_decisions_are_in_order_and_rule_something_out(self) -> None:
-        self.assertEqual(list(pages.decisions("## A\n1. **So.** Why.\n   *Not:* that.\n2. **So.** Why.\n   *Not:* that.\n")), [])
-        self.assertEqual(list(pages.decisions("1. **So.** Why.\n3. **So.** Why.\n   *Not:* that.\n")),
-                         ["docs/DECISIONS.md: 1 does not say what it rules out", "docs/DECISIONS.md: 3 is at the place of 2"])
+        self.assertEqual(
+            list(pages.decisions("## A\n1. **So.** Why.\n   *Not:* that.\n2. **So.** Why.\n   *Not:* that.\n")), [])
+        self.assertEqual(
+            list(pages.decisions("1. **So.** Why.\n3. **So.** Why.\n   *Not:* that.\n")),
+            ["docs/DECISIONS.md: 1 does not say what it rules out", "docs/DECISIONS.md: 3 is at the place of 2"])
 
 
 class Commands(InFolder):
-    PAGE = "```console\n$ echo a; echo b >&2\na\nb\n$ cat <<END\n> x\n> END\n..\n```\ntext\n```console\n$ exit 3\n```\n".split("\n")
+    PAGE = """```console
+$ echo a; echo b >&2
+a
+b
+$ cat <<END
+> x
+> END
+..
+```
+text
+```console
+$ exit 3
+```
+""".split("\n")
 
     def test_blocks_have_their_commands_and_what_they_write(self) -> None:
         (first, second), (third,) = commands.blocks(self.PAGE)
@@ -120,7 +138,8 @@ class Crates(unittest.TestCase):
     def test_a_crate_is_named_by_a_path_or_as_a_module_of_definitions(self) -> None:
         for code in ("use motion::Point;", "let p = motion::Point::new();", "use Rattle.motion.specs.Points"):
             self.assertTrue(crates.is_named("motion", code), code)
-        for code in ("use emotion::Point;", "other::motion::Point", "let motion = 1;", "use Rattle.motion_laws.specs.Points"):
+        for code in ("use emotion::Point;", "other::motion::Point", "let motion = 1;",
+                     "use Rattle.motion_laws.specs.Points"):
             self.assertFalse(crates.is_named("motion", code), code)
 
 
@@ -130,16 +149,24 @@ class English(unittest.TestCase):
         return [(it.line, it.words) for it in english.findings(path, text)]
 
     def test_pages_without_code_comments_and_texts_are_read(self) -> None:
-        self.assertEqual(self.found("A.md", "It is told.\n```\nIt is told.\n```\n`is told`\nanew\n"), [(1, "is told"), (6, "anew")])
-        self.assertEqual(self.found("a.rt", 'let anew = 1; // begins anew\nlet x = "is passed over";\n'), [(1, "anew"), (2, "passed over")])
+        self.assertEqual(
+            self.found("A.md", "It is told.\n```\nIt is told.\n```\n`is told`\nanew\n"), [(1, "is told"), (6, "anew")]
+        )
+        self.assertEqual(self.found("a.rt", 'let anew = 1; // begins anew\nlet x = "is passed over";\n'),
+                         [(1, "anew"), (2, "passed over")])
         self.assertEqual(self.found("a.antt", "anew = 1 -- in place of it\n"), [(1, "in place of")])
-        self.assertEqual(self.found("a.py", 'anew = 1\n"""One.\n\nIt tells.\n"""\n# mends\n'), [(4, "tells"), (6, "mends")])
+        self.assertEqual(
+            self.found("a.py", 'anew = 1\n"""One.\n\nIt tells.\n"""\n# mends\n'), [(4, "tells"), (6, "mends")]
+        )
         self.assertEqual(self.found("data.csv", "anew\n"), [])
 
     def test_clean_files_and_words_that_stay(self) -> None:
-        allowed = english.Allowed("# a comment\nclean docs/*.md\nallow docs/A.md: once more\nallow docs/B.md: anew\nfree docs\n")
+        allowed = english.Allowed("# a comment\nclean docs/*.md\nclean crates/motion/\nallow docs/A.md: once "
+                                  "more\nallow docs/B.md: anew\nfree docs\n")
         self.assertTrue(allowed.is_clean("docs/A.md"))
         self.assertFalse(allowed.is_clean("README.md"))
+        self.assertTrue(allowed.is_clean("crates/motion/proofs/legs/Legs/push/Answers.antt"))
+        self.assertFalse(allowed.is_clean("crates/motion_rows/src/lib.rt"))
         self.assertTrue(allowed.allows(english.Finding("docs/A.md", 1, "once more", "again")))
         self.assertFalse(allowed.allows(english.Finding("docs/A.md", 1, "anew", "again")))
         self.assertEqual((allowed.unused, allowed.unknown), ({("docs/B.md", "anew")}, ["free docs"]))
@@ -151,11 +178,14 @@ class Gate(unittest.TestCase):
         return [{"cpu_minutes": it, "commit": it, "why_longer": ""} for it in minutes]
 
     def test_a_run_that_took_over_five_minutes_more_is_found(self) -> None:
-        self.assertEqual([(row["commit"], more) for row, more in gate.longer(self.runs("150", "155", "", "160.5", "120", "124"))], [("160.5", 5.5)])
+        self.assertEqual([(row["commit"], more)
+                          for row, more in gate.longer(self.runs("150", "155", "", "160.5", "120", "124"))],
+                         [("160.5", 5.5)])
 
     def test_the_crates_that_grew_most_are_named(self) -> None:
         rows = [{"commit": commit, "crate": crate, "proof_s": proof, "tests_s": "", "edit_checks_s": "4"}
-                for commit, crate, proof in (("a", "low", "10"), ("a", "high", "20"), ("b", "low", "70"), ("b", "high", "19"), ("b", "new", "5"))]
+                for commit, crate, proof in (("a", "low", "10"), ("a", "high", "20"), ("b", "low", "70"),
+                                             ("b", "high", "19"), ("b", "new", "5"))]
         self.assertEqual(gate.grown(rows, "b", "a"), ["low +60 s", "new +9 s"])
 
 
@@ -173,7 +203,9 @@ other : Nat
     def test_definitions_cite_by_names_by_operators_and_through_modules(self) -> None:
         with mock.patch.object(reading.Place, "is_ours", lambda self: True):
             definitions = reading.Module(self.TEXT)
-            self.assertEqual(set(definitions.cites("head")), {(("low", "Points"), "point"), (("low", "Points"), "◌≤◌"), (("low", "Ways"), "of"), (None, "tail")})
+            points, ways = ("low", "Points"), ("low", "Ways")
+            self.assertEqual(set(definitions.cites("head")),
+                             {(points, "point"), (points, "◌≤◌"), (ways, "of"), (None, "tail")})
             self.assertEqual(set(definitions.cites("tail")), set())
 
 
@@ -207,10 +239,40 @@ rule tick numbers =
         self.assertEqual(rules.fishing("no sentence\n"), "no sentence\n")
 
 
+class Contracts(unittest.TestCase):
+    def test_long_lines_of_clauses_are_found_and_those_of_code_are_not(self) -> None:
+        wide = "x" * 100
+        text = f"""fn a()
+    requires {{ {wide} }}
+    ensures few {{ a
+        → {wide} }}
+{{
+    call({wide});
+}}
+ghost keeper = {{ {wide} }};
+ghost use {wide};
+"""
+        self.assertEqual(list(contracts.long_lines(text)), [2, 4, 8])
+
+
+class Repeats(unittest.TestCase):
+    def test_a_run_of_twelve_lines_that_stands_twice_is_reported_once_and_whole(self) -> None:
+        run = [f"    let row_{k} = take({k});" for k in range(14)]
+        texts = {"a.rt": "\n".join(["fn a()", *run, "{}"]), "b.rt": "\n".join([*run[:5], "", "// a word", *run[5:]])}
+        self.assertEqual([(str(one), str(other)) for one, other in repeats.repeats(texts)],
+                         [("a.rt:2-15", "b.rt:1-16")])
+
+    def test_eleven_lines_and_imports_are_none(self) -> None:
+        run = "\n".join(f"let row_{k} = take({k});" for k in range(11))
+        imports = "\n".join(f"use crate::part_{k};" for k in range(20))
+        self.assertEqual(list(repeats.repeats({"a.rt": imports + "\n" + run, "b.rt": imports + "\n" + run})), [])
+
+
 class Command(unittest.TestCase):
     def run_of(self, *words: str) -> subprocess.CompletedProcess[str]:
         """Runs `dev/check` with these arguments."""
-        return subprocess.run([sys.executable, os.path.join(TOP, "dev", "check"), *words], capture_output=True, text=True, timeout=300)
+        return subprocess.run([sys.executable, os.path.join(TOP, "dev", "check"), *words], capture_output=True,
+                              text=True, timeout=300)
 
     def test_each_check_is_listed_with_one_line(self) -> None:
         self.assertEqual([line.split()[0] for line in self.run_of("--list").stdout.splitlines()], names())
@@ -219,12 +281,15 @@ class Command(unittest.TestCase):
 
     def test_wrong_uses_end_with_a_status_and_a_line(self) -> None:
         self.assertEqual(self.run_of("no_such").returncode, 2)
-        self.assertIn("/no/program is not a program that can be run", self.run_of("--program", "/no/program", "limits").stderr)
+        self.assertIn("/no/program is not a program that can be run",
+                      self.run_of("--program", "/no/program", "limits").stderr)
 
     def test_a_program_that_does_something_else_fails(self) -> None:
         done = self.run_of("--program", "/bin/echo", "program", "limits")
         self.assertEqual((done.returncode, done.stdout.splitlines()[-1]), (1, "0 passed, 2 failed"))
-        self.assertIn("program: `points scenario.toml <&-`, status and standard error: (0, ''), want (5, 'log: not read')", done.stdout)
+        self.assertIn(
+            "program: `points scenario.toml <&-`, status and standard error: (0, ''), want (5, 'log: not read')",
+            done.stdout)
         found = Findings("/bin/echo")
         program.check(found)
         self.assertGreater(len(found.faults), 10)

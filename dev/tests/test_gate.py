@@ -10,7 +10,7 @@ import unittest
 from unittest import mock
 
 from dev import gate
-from dev.tests.given import TOP, InFolder, text_of
+from given import TOP, InFolder, text_of
 
 
 class Checks(unittest.TestCase):
@@ -25,8 +25,9 @@ class Checks(unittest.TestCase):
     def test_a_crate_that_was_cached_has_no_row(self) -> None:
         table = {("low", "proof"): 12.4, ("low", "edits"): 33.6, ("high", "tests"): 5.0}
         with mock.patch.object(gate, "edits_of", return_value=2):
-            self.assertEqual(gate.crate_rows(table, ["low", "middle", "high"], "2026-12-01", "abc"),
-                             [["2026-12-01", "abc", "low", "12", "", "2", "34"], ["2026-12-01", "abc", "high", "", "5", "2", ""]])
+            self.assertEqual(
+                gate.crate_rows(table, ["low", "middle", "high"], "2026-12-01", "abc"),
+                [["2026-12-01", "abc", "low", "12", "", "2", "34"], ["2026-12-01", "abc", "high", "", "5", "2", ""]])
 
 
 class Watched(InFolder):
@@ -46,13 +47,17 @@ sys.exit(gate.main())"""
     def rows_after(self, number: signal.Signals) -> list[list[str]]:
         """Returns the rows of the crates after a gate whose measure got this signal."""
         run = self.RUN.replace("python", sys.executable, 1).replace("SIGNAL", str(int(number)))
-        done = subprocess.run(["bash", "-c", run, self.MEASURE.replace("TOP", repr(TOP))], cwd=self.folder, capture_output=True, text=True, timeout=120)
+        done = subprocess.run(["bash", "-c", run, self.MEASURE.replace("TOP", repr(TOP))], cwd=self.folder,
+                              capture_output=True, text=True, timeout=120)
         self.assertNotIn("Traceback", done.stderr)
-        return list(csv.reader(text_of(self.path("crates")).splitlines())) if os.path.exists(self.path("crates")) else []
+        return (
+            list(csv.reader(text_of(self.path("crates")).splitlines())) if os.path.exists(self.path("crates")) else []
+        )
 
     def test_a_gate_that_passes_adds_its_rows_and_one_that_does_not_adds_none(self) -> None:
         self.assertEqual(self.rows_after(signal.SIGKILL), [])
-        self.assertEqual([row[2:] for row in self.rows_after(signal.SIGTERM)], [["low", "0", "", "", ""], ["high", "0", "", "", ""]])
+        self.assertEqual([row[2:] for row in self.rows_after(signal.SIGTERM)],
+                         [["low", "0", "", "", ""], ["high", "0", "", "", ""]])
         self.assertEqual([len(row) for row in csv.reader(text_of(self.path("runs")).splitlines())], [6])
 
 

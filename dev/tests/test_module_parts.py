@@ -1,4 +1,5 @@
-"""A module in parts: each large function in one of them, with what it needs, and nothing twice under one name for all."""
+"""A module in parts: each large function in one of them, with what it needs, and nothing twice under one name for
+all."""
 from __future__ import annotations
 
 import re
@@ -16,14 +17,34 @@ def function(name: str, calls: str = "", lines: int = 1, group: int = 0) -> str:
     return f'define internal void @"{name}"(ptr noundef %a0) #{group} {{\n{body}}}\n'
 
 
+MAIN = '''define i32 @main() #0 {
+  call void @"big one"()
+  call void @"big two"()
+  call void @"little"()
+  ret i32 0
+}
+'''
 MODULE = "".join((
     'target triple = "x86_64-unknown-linux-gnu"\n',
-    '@table = private constant [1 x ptr] [ptr @"by table"]\n', '@text = private constant [1 x i8] c"a"\n', '@idle = private constant [1 x i8] c"b"\n',
-    "define i32 @main() #0 {\n  call void @\"big one\"()\n  call void @\"big two\"()\n  call void @\"little\"()\n  ret i32 0\n}\n",
-    function("big one", "little big_two never", 9), function("big two", "little big_one", 9).replace("nop", "use ptr @table", 1),
-    function("little", "copied", 1).replace("nop", "use ptr @text"), function("copied"), function("always", "", 9, 1), function("never", "always", 1, 2),
-    function("big_one", "always", 9), function("big_two", "always big_one", 9), function("by table", "little"), function("idle", "little", 9),
-    "declare void @llvm.assume(i1)\n", "attributes #0 = { nounwind }\n", "attributes #1 = { alwaysinline }\n", "attributes #2 = { noinline }\n"))
+    '@table = private constant [1 x ptr] [ptr @"by table"]\n',
+    '@text = private constant [1 x i8] c"a"\n',
+    '@idle = private constant [1 x i8] c"b"\n',
+    MAIN,
+    function("big one", "little big_two never", 9),
+    function("big two", "little big_one", 9).replace("nop", "use ptr @table", 1),
+    function("little", "copied", 1).replace("nop", "use ptr @text"),
+    function("copied"),
+    function("always", "", 9, 1),
+    function("never", "always", 1, 2),
+    function("big_one", "always", 9),
+    function("big_two", "always big_one", 9),
+    function("by table", "little"),
+    function("idle", "little", 9),
+    "declare void @llvm.assume(i1)\n",
+    "attributes #0 = { nounwind }\n",
+    "attributes #1 = { alwaysinline }\n",
+    "attributes #2 = { noinline }\n",
+))
 
 
 class Parts(unittest.TestCase):
@@ -40,7 +61,8 @@ class Parts(unittest.TestCase):
 
     def test_each_large_function_is_for_all_in_one_part_and_is_main(self) -> None:
         self.assertEqual(set(self.defined("hidden ").values()), {1})
-        self.assertEqual(sorted(self.defined("hidden ")), ["big_one", "never"])      # several call big_one, and never must not be inlined
+        # several call big_one, and never must not be inlined
+        self.assertEqual(sorted(self.defined("hidden ")), ["big_one", "never"])
         self.assertEqual(sum("define i32 @main()" in text for text in self.parts), 1)
 
     def test_what_is_called_is_there_in_each_part(self) -> None:
@@ -64,7 +86,8 @@ class Parts(unittest.TestCase):
 
     def test_shares_need_about_the_same(self) -> None:
         text = "".join(function(f"f{k}", " ".join(f"f{it}" for it in range(k)), 20, 2) for k in range(12))
-        module = Module(("define i32 @main() #0 {\n" + "".join(f'  call void @"f{k}"()\n' for k in range(12)) + "}\n" + text + "attributes #2 = { noinline }\n").splitlines(True))
+        module = Module(("define i32 @main() #0 {\n" + "".join(f'  call void @"f{k}"()\n' for k in range(12)) + "}\n"
+                         + text + "attributes #2 = { noinline }\n").splitlines(True))
         sizes = [sum(len(module.functions[name]) for name in share) for share in shares(module, 4)]
         self.assertLess(max(sizes), 1.3 * min(sizes))
 

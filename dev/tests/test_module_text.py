@@ -5,7 +5,7 @@ import unittest
 
 from dev.module_parts import Module
 from dev.module_text import Inlining, attributes_in, without_checks
-from dev.tests.given import InFolder
+from given import InFolder
 
 SOURCE = """//! A crate.
 #[inline(always)]
@@ -51,7 +51,10 @@ attributes #1 = { }
 
 class Attributes(unittest.TestCase):
     def test_each_function_has_the_words_right_above_it(self) -> None:
-        self.assertEqual(list(attributes_in(SOURCE.splitlines())), [("small", {"alwaysinline"}), ("far", {"noinline", "cold"}), ("plain", set())])
+        self.assertEqual(
+            list(attributes_in(SOURCE.splitlines())),
+            [("small", {"alwaysinline"}), ("far", {"noinline", "cold"}), ("plain", set())],
+        )
 
 
 class Text(InFolder):
@@ -73,18 +76,22 @@ class Text(InFolder):
         self.assertEqual([line.count("\n") for line in lines], [1] * len(lines))
         text = "".join(lines)
         self.assertNotRegex(text, r"llvm\.trap|i8 -86|sanitize_address|frame-pointer")
-        self.assertIn('define internal void @"rattle-llvm-checks::overflow"(i1 noundef %a0) alwaysinline {\n  ret void\n}\n', text)
+        self.assertIn(
+            'define internal void @"rattle-llvm-checks::overflow"(i1 noundef %a0) alwaysinline {\n  ret void\n}\n',
+            text)
         self.assertIn("call void @llvm.memset.p0.i64(ptr %r1, i8 0, i64 8, i1 false)\n", text)
         self.assertIn('define internal void @"low::deep::small"(ptr noundef %a0) #900 {\n', text)
         self.assertIn('define internal void @"low::Thing::far::<#d858>"(ptr noundef %a0) #901 {\n', text)
         self.assertIn("define i32 @main() #0 {\n  ret i32 0\n}\n", text)
         self.assertIn('attributes #0 = { "target-cpu"="x86-64-v2" }\n', text)
         self.assertIn("attributes #1 = { nounwind }\n", text)
-        self.assertRegex(text, r"attributes #900 = \{ alwaysinline nounwind .*\}\nattributes #901 = \{ cold nounwind .*\}\n$")
+        self.assertRegex(
+            text, r"attributes #900 = \{ alwaysinline nounwind .*\}\nattributes #901 = \{ cold nounwind .*\}\n$")
 
     def test_what_is_left_splits_into_its_functions(self) -> None:
         module = Module(without_checks(MODULE.splitlines(True), self.inlining))
-        self.assertEqual(list(module.functions), ["main", '"rattle-llvm-checks::overflow"', '"low::deep::small"', '"low::Thing::far::<#d858>"'])
+        self.assertEqual(list(module.functions),
+                         ["main", '"rattle-llvm-checks::overflow"', '"low::deep::small"', '"low::Thing::far::<#d858>"'])
         self.assertEqual(module.attributes('"low::deep::small"').split()[0], "alwaysinline")
 
 

@@ -7,7 +7,8 @@ import signal
 import time
 import unittest
 
-from dev.tests.given import InRepository, text_of
+from dev.tests.made_up_kit import InRepository
+from given import text_of
 
 PROVE = ("./colregs", "--prove")
 RAN = (0, "ran points a.toml\na log\n", "")
@@ -21,7 +22,8 @@ class Prove(InRepository):
         self.assertIn("all 5 crates are proved, and the program is built", err)
         self.assertRegex(text_of(self.calls), r"middle jobs=\d of_kit=2\n")
         proved = self.proved()
-        self.assertEqual((proved[0], sorted(proved[1:4]), proved[4:]), ("low", ["beside", "high", "middle"], ["colregs"]))
+        self.assertEqual((proved[0], sorted(proved[1:4]), proved[4:]),
+                         ("low", ["beside", "high", "middle"], ["colregs"]))
         self.assertLess(proved.index("middle"), proved.index("high"))
         self.assertEqual(self.run_of("./colregs", "points", "a.toml"), RAN)
         self.assertEqual(self.called(), [])
@@ -95,7 +97,9 @@ class Prove(InRepository):
         self.proved()
         self.assertIn("the proofs of 2 others are cached", self.run_of(*PROVE)[2])
         self.assertEqual(sorted(self.proved()), ["beside", "colregs", "high"])
-        self.assertEqual([it for it in os.listdir(os.path.join(self.top, "crates/colregs/out/rlib")) if it.startswith("at-work")], [])
+        self.assertEqual(
+            [it for it in os.listdir(os.path.join(self.top, "crates/colregs/out/rlib")) if it.startswith("at-work")],
+            [])
 
     def running(self) -> list[str]:
         """Returns the command lines of what still runs of the kit that is made up."""

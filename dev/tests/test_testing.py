@@ -9,7 +9,7 @@ import unittest
 
 from dev.cases import Case, Result, first_difference
 from dev.testing import Count, counted
-from dev.tests.given import TOP, InFolder
+from given import TOP, InFolder
 
 TRIED = """tests: 3
 test vessel_ranks::the_last_report_that_has_come ... ok
@@ -33,13 +33,17 @@ class Counts(unittest.TestCase):
         self.assertEqual(counted("Ran 0 tests in 0.000s\n\nOK\n", 1), Count(0, 1))
 
     def test_a_check_is_one_test(self) -> None:
-        self.assertEqual((counted("all is well\n", 0), counted("a fault\n", 1), counted("", -9)), (Count(1, 0), Count(0, 1), Count(0, 1)))
+        self.assertEqual((counted("all is well\n", 0), counted("a fault\n", 1), counted("", -9)),
+                         (Count(1, 0), Count(0, 1), Count(0, 1)))
 
 
 class Cases(InFolder):
     def case(self, **files: str) -> Case:
         """Returns a case with these files, which runs a shell script as its program."""
-        good = {"status": "3", "stdout": "ab###\n", "stderr": "why\n", "args": "scenario\nwhy\n", "log": "", "scenario": "ab", "lengthened": "scenario 5"}
+        good = {
+            "status": "3", "stdout": "ab###\n", "stderr": "why\n", "args": "scenario\nwhy\n", "log": "",
+            "scenario": "ab", "lengthened": "scenario 5"
+        }
         for name, text in {**good, **files}.items():
             self.write(name, text)
         return Case(self.folder)
@@ -56,7 +60,8 @@ class Cases(InFolder):
     def test_a_case_is_compared_byte_for_byte(self) -> None:
         self.assertIsNone(self.fault(self.case()))
         self.assertEqual(self.fault(self.case(status="0")), "status 3, want 0; standard error b'why\\n'")
-        self.assertEqual(self.fault(self.case(stdout="ab####\n")), "standard output, line 1: got b'ab###', want b'ab####'")
+        self.assertEqual(self.fault(self.case(stdout="ab####\n")),
+                         "standard output, line 1: got b'ab###', want b'ab####'")
         self.assertEqual(self.fault(self.case(stderr="")), "standard error b'why\\n', want b''")
         self.assertIn("no number in `status`", self.fault(self.case(status="")) or "")
 
@@ -68,10 +73,12 @@ class Cases(InFolder):
 class Command(unittest.TestCase):
     def run_of(self, *words: str) -> subprocess.CompletedProcess[str]:
         """Runs `./test` with these arguments."""
-        return subprocess.run([sys.executable, os.path.join(TOP, "test"), *words], capture_output=True, text=True, timeout=120)
+        return subprocess.run([sys.executable, os.path.join(TOP, "test"), *words], capture_output=True, text=True,
+                              timeout=120)
 
     def test_wrong_uses_end_with_status_2_and_run_nothing(self) -> None:
-        for words, said in ((["no such job"], "no job's name begins with no such job"), (["--program", "/no/program"], "/no/program is not a program that can be run")):
+        for words, said in ((["no such job"], "no job's name begins with no such job"),
+                            (["--program", "/no/program"], "/no/program is not a program that can be run")):
             done = self.run_of(*words)
             self.assertEqual((done.returncode, done.stdout), (2, ""))
             self.assertIn(said, done.stderr)

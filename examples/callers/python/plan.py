@@ -1,8 +1,8 @@
 #!/usr/bin/env python3
 """Plans a manoeuvre for own ship: plan.py SCENARIO LOG
 
-Writes the report to standard output and the line of a fault to standard error, and exits with the status, as the program does. COLREGS_LIBRARY names the library;
-python/colregs of this repository has to be installed or on PYTHONPATH.
+Writes the report to standard output and the line of a fault to standard error, and exits with the status, as the
+program does. COLREGS_LIBRARY names the library; python/colregs of this repository has to be installed or on PYTHONPATH.
 """
 import sys
 from pathlib import Path
