@@ -25,8 +25,11 @@ BOTH = "both"                   # both vessels of a pair are at rest
 FORGOTTEN = 7200                # s after her last report that a vessel is forgotten
 AGAIN = 60                      # s of the stream's clock between two looks at who is at rest in one stretch
 COUNTED = 60                    # s of the clock between two lines that count what is hidden
-# s of this machine's clock that an alarm waits for the points up to its time, and the end of a stretch for alarms
-PATIENCE = 5
+# s of this machine's clock. Alarms and points come from two runs, so an alarm waits until the points up to its time are
+# there. A vessel may fall silent, so it waits no longer than this after the last point ..
+FOR_POINTS = 5
+FOR_PLACE = 60                  # .. nor than this in all, which is how long it waits if nobody knows its place
+FOR_ALARMS = 30                 # how long the end of a stretch waits for alarms
 # what a line says of a stretch: it is one of two vessels at rest, it begins, it is over
 RESTS, BEGINS, OVER = "rests", "begins", "over"
 
@@ -136,6 +139,7 @@ class StretchBook:
         self.restored: list[dict[str, Any]] = []                # the lines that an earlier run wrote
         # what an earlier run reported: the beginnings of stretches by state, pair and rule
         self.before: dict[tuple[str, Key], set[int]] = {}
+        # alarms, and when each came
         self.waiting: collections.deque[tuple[dict[str, Any], float]] = collections.deque()
         # when to report by this machine's clock that stretches are over that are so by the stream's
         self.due: dict[int, float] = {}
@@ -167,18 +171,27 @@ class StretchBook:
     def take(self, row: dict[str, Any]) -> None:
         """Takes a row of the stream that is an alarm. It waits until the points up to its time are there, for they come
         from another run."""
-        self.waiting.append((row, time.monotonic() + PATIENCE))
+        self.waiting.append((row, time.monotonic()))
         self.release(False)
 
     def release(self, all_of_them: bool) -> None:
         """Joins the alarms that need not wait any longer."""
         while self.waiting:
-            row, until = self.waiting[0]
-            if not all_of_them and alarm_of(row,
-                                            self.stretches.tick)[2] > self.fleet.clock and time.monotonic() < until:
+            row, came = self.waiting[0]
+            if not all_of_them and self.may_learn_more(row, came):
                 return
             self.waiting.popleft()
             self.join(row)
+
+    def may_learn_more(self, row: dict[str, Any], came: float) -> bool:
+        """Returns whether points up to the time of an alarm may still come."""
+        (subject, _, _), first, decided = alarm_of(row, self.stretches.tick)
+        if decided <= self.fleet.clock:
+            return False
+        until = came + FOR_PLACE
+        if self.fleet.place(subject, first) is not None:
+            until = min(until, max(came, self.fleet.arrived) + FOR_POINTS)
+        return time.monotonic() < until
 
     def join(self, row: dict[str, Any]) -> None:
         """Joins an alarm to its stretch."""
@@ -206,7 +219,7 @@ class StretchBook:
         if state:
             self.states[one.number] = state, 0
         else:
-            self.waiting.append((row, time.monotonic() + PATIENCE))
+            self.waiting.append((row, time.monotonic()))
 
     def look(self, one: AlarmStretch, before: str) -> None:
         """Reports that a stretch began, or that it is one of two vessels at rest."""
@@ -235,7 +248,7 @@ class StretchBook:
         self.clock, now = clock, time.monotonic()
         self.release(False)
         for one in self.stretches.over(clock):
-            if now >= self.due.setdefault(one.number, now + PATIENCE):
+            if now >= self.due.setdefault(one.number, now + FOR_ALARMS):
                 self.end(one)
 
     def end(self, one: AlarmStretch) -> None:
