@@ -354,10 +354,13 @@ class Doors(InFolder):
 class Streams(WithScenario):
     """What `colregs-follow --stretches` writes."""
 
+    # a busy machine may let alarms or positions wait for long
     WORDS = ["--days", "days", "--program", PROGRAM, "--ticks-each", "60", "--overlap", "900", "--modes", "watch"]
+    PATIENT = ["--patience", "600"]
 
     def follow(self, log: str, *words: str) -> list[Any]:
-        status, out, error = self.tool("colregs-follow", "s.toml", *self.WORDS, *words, source=log.encode())
+        status, out, error = self.tool("colregs-follow", "s.toml", *self.WORDS, *self.PATIENT, *words,
+                                       source=log.encode())
         self.assertEqual((status, error), (0, ""))
         return [json.loads(line) for line in out.splitlines()]
 

@@ -20,7 +20,7 @@ from colregs.model.scenario import MOST_TICKS, Scenario
 from colregs.run.program import found
 from colregs.stream import rows, sources
 from colregs.stream.follow import Follow
-from colregs.stream.stretches import StretchSink
+from colregs.stream.stretches import PATIENCE, StretchSink
 
 
 def modes(word: str) -> list[str]:
@@ -62,6 +62,9 @@ def parser() -> argparse.ArgumentParser:
                        help="alarms as stretches, with names, place and marks: a line when one begins and one when it "
                             "is over; pairs at rest are counted")
     words.add_argument("--at-rest", action="store_true", help="with --stretches, write those of pairs at rest too")
+    words.add_argument("--patience", type=int, default=PATIENCE, metavar="SECONDS",
+                       help="with --stretches, how long an alarm waits for positions that come late, as on a busy machine "
+                            f"(default: {PATIENCE})")
     words.add_argument("--out", metavar="FILE", help="a file that rows are added to, instead of standard output")
     words.add_argument("--to", metavar="COMMAND", help="a command that reads the rows")
     return words
@@ -106,7 +109,7 @@ def main(arguments: Sequence[str] | None = None) -> int:
         raise Fault("--stretches joins the alarms of `watch`: give --modes watch, or --modes audit,watch")
     check_windows(given, scenario)
     source, sink = source_of(given), sink_of(given)
-    stretches = StretchSink(sink, scenario, given.days, given.at_rest) if given.stretches else None
+    stretches = StretchSink(sink, scenario, given.days, given.at_rest, given.patience) if given.stretches else None
     with Follow(given, scenario, found(given.program), stretches or sink, stretches) as follow:
         for number in (signal.SIGTERM, signal.SIGINT):
             signal.signal(number, lambda *_: stop.set())

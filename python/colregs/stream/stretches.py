@@ -27,7 +27,7 @@ AGAIN = 60                      # s of the stream's clock between two looks at w
 COUNTED = 60                    # s of the clock between two lines that count what is hidden
 # s of this machine's clock. Alarms and points come from two runs, so an alarm waits until the points up to its time are
 # there. A vessel may fall silent, so it waits no longer than this after the last point ..
-FOR_POINTS = 5
+PATIENCE = 5
 FOR_PLACE = 60                  # .. nor than this in all, which is how long it waits if nobody knows its place
 FOR_ALARMS = 30                 # how long the end of a stretch waits for alarms
 # what a line says of a stretch: it is one of two vessels at rest, it begins, it is over
@@ -130,10 +130,12 @@ class StretchBook:
     restart writes none twice."""
 
     def __init__(self, folder: str, scenario: Scenario, fleet: Fleet, tell: Callable[[dict[str, Any]], None],
-                 joined: Callable[[AlarmStretch], None] | None = None) -> None:
-        """Takes what to call with each line, and perhaps what to call with a stretch that an alarm has joined."""
+                 joined: Callable[[AlarmStretch], None] | None = None, patience: int = PATIENCE) -> None:
+        """Takes what to call with each line, perhaps what to call with a stretch that an alarm has joined, and how many
+        seconds to wait for points that come late."""
         self.folder, self.fleet, self.tell, self.joined = folder, fleet, tell, joined
         self.stretches, self.earth = Stretches(scenario), Earth(scenario.values["reference"])
+        self.patience = patience
         # the last state that was reported of each open stretch, and the clock then
         self.states: dict[int, tuple[str, int]] = {}
         self.restored: list[dict[str, Any]] = []                # the lines that an earlier run wrote
@@ -188,9 +190,9 @@ class StretchBook:
         (subject, _, _), first, decided = alarm_of(row, self.stretches.tick)
         if decided <= self.fleet.clock:
             return False
-        until = came + FOR_PLACE
+        until = came + max(FOR_PLACE, self.patience)
         if self.fleet.place(subject, first) is not None:
-            until = min(until, max(came, self.fleet.arrived) + FOR_POINTS)
+            until = min(until, max(came, self.fleet.arrived) + self.patience)
         return time.monotonic() < until
 
     def join(self, row: dict[str, Any]) -> None:
@@ -248,7 +250,7 @@ class StretchBook:
         self.clock, now = clock, time.monotonic()
         self.release(False)
         for one in self.stretches.over(clock):
-            if now >= self.due.setdefault(one.number, now + FOR_ALARMS):
+            if now >= self.due.setdefault(one.number, now + max(FOR_ALARMS, self.patience)):
                 self.end(one)
 
     def end(self, one: AlarmStretch) -> None:
@@ -273,10 +275,10 @@ class StretchSink:
     Pairs at rest are only counted, unless `all_pairs` asks for them.
     """
 
-    def __init__(self, sink: Sink, scenario: Scenario, folder: str, all_pairs: bool) -> None:
+    def __init__(self, sink: Sink, scenario: Scenario, folder: str, all_pairs: bool, patience: int = PATIENCE) -> None:
         self.sink, self.all_pairs = sink, all_pairs
         self.fleet = Fleet(scenario.gap)
-        self.book = StretchBook(folder, scenario, self.fleet, self.tell)
+        self.book = StretchBook(folder, scenario, self.fleet, self.tell, patience=patience)
         self.clock = 0
         self.count = 0                                  # stretches of pairs at rest
         self.counted = 0, 0                             # how many at the last line that says so, and the clock then
