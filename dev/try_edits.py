@@ -1,6 +1,6 @@
 """Tries the must-fail edits for which the gate has no time: python3 -m dev.try_edits [CRATE ..]
 
-`rt ci` proves a crate once more to try its edits, so crates/NAME/must-fail has only those of the wrong programs in
+`rt ci` proves a crate again to try its edits, so crates/NAME/must-fail has only those of the wrong programs in
 docs/PROVED.md, or one. dev/edits/NAME has the others. This command puts them into must-fail in a copy of the sources,
 and runs `rt must-fail` there. Try those of a crate whose contracts you changed, and all before a release: that takes about
 an hour on four processors. The exit status is 1 if an edit was not refused, or could not be tried.
@@ -20,7 +20,7 @@ from dev.repository import listed_crates, path_of
 
 
 def copy_with_edits(room: str, wanted: list[str]) -> None:
-    """Copies the sources into a folder. A wanted crate gets its further edits there, in place of those of the gate."""
+    """Copies the sources into a folder. A wanted crate gets its further edits there, and none of the gate."""
     for name in ("crates.txt", "HANDLES"):
         shutil.copy(path_of(name), room)
     shutil.copytree(path_of("crates"), os.path.join(room, "crates"), ignore=shutil.ignore_patterns("out", "must-fail"))
