@@ -6,12 +6,37 @@ The gate tries those in crates/NAME/must-fail. dev/edits/NAME has more of the sa
 from __future__ import annotations
 
 import os
-from collections.abc import Iterator
+from collections.abc import Callable, Iterator
 from dataclasses import dataclass
 
 from dev.repository import listed_crates, path_of, read
 
 ENDING = ".edit"
+
+
+def fault_in(edit: str, text_of: Callable[[str], str | None]) -> str:
+    """Returns why the text of an edit cannot be applied, or nothing. `text_of` gives the text of a file of the crate, or
+    None if it is not there."""
+    path, old, pairs = "", "", 0
+    texts: dict[str, str] = {}
+    for line in edit.splitlines():
+        if line.startswith("file: "):
+            path = line.removeprefix("file: ").strip()
+            text = text_of(path)
+            if text is None:
+                return f"there is no file {path}"
+            texts.setdefault(path, text)
+        elif line.startswith("old: "):
+            old = line.removeprefix("old: ")
+        elif line.startswith("new:"):
+            if not path or not old:
+                return "a line `new:` is before any line `file:` or `old:`"
+            count = texts[path].count(old)
+            if count != 1:
+                return f"`{old.strip()}` is in {path} {count} times"
+            texts[path] = texts[path].replace(old, line.removeprefix("new:").removeprefix(" "))
+            old, pairs = "", pairs + 1
+    return "" if pairs else "it has no lines `old:` and `new:`"
 
 
 @dataclass(frozen=True)
@@ -28,25 +53,14 @@ class Edit:
 
     def fault(self) -> str:
         """Returns why the edit cannot be applied, or nothing. `rt ci` only warns of such an edit."""
-        path, old, pairs = "", "", 0
-        texts: dict[str, str] = {}
-        for line in read(self.path).splitlines():
-            if line.startswith("file: "):
-                path = line.removeprefix("file: ").strip()
-                if not os.path.isfile(path_of("crates", self.crate, path)):
-                    return f"there is no file {path}"
-                texts.setdefault(path, read("crates", self.crate, path))
-            elif line.startswith("old: "):
-                old = line.removeprefix("old: ")
-            elif line.startswith("new:"):
-                if not path or not old:
-                    return "a line `new:` is before any line `file:` or `old:`"
-                count = texts[path].count(old)
-                if count != 1:
-                    return f"`{old.strip()}` is in {path} {count} times"
-                texts[path] = texts[path].replace(old, line.removeprefix("new:").removeprefix(" "))
-                old, pairs = "", pairs + 1
-        return "" if pairs else "it has no lines `old:` and `new:`"
+        return fault_in(read(self.path), self.text_of)
+
+    def text_of(self, path: str) -> str | None:
+        """Returns the text of a file of the crate, or None if it is not there."""
+        try:
+            return read("crates", self.crate, path)
+        except OSError:
+            return None
 
 
 def edits_in(*folder: str) -> list[str]:
