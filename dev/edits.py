@@ -15,8 +15,8 @@ ENDING = ".edit"
 
 
 def fault_in(edit: str, text_of: Callable[[str], str | None]) -> str:
-    """Returns why the text of an edit cannot be applied, or nothing. `text_of` gives the text of a file of the crate, or
-    None if it is not there."""
+    """Returns why the text of an edit cannot be applied, or nothing. `text_of` gives the text of a file of the crate,
+    or None if it is not there."""
     path, old, pairs = "", "", 0
     texts: dict[str, str] = {}
     for line in edit.splitlines():
