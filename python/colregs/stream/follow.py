@@ -108,6 +108,7 @@ class Follow:
         self.windows: dict[int, Window] = {}            # those that are open, by their starts
         self.over: set[int] = set()                     # the starts of those that are closed
         self.runs: set[StreamRun] = set()
+        self.point_runs: set[StreamRun] = set()         # those of them that give points
         self.heard: dict[int, int] = {}                 # when the clock last heard each vessel
         self.events: queue.Queue[tuple[Any, ...]] = queue.Queue()
         self.held: list[tuple[StreamRun, str]] = []     # rows that wait for those of windows before them
@@ -306,7 +307,10 @@ class Follow:
         with open(name, "w", encoding="utf-8") as out:
             out.write(self.scenario.with_subjects(sorted(group) if group else None))
         words = [self.program, mode, name, f"--start={window.start}", f"--ticks={self.numbers.ticks}"]
-        self.runs.add(StreamRun(words, window, mode, group, self.files, self.events.put))
+        run = StreamRun(words, window, mode, group, self.files, self.events.put)
+        self.runs.add(run)
+        if mode == POINTS:
+            self.point_runs.add(run)
 
     def vessels(self, window: Window) -> set[int]:
         """Returns who can be a subject of a window: the scenario's subjects, or who was heard since its lines began."""
@@ -337,6 +341,7 @@ class Follow:
     def ended(self, run: StreamRun, words: str) -> None:
         """Takes the end of a run."""
         self.runs.discard(run)
+        self.point_runs.discard(run)
         status = run.child.returncode
         if run.mode == "audit" and status == 0:
             self.health.ended(run.window.start, run.counts)
@@ -415,16 +420,17 @@ class Follow:
 
     def is_early(self, run: StreamRun) -> bool:
         """Returns whether a window before this run's is not done: its rows come first, and none that comes later delays
-        them."""
-        return any(other.mode == run.mode and other.window.start < run.window.start for other in self.runs)
+        them. So do its points, since a listener ignores points that are older than those that it has."""
+        same = self.point_runs if run.mode == POINTS else self.runs
+        return any(other.mode == run.mode and other.window.start < run.window.start for other in same)
 
     def handle(self, event: tuple[Any, ...]) -> None:
         """Takes a row or the end of a run."""
-        if event[0] == "row" and event[1].mode == POINTS:
+        if event[0] == "row" and self.is_early(event[1]):
+            self.held.append((event[1], event[2]))
+        elif event[0] == "row" and event[1].mode == POINTS:
             if self.listener:
                 self.listener.point(event[2])
-        elif event[0] == "row" and self.is_early(event[1]):
-            self.held.append((event[1], event[2]))
         elif event[0] == "row":
             self.row(*event[1:])
         elif event[0] == "ended":
