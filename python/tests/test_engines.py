@@ -14,11 +14,10 @@ from typing import Any
 
 import crowd
 import test_shares
-from given import PROGRAM, TOOLS, needs, text_of, with_program
+from given import LONGEST, PROGRAM, TOOLS, needs, text_of, with_program
 from colregs.shares.engines import Limits, limits_of, ranges
 from colregs.shares.jobs import Need
 
-LONGEST = 90            # s that a test waits for an engine on a busy machine
 # Each run notes its node, its process and its parent's; the first one on the node n1 or the first worker waits to be
 # killed.
 SLOW = """#!/bin/sh
@@ -151,7 +150,7 @@ class Slurm(Engines):
 
     def daemon(self, pid_file: str, *words: str) -> None:
         try:
-            subprocess.run(words, check=True, capture_output=True, env=self.around, timeout=30)
+            subprocess.run(words, check=True, capture_output=True, env=self.around, timeout=300)
         except (OSError, subprocess.SubprocessError) as error:
             self.skipTest(f"{words[0]} does not start here: {getattr(error, 'stderr', b'') or error}")
         self.until(lambda: os.path.exists(self.path(pid_file)) and text_of(self.path(pid_file)).strip() != "", words[0])
@@ -166,7 +165,7 @@ class Slurm(Engines):
 
     def slurm(self, *words: str) -> str:
         return subprocess.run(words, check=True, capture_output=True, text=True, env=self.around,
-                              timeout=60).stdout.strip()
+                              timeout=300).stdout.strip()
 
     def submit(self) -> None:
         """Writes the script, and hands it to Slurm."""
@@ -336,7 +335,7 @@ class Scripts(Engines):
     def test_commands_run_one_job_each(self) -> None:
         self.plan("--ticks-each", "1000", "--group", "10")
         for command in self.many("commands", "jobs")[1].splitlines():
-            subprocess.run(["sh", "-c", command], check=True, timeout=60)
+            subprocess.run(["sh", "-c", command], check=True, timeout=300)
         self.assertIn("2 were kept before, 0 ran", self.many("jobs")[2])
 
     def test_a_task_of_an_array_runs_the_job_of_its_number(self) -> None:
@@ -346,7 +345,7 @@ class Scripts(Engines):
         for first, places in ((3, "21"), (0, "312")):
             for place in places:
                 subprocess.run(["sh", script, str(first)], check=True, env={**os.environ, "SLURM_ARRAY_TASK_ID": place},
-                               cwd=self.folder, timeout=60)
+                               cwd=self.folder, timeout=300)
         self.joined_is_whole()
         text, error = self.many("slurm", "jobs")[1:]
         self.assertNotIn("--array", text)
