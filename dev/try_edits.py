@@ -1,9 +1,9 @@
 """Tries the must-fail edits for which the gate has no time: python3 -m dev.try_edits [CRATE ..]
 
 `rt ci` proves a crate again to try its edits, so crates/NAME/must-fail has only those of the wrong programs in
-docs/PROVED.md, or one. dev/edits/NAME has the others. This command puts them into must-fail in a copy of the sources,
-and runs `rt must-fail` there. Try those of a crate whose contracts you changed, and all before a release: that takes
-about an hour on four processors. The exit status is 1 if an edit was not refused, or could not be tried.
+docs/PROVED.md, or one, or none. dev/edits/NAME has the others. This command puts them into must-fail in a copy of the
+sources, and runs `rt must-fail` there. Try those of a crate whose contracts you changed, and all before a release: that
+takes about an hour on four processors. The exit status is 1 if an edit was not refused, or could not be tried.
 """
 from __future__ import annotations
 
