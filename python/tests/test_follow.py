@@ -305,7 +305,7 @@ class Limits(Streams):
 
     def test_wrong_words_are_refused(self) -> None:
         for words, told in (
-            (["--overlap", "0"], "the overlap is 31 ticks or more"),
+            (["--overlap", "0"], "the overlap is 32 ticks or more"),
             (["--ticks-each", "20000"], "at most 20000"),
             (["--log", "none"], "none is not there"),
             (["--log", "s.toml", "--command", "x"], "not both"),

@@ -18,8 +18,9 @@ from colregs.cli.arguments import add_program, parser_of
 from colregs.errors import Fault, end
 from colregs.model.scenario import MOST_TICKS, Scenario
 from colregs.run.program import found
+from colregs.shares.plans import overlap_needed
 from colregs.stream import rows, sources
-from colregs.stream.follow import Follow
+from colregs.stream.follow import Follow, sights_of
 from colregs.stream.stretches import PATIENCE, StretchSink
 
 
@@ -73,7 +74,7 @@ def parser() -> argparse.ArgumentParser:
 def check_windows(given: argparse.Namespace, scenario: Scenario) -> None:
     """Refuses windows that are too short or too long for a scenario."""
     overlap = -(-given.overlap // scenario.tick)
-    least = scenario.reach + 2 + -(-scenario.gap // scenario.tick)
+    least = overlap_needed(scenario) + max((sight.back for sight in sights_of(scenario).values()), default=0)
     if not (0 < given.every and least <= overlap and given.every + overlap <= MOST_TICKS and 0 < given.group):
         raise Fault(f"a window of {given.every} ticks and an overlap of {overlap}: "
                     f"the overlap is {least} ticks or more, and both together at most {MOST_TICKS}")

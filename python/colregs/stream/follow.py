@@ -5,6 +5,7 @@ the overlap. A row is of the window in whose own steps it ends; docs/TRAFFIC_SER
 and what it needs.
 """
 import argparse
+import dataclasses
 import itertools
 import json
 import os
@@ -20,10 +21,11 @@ from colregs.errors import DONE, FAILED, Fault, report
 from colregs.io.files import replace
 from colregs.io.sieve import Senders
 from colregs.io.sources import stamped
+from colregs.model.formulas import Sight, sight_of
 from colregs.model.scenario import MOST_SUBJECTS, Scenario
 from colregs.run.limits import next_step
 from colregs.shares.heads import STRADDLE
-from colregs.stream.beginnings import Beginnings
+from colregs.stream.borders import AFTER, Border, Borders, Marks
 from colregs.stream.day_files import Clock, DayFiles, Mark, MedianClock, lines_of
 from colregs.stream.health import Health
 from colregs.stream.rows import Sink, Written, steps_of
@@ -44,17 +46,17 @@ class Numbers:
     def __init__(self, scenario: Scenario, every: int, overlap: int) -> None:
         self.tick, self.every, self.ticks = scenario.tick, every, every + overlap
         self.gap, self.more = scenario.gap, scenario.gap + scenario.slack
-        self.warm = -(-scenario.gap // scenario.tick)
+        self.length = every * scenario.tick
+        self.warm = scenario.steps(max(scenario.gap, STRADDLE)) + 1     # steps until a window agrees with the one before
         self.reach, self.last = scenario.reach, scenario.settled(self.ticks)
         self.behind = self.last - every                # the last step that is the window's before
 
     def starts(self, clock: int) -> Iterator[int]:
         """Yields the starts of the windows that are open at a time of the clock."""
-        length = self.every * self.tick
-        k = max(0, (clock - self.ticks * self.tick - self.more) // length)
-        while k * length - self.gap <= clock:
-            if not self.is_over(k * length, clock):
-                yield k * length
+        k = max(0, (clock - self.ticks * self.tick - self.more) // self.length)
+        while k * self.length - self.gap <= clock:
+            if not self.is_over(k * self.length, clock):
+                yield k * self.length
             k += 1
 
     def is_over(self, start: int, clock: int) -> bool:
@@ -102,8 +104,8 @@ class Follow:
         self.clock: Clock | MedianClock = MedianClock(scenario.slack) if given.clock == "median" else Clock()
         self.health = Health(given.days, scenario.slack, self.say)
         self.written, self.types = Written(given.days, sink), StreamTypes(given.days, scenario.slack, scenario.ranks)
-        self.beginnings = Beginnings(self.numbers.last, given.every + scenario.steps(max(scenario.gap, STRADDLE)) + 1,
-                                     given.every)
+        self.borders = Borders(self.numbers.last, given.every + self.numbers.warm, given.every, self.numbers.length,
+                               sights_of(scenario), self.say)
         self.restarts: dict[tuple[int, str, frozenset[int] | None], int] = {}     # of runs that were killed
         self.windows: dict[int, Window] = {}            # those that are open, by their starts
         self.over: set[int] = set()                     # the starts of those that are closed
@@ -112,6 +114,7 @@ class Follow:
         self.heard: dict[int, int] = {}                 # when the clock last heard each vessel
         self.events: queue.Queue[tuple[Any, ...]] = queue.Queue()
         self.held: list[tuple[StreamRun, str]] = []     # rows that wait for those of windows before them
+        self.ending: dict[int, StreamRun] = {}          # by their starts, windows without a run that wait likewise
         self.room = tempfile.TemporaryDirectory()
         self.grouped, self.cut, self.faults = False, False, 0
         self.looked: int | None = None                  # when the clock was at the last look for new vessels
@@ -161,11 +164,13 @@ class Follow:
             if day >= begin[0]:
                 self.read_again(day, begin[1] if day == begin[0] else 0)
         if self.clock.time is not None:
-            for start in range(self.now() if first is None else first, self.now(),
-                               self.numbers.every * self.numbers.tick):
+            for start in range(self.now() if first is None else first, self.now(), self.numbers.length):
                 if self.has_lines(start):               # a run that was killed may have been behind the clock
                     self.begin_window(start, True)
             self.open(again=True)
+            if first is None and self.windows:
+                # which of its rows began before it is not known
+                self.borders.borders[min(self.windows)] = Border(known=True, comparable=False)
             self.close_those_over()
 
     def known_place(self, first: int | None) -> Mark:
@@ -200,7 +205,7 @@ class Follow:
         try:
             with open(self.state, encoding="utf-8") as source:
                 stored = json.load(source)
-            self.beginnings.load(stored.get("open", {}))
+            self.borders.load(stored)
             return int(stored["first"])
         except (OSError, ValueError, KeyError, TypeError, AttributeError, IndexError):
             return None
@@ -210,7 +215,7 @@ class Follow:
         starts = [run.window.start for run in self.runs] + list(self.windows)
         if starts and min(starts) != self.first:
             self.first = min(starts)
-            replace(self.state, json.dumps({"first": self.first, "open": self.beginnings.stored()}).encode())
+            replace(self.state, json.dumps({"first": self.first, **self.borders.stored()}).encode())
 
     def hear(self, line: bytes) -> None:
         """Notes which vessel a line is of."""
@@ -296,7 +301,7 @@ class Follow:
         self.over = {start for start in self.over if start >= oldest}
         self.heard = {mmsi: at for mmsi, at in self.heard.items() if at >= oldest}
         self.written.forget(oldest)
-        self.beginnings.forget(oldest)
+        self.borders.forget(oldest)
         self.marks = {mark: place for mark, place in self.marks.items() if mark >= oldest // MARK - 1}
 
     # the runs
@@ -392,20 +397,13 @@ class Follow:
         fields = row.split(",", 3)
         if not run.is_mine(int(fields[1]), int(fields[2]), self.scenario.subjects):
             return
-        before = self.begins_before(run, row, (int(fields[1]), int(fields[2])), first, last)
+        marks = self.borders.take(start, row) if run.mode == "audit" else ()
         if run.cut and run.closed is not None and last > numbers.settled(start, run.closed, run.mode):
             return                                      # what comes later may still change it
         if last > numbers.last and first < numbers.every + numbers.warm:
             self.tell_long(run, row)
         if numbers.behind < last <= numbers.last or last > numbers.last and self.is_last(run):
-            self.health.rows += self.written.write(row, run.mode, start, numbers.tick, before)
-
-    def begins_before(self, run: StreamRun, row: str, pair: tuple[int, int], first: int, last: int) -> bool:
-        """Returns whether a row's meeting began before its window. Alarms do not say."""
-        if run.mode != "audit":
-            return False
-        following = run.window.start + self.numbers.every * self.numbers.tick
-        return self.beginnings.take(run.window.start, following, row.startswith("meeting,"), pair, first, last)
+            self.health.rows += self.written.write(row, run.mode, start, numbers.tick, marks)
 
     def tell_long(self, run: StreamRun, row: str) -> None:
         """Reports once per run that a row is longer than the overlap."""
@@ -415,7 +413,7 @@ class Follow:
 
     def is_last(self, run: StreamRun) -> bool:
         """Returns whether a run is of the last window of a stream that ended for good."""
-        following = run.window.start + self.numbers.every * self.numbers.tick - self.numbers.gap
+        following = run.window.start + self.numbers.length - self.numbers.gap
         return self.given.whole and run.closed is not None and following > run.closed
 
     def is_early(self, run: StreamRun) -> bool:
@@ -435,17 +433,41 @@ class Follow:
             self.row(*event[1:])
         elif event[0] == "ended":
             self.ended(*event[1:])
-            self.carry(event[1])
-            held, self.held = sorted(self.held, key=lambda entry: entry[0].window.start), []
-            for run, row in held:
-                self.handle(("row", run, row))
+            run = event[1]
+            if run.mode == "audit" and not self.cut and not self.has_audit(run.window.start):
+                self.ending[run.window.start] = run
+            self.hand_on()
             if not self.cut:
                 self.tell_done()
 
-    def carry(self, run: StreamRun) -> None:
-        """Ends a window once its last run has ended: meetings that it saw no end of go on in the next."""
-        if run.mode == "audit" and not any(other.mode == "audit" and other.window is run.window for other in self.runs):
-            self.beginnings.carry(run.window.start, run.window.start + self.numbers.every * self.numbers.tick)
+    def has_audit(self, start: int) -> bool:
+        """Returns whether a run of `audit` over the window that begins at a time has not ended."""
+        return any(run.mode == "audit" and run.window.start == start for run in self.runs)
+
+    def hand_on(self) -> None:
+        """Hands on the rows that waited for windows before them, and ends the windows without a run, in order."""
+        held: dict[int, list[tuple[StreamRun, str]]] = {}
+        for run, row in self.held:
+            held.setdefault(run.window.start, []).append((run, row))
+        self.held = []
+        for start in sorted({*held, *self.ending}):
+            for run, row in held.get(start, []):
+                self.handle(("row", run, row))
+            if start in self.ending and not self.is_early(self.ending[start]):
+                self.end_window(self.ending.pop(start))
+
+    def end_window(self, run: StreamRun) -> None:
+        """Ends a window whose last run has ended: rows of the one before it that continue after that one, and that this
+        window lacks, are written with a mark."""
+        start, following = run.window.start, run.window.start + self.numbers.length
+        self.write_over(start - self.numbers.length, self.borders.end(start))
+        if following not in self.ending and not self.has_audit(following) and not self.is_last(run):
+            self.write_over(start, self.borders.end(following))         # no window follows
+
+    def write_over(self, start: int, rows: list[tuple[str, Marks]]) -> None:
+        """Writes rows of the window that begins at a time that continue after it."""
+        for row, marks in rows:
+            self.health.rows += self.written.write(row, "audit", start, self.numbers.tick, (*marks, AFTER))
 
     # the whole
 
@@ -530,6 +552,18 @@ class Follow:
         """Reports what failed; the stream is followed further."""
         self.faults += 1
         self.say(words)
+
+
+def sights_of(scenario: Scenario) -> dict[str, Sight]:
+    """Returns what the scenario's formulas see, looking back by ticks; those that the program will refuse have none."""
+    found = {}
+    for name, text in scenario.formulas.items():
+        try:
+            sight = sight_of(text)
+        except Fault:
+            continue
+        found[name] = dataclasses.replace(sight, back=scenario.steps(sight.back))
+    return found
 
 
 NAMES = itertools.count()

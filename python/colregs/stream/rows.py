@@ -4,6 +4,7 @@ import json
 import os
 import subprocess
 import sys
+from collections.abc import Iterable
 from typing import Any, Protocol
 
 from colregs.errors import Fault, reason
@@ -12,12 +13,11 @@ from colregs.model.rows import Alarm, Meeting, Verdict, row_of
 from colregs.stream.day_files import day_of, whole_length
 
 
-def as_values(text: str, mode: str, start: int, tick: int, begins_before: bool = False) -> dict[str, Any]:
+def as_values(text: str, mode: str, start: int, tick: int, marks: Iterable[str] = ()) -> dict[str, Any]:
     """Returns a row of the program as a dictionary, with times instead of steps; `row` and `run` are as the program has
     them.
 
-    `begins_before` says that the row's meeting began before the window, so that one run over the whole stream may have
-    another row.
+    `marks` say why one run over the whole stream may have another row (colregs/stream/borders.py).
     """
     row = row_of(text.split(","))
     if not isinstance(row, (Meeting, Verdict, Alarm)):
@@ -35,7 +35,7 @@ def as_values(text: str, mode: str, start: int, tick: int, begins_before: bool =
     else:
         made |= {"rule": row.rule, "value": row.value}
     made |= {"begins": iso(start + row.first * tick), "ends": iso(start + (row.last + 1) * tick)}
-    return made | {"begins_before": True} if begins_before else made
+    return made | {mark: True for mark in marks}
 
 
 def steps_of(text: str) -> tuple[int, int]:
@@ -146,14 +146,14 @@ class Written:
                     row = json.loads(line)
                     self.known.setdefault((row["mode"], row["run"]), set()).add(row["row"])
 
-    def write(self, row: str, mode: str, start: int, tick: int, begins_before: bool = False) -> bool:
+    def write(self, row: str, mode: str, start: int, tick: int, marks: Iterable[str] = ()) -> bool:
         """Writes a row that was not written yet, and returns whether it was not."""
         self.load(start)
         known = self.known.setdefault((mode, start), set())
         if row in known:
             return False
         known.add(row)
-        line = json.dumps(as_values(row, mode, start, tick, begins_before)) + "\n"
+        line = json.dumps(as_values(row, mode, start, tick, marks)) + "\n"
         self.sink.write(line)
         with open(self.path(start), "a", encoding="utf-8") as out:
             out.write(line)
