@@ -26,7 +26,7 @@ from colregs.model.scenario import MOST_SUBJECTS, Scenario
 from colregs.run.limits import next_step
 from colregs.shares.heads import STRADDLE
 from colregs.stream.borders import AFTER, Border, Borders, Marks
-from colregs.stream.day_files import Clock, DayFiles, Mark, MedianClock, lines_of
+from colregs.stream.day_files import Clock, DayFiles, Mark, MedianClock, Timed, lines_of
 from colregs.stream.health import Health
 from colregs.stream.rows import Sink, Written, steps_of
 from colregs.stream.runs import StreamRun, Window
@@ -230,13 +230,19 @@ class Follow:
             line = stamped(line.rstrip(b"\r\n"), int(time.time())) + b"\n" if self.given.now else line
             before = self.clock.time
             now = self.clock.take(line)
-            came, line = line, self.clock.timed(line) if isinstance(self.clock, MedianClock) else line
+            if now is not None and now != before:
+                self.open(again=before is None, place=self.ahead)
+            self.write(self.clock.released(line), taken)
+        self.after(taken)
+
+    def write(self, released: list[Timed], taken: list[bytes]) -> None:
+        """Writes lines to the day files."""
+        for came, line in released:
             self.health.take(came, came != line)
+            now = self.clock.time
             if now is None:
                 continue                                # nobody knows its time yet
             place = self.files.place_for(now)
-            if now != before:
-                self.open(again=before is None, place=self.ahead)
             self.ahead = (self.ahead or place) if self.clock.ahead else None
             if now // MARK not in self.marks:
                 self.marks[now // MARK] = self.fresh[now // MARK] = place
@@ -244,6 +250,9 @@ class Follow:
             self.hear(line)
             self.types.take(line, now)
             taken.append(line)
+
+    def after(self, taken: list[bytes]) -> None:
+        """Does what follows lines that were written: ends windows, takes in new vessels, and stores where it is."""
         self.files.flush()
         self.files.add_marks(self.fresh)
         self.fresh = {}
@@ -531,6 +540,13 @@ class Follow:
     def finish(self) -> None:
         """Ends all runs; if the stream continues some time, only the rows that are settled are written."""
         self.cut = not self.given.whole
+        waiting, left_out = self.clock.last()
+        taken: list[bytes] = []
+        self.write(waiting, taken)
+        if taken:
+            self.after(taken)
+        if left_out:
+            self.say(f"the last {left_out} lines are ahead of the clock of most, and are not used")
         if self.clock.time is not None:
             self.take_in_new(True)
             for run in self.runs:
