@@ -353,6 +353,23 @@ class Limits(Streams):
         self.assertGreater(len(wanted), 200)
         self.assertEqual(sorted(self.rows(out)), sorted(wanted))
 
+    def test_a_window_with_too_many_vessels_is_audited_by_areas(self) -> None:
+        self.write("s.toml", crowd.SCENARIO.replace("watch = 5000", "watch = 900").replace("risk = 500", "risk = 100"))
+        out, error = self.follow("--whole", "--ticks-each", "1200", source=crowd.wide().decode())
+        self.assertIn("more than 4096 vessels in the window from", error)
+        met = [row for row in map(json.loads, out.splitlines()) if row["kind"] == "meeting"]
+        self.assertEqual(sorted((row["subject"], row["other"]) for row in met),
+                         [(200000001 + k, 200000001 + (k ^ 1)) for k in range(4200)])
+
+    def test_a_window_whose_run_fails_has_a_line_that_says_what_is_missing(self) -> None:
+        self.write("s.toml", crowd.SCENARIO.replace("watch = 5000", "watch = 900").replace("risk = 500", "risk = 100"))
+        out, error = self.follow("--whole", "--modes", "watch", "--ticks-each", "1200", source=crowd.wide().decode(),
+                                 status=1)
+        self.assertIn("a run takes 4096 vessels", error)
+        told = [json.loads(line) for line in out.splitlines() if '"missing"' in line]
+        self.assertEqual({(row["kind"], row["mode"], row["ends"] > row["begins"], "vessels" in row["why"])
+                          for row in told}, {("missing", "watch", True, True)})
+
     def test_a_meeting_longer_than_the_overlap_is_told(self) -> None:
         error = self.follow("--whole", "--overlap", "400", "--ticks-each", "40", source="".join(self.lines))[1]
         self.assertIn("longer than the overlap", error)

@@ -18,10 +18,12 @@ from colregs.model.earth import Earth
 from colregs.model.rows import Meeting
 from colregs.model.scenario import Scenario
 from colregs.model.tracks import NONE
+from colregs.stream.borders import AFTER, BEFORE, DOUBT
 from colregs.stream.day_files import lines_of
 from colregs.stream.fleet import About, Fleet, Ship
 from colregs.stream.stretches import FORGOTTEN, Key, StretchBook, about, rows_in
 
+ROWS, MARKS = ("meeting", "verdict"), (BEFORE, AFTER, DOUBT)
 MOST_ROWS = 500                 # settled rows of `audit` that are listed: the latest
 EACH, MOST_PLACES = 30, 60      # s between two places of a track in a snapshot, and how many it has at most
 SECOND = 1.0                    # s of this machine's clock between two looks at the encounters
@@ -56,7 +58,7 @@ class Rows:
         kept = {
             name: row[name]
             for name in ("kind", "subject", "other", "rule", "value", "encounter", "least", "begins", "ends",
-                         "begins_before")
+                         *MARKS)
             if name in row
         }
         value = {"id": self.number, "subject_name": names[0], "other_name": names[1], **kept}
@@ -99,7 +101,7 @@ class State:
                 self.alarms.told(told)
             for day in days:
                 for row in rows_in(f"{self.folder}/{day}.rows"):
-                    if row["mode"] == "audit":
+                    if row["kind"] in ROWS:
                         self.rows.add(row, (str(row["subject"]), str(row["other"])))
 
     def lines(self, lines: list[bytes], clock: int) -> None:
@@ -144,7 +146,7 @@ class State:
             self.rows_taken += 1
             if row["kind"] == "alarm":
                 self.book.take(row)
-            else:
+            elif row["kind"] in ROWS:
                 self.rows.add(row, (self.fleet.name(row["subject"]), self.fleet.name(row["other"])))
 
     def close(self) -> None:

@@ -23,13 +23,14 @@ from colregs.io.sieve import Senders
 from colregs.io.sources import stamped
 from colregs.model.formulas import Sight, sight_of
 from colregs.model.scenario import MOST_SUBJECTS, Scenario
-from colregs.run.limits import next_step
+from colregs.run.limits import STATUS, limit_of, next_step
 from colregs.shares.heads import STRADDLE
+from colregs.stream.areas import AreaRun
 from colregs.stream.borders import AFTER, Border, Borders, Marks
 from colregs.stream.day_files import Clock, DayFiles, Mark, MedianClock, Timed, lines_of
 from colregs.stream.health import Health
 from colregs.stream.rows import Sink, Written, steps_of
-from colregs.stream.runs import StreamRun, Window
+from colregs.stream.runs import StreamRun, Window, WindowRun
 from colregs.stream.sources import Source
 from colregs.stream.types import StreamTypes
 
@@ -47,7 +48,7 @@ class Numbers:
         self.tick, self.every, self.ticks = scenario.tick, every, every + overlap
         self.gap, self.more = scenario.gap, scenario.gap + scenario.slack
         self.length = every * scenario.tick
-        self.warm = scenario.steps(max(scenario.gap, STRADDLE)) + 1     # steps until a window agrees with the one before
+        self.warm = scenario.steps(max(scenario.gap, STRADDLE)) + 1     # until it agrees with the window before
         self.reach, self.last = scenario.reach, scenario.settled(self.ticks)
         self.behind = self.last - every                # the last step that is the window's before
 
@@ -109,12 +110,12 @@ class Follow:
         self.restarts: dict[tuple[int, str, frozenset[int] | None], int] = {}     # of runs that were killed
         self.windows: dict[int, Window] = {}            # those that are open, by their starts
         self.over: set[int] = set()                     # the starts of those that are closed
-        self.runs: set[StreamRun] = set()
-        self.point_runs: set[StreamRun] = set()         # those of them that give points
+        self.runs: set[WindowRun] = set()
+        self.point_runs: set[WindowRun] = set()         # those of them that give points
         self.heard: dict[int, int] = {}                 # when the clock last heard each vessel
         self.events: queue.Queue[tuple[Any, ...]] = queue.Queue()
-        self.held: list[tuple[StreamRun, str]] = []     # rows that wait for those of windows before them
-        self.ending: dict[int, StreamRun] = {}          # by their starts, windows without a run that wait likewise
+        self.held: list[tuple[WindowRun, str]] = []     # rows that wait for those of windows before them
+        self.ending: dict[int, WindowRun] = {}          # by their starts, windows without a run that wait likewise
         self.room = tempfile.TemporaryDirectory()
         self.grouped, self.cut, self.faults = False, False, 0
         self.looked: int | None = None                  # when the clock was at the last look for new vessels
@@ -352,26 +353,40 @@ class Follow:
                 if new:
                     self.split(window, sorted(new))
 
-    def ended(self, run: StreamRun, words: str) -> None:
+    def ended(self, run: WindowRun, words: str) -> None:
         """Takes the end of a run."""
         self.runs.discard(run)
         self.point_runs.discard(run)
-        status = run.child.returncode
+        status = run.status or 0
         if run.mode == "audit" and status == 0:
             self.health.ended(run.window.start, run.counts)
         if status == 7 and "pairs" in words:
             self.split_at_limit(run)
+        elif status == STATUS and limit_of(words) == "vessels" and run.mode == "audit":
+            self.by_areas(run)
         elif status < 0 and self.restarts.get(run.key(), 0) < MOST_RESTARTS:
             self.begin_again(run)
         elif status != 0:
             self.fault(f"a run of `{run.mode}` from {run.window.start} ended with status {status}, "
                        f"{words}{next_step(status, words)}")
+            self.written.lack(run.mode, run.window.start, self.numbers.ticks * self.numbers.tick, words)
 
-    def begin_again(self, run: StreamRun) -> None:
+    def by_areas(self, run: WindowRun) -> None:
+        """Audits a window with too many vessels by areas, once its lines are over."""
+        if any(isinstance(other, AreaRun) and other.window is run.window for other in self.runs):
+            return
+        self.say(f"more than 4096 vessels in the window from {run.window.start}: it is audited by areas when it is "
+                 "over")
+        new = AreaRun(run.window, self.scenario, self.numbers.ticks, self.program, self.files, self.events.put)
+        self.runs.add(new)
+        if run.limit and run.closed is not None:
+            new.end_at(run.limit, run.closed, run.cut)
+
+    def begin_again(self, run: WindowRun) -> None:
         """Begins a run again that was killed, from the day files; the rows that it wrote are not written again."""
         self.restarts[run.key()] = self.restarts.get(run.key(), 0) + 1
         self.health.restarts += 1
-        self.say(f"a run of `{run.mode}` from {run.window.start} was killed by signal {-run.child.returncode}, and "
+        self.say(f"a run of `{run.mode}` from {run.window.start} was killed by signal {-(run.status or 0)}, and "
                  "begins again from the day files")
         before = set(self.runs)
         self.begin(run.window, run.mode, run.group)
@@ -379,7 +394,7 @@ class Follow:
             for new in self.runs - before:
                 new.end_at(run.limit, run.closed, run.cut)
 
-    def split_at_limit(self, run: StreamRun) -> None:
+    def split_at_limit(self, run: WindowRun) -> None:
         """Splits a run with too many pairs into runs of groups, and a group into two."""
         vessels = sorted(run.group or self.vessels(run.window))
         if len(vessels) < 2:
@@ -399,7 +414,7 @@ class Follow:
 
     # the rows
 
-    def row(self, run: StreamRun, row: str) -> None:
+    def row(self, run: WindowRun, row: str) -> None:
         """Writes a row if it is of its window's own steps, and settled."""
         numbers, start = self.numbers, run.window.start
         first, last = steps_of(row)
@@ -414,18 +429,18 @@ class Follow:
         if numbers.behind < last <= numbers.last or last > numbers.last and self.is_last(run):
             self.health.rows += self.written.write(row, run.mode, start, numbers.tick, marks)
 
-    def tell_long(self, run: StreamRun, row: str) -> None:
+    def tell_long(self, run: WindowRun, row: str) -> None:
         """Reports once per run that a row is longer than the overlap."""
         if run.note_long():
             self.say(f"a row of the window from {run.window.start} is longer than the overlap, so the next window "
                      f"reports it otherwise: {row}")
 
-    def is_last(self, run: StreamRun) -> bool:
+    def is_last(self, run: WindowRun) -> bool:
         """Returns whether a run is of the last window of a stream that ended for good."""
         following = run.window.start + self.numbers.length - self.numbers.gap
         return self.given.whole and run.closed is not None and following > run.closed
 
-    def is_early(self, run: StreamRun) -> bool:
+    def is_early(self, run: WindowRun) -> bool:
         """Returns whether a window before this run's is not done: its rows come first, and none that comes later delays
         them. So do its points, since a listener ignores points that are older than those that it has."""
         same = self.point_runs if run.mode == POINTS else self.runs
@@ -455,7 +470,7 @@ class Follow:
 
     def hand_on(self) -> None:
         """Hands on the rows that waited for windows before them, and ends the windows without a run, in order."""
-        held: dict[int, list[tuple[StreamRun, str]]] = {}
+        held: dict[int, list[tuple[WindowRun, str]]] = {}
         for run, row in self.held:
             held.setdefault(run.window.start, []).append((run, row))
         self.held = []
@@ -465,7 +480,7 @@ class Follow:
             if start in self.ending and not self.is_early(self.ending[start]):
                 self.end_window(self.ending.pop(start))
 
-    def end_window(self, run: StreamRun) -> None:
+    def end_window(self, run: WindowRun) -> None:
         """Ends a window whose last run has ended: rows of the one before it that continue after that one, and that this
         window lacks, are written with a mark."""
         start, following = run.window.start, run.window.start + self.numbers.length

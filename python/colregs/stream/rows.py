@@ -46,6 +46,9 @@ def steps_of(text: str) -> tuple[int, int]:
     return int(fields[at]), int(fields[at + 1])
 
 
+MISSING = "missing"              # the kind of a line that says that a window has no rows, or not all
+
+
 class Sink(Protocol):
     """Where rows go."""
 
@@ -153,11 +156,24 @@ class Written:
         if row in known:
             return False
         known.add(row)
-        line = json.dumps(as_values(row, mode, start, tick, marks)) + "\n"
+        self.put(as_values(row, mode, start, tick, marks), start)
+        return True
+
+    def lack(self, mode: str, start: int, seconds: int, why: str) -> None:
+        """Writes once that rows of a window may be missing."""
+        self.load(start)
+        known = self.known.setdefault((mode, start), set())
+        if MISSING not in known:
+            known.add(MISSING)
+            self.put({"mode": mode, "run": start, "row": MISSING, "kind": MISSING, "begins": iso(start),
+                      "ends": iso(start + seconds), "why": why}, start)
+
+    def put(self, told: dict[str, Any], start: int) -> None:
+        """Writes a line of a window."""
+        line = json.dumps(told) + "\n"
         self.sink.write(line)
         with open(self.path(start), "a", encoding="utf-8") as out:
             out.write(line)
-        return True
 
     def forget(self, before: int) -> None:
         """Forgets the windows that began before a time."""

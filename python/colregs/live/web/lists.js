@@ -54,7 +54,8 @@ function rowEntry(row, settings) {
     : [element("span", { class: "chip" }, row.encounter.replace("_", " "))];
   return element("li", { tabindex: 0, "data-id": row.id }, element("div", { class: "head" }, ...head, `${row.subject_name} \u2192 ${row.other_name}`),
     element("div", { class: "figures quiet" }, `${row.begins.replace("T", " ").replace("Z", "")} to ${row.ends.slice(11, 19)} UTC${
-      row.least === undefined ? "" : `; least ${distance(row.least)}`}${row.begins_before ? "; began before its window" : ""}`));
+      row.least === undefined ? "" : `; least ${distance(row.least)}`}${row.begins_before ? "; began before its window" : ""}${
+      row.ends_after ? "; its end is not known" : ""}${row.doubt ? "; doubtful" : ""}`));
 }
 
 function vesselEntry(vessel, clock) {
