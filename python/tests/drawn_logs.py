@@ -275,12 +275,13 @@ class Results:
         self.of, self.program = scenario, program
         self.texts: dict[tuple[int, ...], str] = {}             # scenarios by their subjects
         self.lines: dict[tuple[str, ...], list[bytes]] = {}     # lines by the names of their files
+        self.shares: dict[tuple[Any, ...], tuple[bytes, bytes]] = {}
 
-    def run(self, mode: str, job: Job, log: bytes, folder: str) -> bytes:
+    def run(self, mode: str, job: Job, log: bytes) -> bytes:
         key = tuple(job.subjects or ())
         if key not in self.texts:
             self.texts[key] = self.of.with_subjects(job.subjects)
-        with open(os.path.join(folder, "share.toml"), "w", encoding="utf-8") as out:
+        with open(os.path.join(os.path.dirname(self.of.path), "share.toml"), "w", encoding="utf-8") as out:
             out.write(self.texts[key])
         done = subprocess.run([self.program, mode, out.name, *job.options()], input=log, capture_output=True)
         if done.returncode:
@@ -295,19 +296,26 @@ class Results:
             raise AssertionError(f"{job.words()}: its log by blocks is another")
 
     def result(self, job: Job) -> str:
-        """Returns the result of a job."""
-        folder, cut = os.path.dirname(self.of.path), job.cut(self.of)
+        """Returns the result of a job. Groups of subjects of one share have the same log and the same checks."""
+        key = (job.start, job.ticks, *job.files, *(job.vessels or [None]))
+        if key not in self.shares:
+            self.shares[key] = self.share(job)
+        log, checks = self.shares[key]
+        return (self.run("audit", job, log) + checks).decode()
+
+    def share(self, job: Job) -> tuple[bytes, bytes]:
+        """Returns the log of a job, and the rows that the join needs besides its report."""
+        cut = job.cut(self.of)
         if tuple(job.files) not in self.lines:
             self.lines[tuple(job.files)] = read_lines(job.files)
         lines = self.lines[tuple(job.files)]
         log = b"".join(cutter.share_lines(lines, cut) if cut else lines)
         if cut and job.reads is not None and job.start // TICK % 2:
             self.check_reads(job, cut, log)
-        text = self.run("audit", job, log, folder)
-        if job.is_part(self.of):
-            points = self.run("points", job, log, folder).splitlines(True)
-            text += b"".join(seen.rows_to_keep(points, [(first, last) for first, last in job.heads]))
-        return text.decode()
+        if not job.is_part(self.of):
+            return log, b""
+        points = self.run("points", job, log).splitlines(True)
+        return log, b"".join(seen.rows_to_keep(points, [(first, last) for first, last in job.heads]))
 
 
 def write_cut(files: list[str], cut: cutter.Cut, folder: str, target: str, words: str,

@@ -19,6 +19,8 @@ from colregs.io import sentences
 from colregs.io.sieve import Senders
 from colregs.io.tag_blocks import stamp
 from colregs.model.earth import iso
+from colregs.model.formulas import sight_of
+from colregs.stream.borders import Borders
 from colregs.stream.day_files import ACTIVE, LEAP, SURE, Clock, DayFiles, MedianClock
 from colregs.stream.health import Health
 from colregs.stream.rows import steps_of
@@ -436,6 +438,28 @@ class Parts(InFolder):
                 clock.take(sentences.block(at))
                 clock.released(sentences.block(at))
         self.assertEqual(clock.last(), ([(sentences.block(101), sentences.block(101))], 3))
+
+    def test_windows_are_compared_where_the_own_steps_of_the_earlier_one_end(self) -> None:
+        # windows of 200 ticks, 100 apart: step 180 of the first, its last own one, is step 80 of the second
+        said: list[str] = []
+        borders = Borders(180, 120, 100, 1000, {"own": sight_of("seen")}, said.append)
+        first = ("verdict,1,2,own,broken,5,90", "meeting,1,2,head_on,150,190,5", "meeting,3,4,passing,150,190,5",
+                 "meeting,5,6,passing,100,185,5", "meeting,7,8,passing,130,170,5")
+        self.assertEqual([borders.take(0, row) for row in first], [()] * 5)
+        self.assertEqual(borders.end(0), [])
+        told = json.loads(json.dumps(borders.stored()))
+        for row, marks in (("meeting,1,2,head_on,50,95,5", ()),             # begins alike
+                           ("meeting,5,6,passing,20,96,5", ("begins_before",)),
+                           ("verdict,1,2,own,broken,93,97", ("doubt",)),    # as `seen` is of all times
+                           ("verdict,7,8,r8d,broken,94,98", ("doubt",)),    # the meeting before is not there
+                           ("verdict,9,10,r8d,broken,79,99", ("begins_before",)),
+                           ("verdict,9,10,r8d,broken,81,99", ())):
+            self.assertEqual(borders.take(1000, row), marks, row)
+        self.assertEqual(borders.end(1000), [("meeting,3,4,passing,150,190,5", ())])
+        self.assertEqual([line.split(" differ about ")[1].split(",")[0] for line in said], ["7 and 8"])
+        again = Borders(180, 120, 100, 1000, {}, said.append)
+        again.load(told)
+        self.assertEqual(len(again.end(1000)), 3)
 
     def test_a_line_that_was_cut_off_is_not_gone_on_with(self) -> None:
         files = DayFiles(self.folder)

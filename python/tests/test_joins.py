@@ -6,14 +6,12 @@ import io
 import json
 import math
 import os
-import tempfile
 import unittest
 import unittest.mock
 from collections.abc import Iterable, Iterator
 from typing import Any
 
 import crowd
-import drawn_logs
 from drawn_logs import METRE, START, in_parts, scenario_text, stamped, voyage
 from given import InFolder, PROGRAM, text_of, with_program
 from colregs.io import sentences
@@ -27,7 +25,6 @@ from colregs.shares.reads import COPY, LINES, SEEK, SKIP, Read, Window, read_of,
 from colregs.shares.spans import Believed, Block, Span, believed, read_span
 
 Row = tuple[float, bytes]
-NUMBERS = range(9000, 9036)         # drawn logs that run here; `drawn_logs.py PROGRAM --count 20000` runs more
 YACHT, CARGO, EAST, NORTH = 200000001, 200000002, 200000003, 200000004
 SCENARIO = scenario_text(2160)
 RANKS = SCENARIO + "ranks = 1\n"
@@ -165,12 +162,6 @@ class Windows(Joins):
         self.write("late.toml", SCENARIO.replace(f"start = {START}", f"start = {START + 7200}"))
         self.assertIn("lines are before the start and are not audited",
                       self.many("plan", "late.toml", "log.gz", "--ticks-each", "360")[2])
-
-    def test_drawn_logs_are_those_of_one_run_or_refused_or_marked(self) -> None:
-        for number in NUMBERS:
-            with tempfile.TemporaryDirectory() as folder, unittest.mock.patch("sys.stderr", io.StringIO()):
-                outcome = drawn_logs.tried(number, PROGRAM, folder)
-            self.assertEqual(outcome.faults, [], f"drawn log {number}")
 
 
 class Plans(Joins):
