@@ -4,8 +4,8 @@ PROGRAM [--speed N] [--hours N]
 
 The day is the first of months.py. Its lines are written to colregs-follow at the pace of their stamps, N times as fast.
 Every row without a mark has to be one of the run over the whole day, and each row of that run that the stream lacks has
-to belong to a pair with a marked row whose time it meets. Rows have what came of the rows,
-the CPU seconds and the peak memory of the tool and its children. The exit status is 1 if a row differs.
+to belong to a pair with a marked row whose time it meets. Rows have what came of the rows, the CPU seconds and the peak
+memory of the tool and its children. The exit status is 1 if a row differs.
 """
 import argparse
 import gzip

@@ -3,7 +3,8 @@
 The stream is standard input, a file that grows, or what a command writes, as `socat -u UDP-RECV:10110 STDOUT` or
 `gpspipe -r` with --now, which gives bare sentences their times. Its lines are stored in DIR, one file per day, and the
 rows beside them; a restart continues from these. Windows are the scenario's except for start and ticks. A window with
-more than 4096 pairs is split by subjects. docs/TRAFFIC_SERVICE.md describes the whole.
+more than 4096 pairs is split by subjects, one with more than 4096 vessels by area. docs/TRAFFIC_SERVICE.md describes
+the whole.
 
 Exit status: 0 if the stream ended, or a signal arrived; 1 if something failed; 2 if the command line is wrong.
 """

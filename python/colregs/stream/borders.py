@@ -153,8 +153,8 @@ class Borders:
     # the ends of windows
 
     def end(self, start: int) -> list[tuple[str, Marks]]:
-        """Ends a window; returns the rows of the one before it that continue after the border, and of which this window
-        has no part. A pair stays open if none of its meetings ended."""
+        """Ends a window; returns the rows of the one before it that continue after the border and that this window lacks.
+        A pair stays open if none of its meetings ended."""
         border, following = self.at(start), self.at(start + self.length)
         for pair in sorted({*border.earlier, *border.own}):
             self.compare(start, border, pair)

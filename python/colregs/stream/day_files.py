@@ -20,6 +20,7 @@ Mark = tuple[str, int]           # a place in the day files: a day, and bytes fr
 MARK = re.compile(r"\d+ \d+\n")
 LEAP, SURE = 3600, 10            # s: a time so far ahead counts once so many lines in a row have such
 LEAST_STATIONS, ACTIVE = 3, 100  # stations with names whose clocks are compared, and lines in which a station is heard
+MOST_OFFSETS = 1000              # stations whose lead is known
 RECENT, AHEAD = 21, 300          # otherwise lines that are compared, and s that a stamp may lie ahead of their middle
 
 
@@ -142,6 +143,8 @@ class MedianClock:
             return one.line, one.line
         at = one.time if one.leaps == self.leaps else self.time
         self.offsets[station_of(one.line)] = one.at - at
+        if len(self.offsets) > MOST_OFFSETS:
+            del self.offsets[next(iter(self.offsets))]
         try:
             _, more, rest = blocks(one.line)
         except Unsure:
