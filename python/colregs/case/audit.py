@@ -8,7 +8,7 @@ import concurrent.futures
 import json
 import os
 import tempfile
-from collections.abc import Iterable
+from collections.abc import Iterable, Iterator
 from dataclasses import dataclass, field
 from typing import Any
 
@@ -17,6 +17,7 @@ from colregs.case.progress import Bar
 from colregs.errors import Fault, reason
 from colregs.model.reports import Case
 from colregs.model.scenario import MOST_SUBJECTS, MOST_TICKS, Scenario
+from colregs.model.summaries import count
 from colregs.run.limits import STATUS, next_step
 from colregs.run.program import Run, window_options
 from colregs.shares import join, plans, runs
@@ -58,6 +59,18 @@ class Audited:
     left_out: int = 0
     marked: int = 0
     doubts: list[str] = field(default_factory=list)
+
+    def words(self) -> Iterator[str]:
+        """Yields what was audited by shares, and what was left out because vessels lie still."""
+        if self.left_out:
+            yield (f"Left out: {count(self.left_out, 'pair')} of the {count(self.still, 'vessel')} that never make "
+                   "half a knot in the window. --all audits them too.")
+        if self.shares:
+            yield (f"The audit was made by {count(self.shares, 'run')} over shares of the pairs, and joined to one "
+                   f"report ({JOBS}); it has no totals of positions.")
+        if self.marked:
+            yield (f"{count(self.marked, 'row')} of the report may differ from those of one run, because no window "
+                   "has them whole: they are marked `cut` or `doubt` in report.csv.")
 
 
 @dataclass
@@ -156,9 +169,9 @@ def windows(place: Place, case: Case) -> list[dict[str, Any]]:
     log, scenario = [place.path(place.log)], Scenario(place.path(place.scenario))
     if len(case.tracks) <= MOST_VESSELS:
         return list(plans.plan(log, plans.Wanted(case.start, case.steps), scenario, None))
-    for count in TILES:
+    for across in TILES:
         found = list(
-            plans.plan(log, plans.Wanted(case.start, case.steps, group=MOST_SUBJECTS, tiles=(count, count)), scenario,
+            plans.plan(log, plans.Wanted(case.start, case.steps, group=MOST_SUBJECTS, tiles=(across, across)), scenario,
                        place.program))
         tiles = {json.dumps([told["start"], told["tile"]]): told for told in found}
         if max(len(told["vessels"]) for told in tiles.values()) <= MOST_VESSELS:
