@@ -209,7 +209,7 @@ class Times(Cases):
         then no packet."""
         for head in ("d4c3b2a1", "a1b2c3d4", "4d3cb2a1", "a1b23c4d", "0a0d0d0a"):
             self.write("passing.log", bytes.fromhex(head) + bytes(20) + passing.log().encode())
-            self.assertRegex(self.make(status=1)[2], "no sentence and no row was read. passing.log: 0 lines, packed by "
+            self.assertRegex(self.make(status=1)[2], "no sentence and no row was read. passing.log: no lines, packed by "
                                                      "a capture")
 
     def test_dates_in_the_future_are_a_doubt(self) -> None:

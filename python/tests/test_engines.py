@@ -92,7 +92,7 @@ class Parallel(Engines):
     def test_a_job_that_fails_is_counted(self) -> None:
         self.write("s.toml", crowd.harbour().replace("ticks = 198 ", "ticks = 198000 "))
         self.plan("--ticks", "100")
-        self.assertIn("1 jobs: 0 were kept before, 0 ran, 1 failed", self.many("jobs", "--parallel", status=1)[2])
+        self.assertIn("1 job: 0 were kept before, 0 ran, 1 failed", self.many("jobs", "--parallel", status=1)[2])
 
 
 CONFIGURATION = """ClusterName=test

@@ -21,7 +21,7 @@ from colregs.model import keys
 from colregs.model.reports import Case
 from colregs.model.rows import Verdict, row_of
 from colregs.model.scenario import Scenario, values_of
-from colregs.model.summaries import count
+from colregs.words import count
 
 TABLES = ("detect", "act", "rules")             # a number elsewhere changes what is read
 SPEC = re.compile(r"([a-z0-9_.]+)=(?:(-?\d+)\.\.(-?\d+):(\d+)|(-?\d+(?:,-?\d+)*))")
