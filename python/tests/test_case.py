@@ -188,7 +188,9 @@ class Parts(Cases):
     def test_what_cannot_be_asked_is_named(self) -> None:
         for words, status, told in ((["--from", "23:00", "--to", "22:59:00"], 1, "no vessel has a position|no time "
                                      "lies between"), (["--from", "noon"], 1, "`noon` is no time"),
-                                    (["--vessel", "NOBODY"], 1, "no vessel of the log has this name"), ([
+                                    (["--vessel", "NOBODY"], 1, "no vessel of the log has this name"),
+                                    (["--vessel", "299999999"], 1, "299999999, which --vessel asks for, has no position "
+                                     "in the window"), ([
                                         "--from", "22:15", "--start", "1700000000"
                                     ], 2, "go without")):
             with self.subTest(words):

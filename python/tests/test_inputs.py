@@ -246,6 +246,7 @@ class Clocks(Logs):
                                  "sets it right"])
         found, out = self.made(self.log(25), align=True)
         self.assertEqual(clocks.ahead(self.path("out")), [])
+        self.assertEqual((found.first, found.last), (AT, AT + 390))
         self.assertEqual(sorted(int(line[3:13]) for line in out.splitlines()),
                          sorted(2 * [AT + 10 * k for k in range(40)]))
 

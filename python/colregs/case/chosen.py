@@ -2,6 +2,7 @@
 that are asked for."""
 import argparse
 import os
+from collections.abc import Container
 from dataclasses import dataclass, field
 
 from colregs.case.folder import LOG, SCENARIO, Folder
@@ -18,10 +19,12 @@ GUESSED = ("The scenario was guessed from the log. Its window and place fit the 
 
 @dataclass
 class Chosen:
-    """The window, if it is not the scenario's, and in words the reasons, what was left out and what is doubtful."""
+    """The window, if it is not the scenario's, the vessels that are asked for, and in words the reasons, what was left
+    out and what is doubtful."""
 
     start: int | None
     ticks: int | None
+    subjects: list[int] = field(default_factory=list)
     reasons: list[str] = field(default_factory=list)
     cuts: list[str] = field(default_factory=list)
     doubts: list[str] = field(default_factory=list)
@@ -52,11 +55,20 @@ def choose(given: argparse.Namespace, folder: Folder, program: str) -> Chosen:
 def write_scenario(text: str, asked: guess.Asked, folder: Folder, program: str, found: Chosen) -> None:
     """Writes the scenario, with the vessels that are asked for as its subjects."""
     if asked.vessels:
-        subjects = guess.named(folder.path(LOG), program, asked.vessels)
-        text = guess.with_subjects(text, subjects)
-        found.reasons.append(f"Pairs without {' or '.join(map(str, subjects))} were left out, as --vessel asks")
+        found.subjects = guess.named(folder.path(LOG), program, asked.vessels)
+        text = guess.with_subjects(text, found.subjects)
+        found.reasons.append(f"Pairs without {' or '.join(map(str, found.subjects))} were left out, as --vessel asks")
         found.cuts.append(f"As asked, only pairs with {' or '.join(asked.vessels)} were audited.")
     folder.write(SCENARIO, [text])
+
+
+def absent_words(found: Chosen, seen: Container[int]) -> list[str]:
+    """Returns in words which vessels that are asked for have no position in the window; raises a Fault if none has."""
+    absent = [mmsi for mmsi in found.subjects if mmsi not in seen]
+    words = [f"{mmsi}, which --vessel asks for, has no position in the window" for mmsi in absent]
+    if absent and len(absent) == len(found.subjects):
+        raise Fault("; ".join(words))
+    return [line + "." for line in words]
 
 
 def choose_window(name: str, asked: guess.Asked, folder: Folder, found: Chosen) -> None:

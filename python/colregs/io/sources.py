@@ -517,6 +517,7 @@ def compare_clocks(out: str, gathered: Gathered, is_aligned: bool) -> None:
     if found and is_aligned:
         clocks.align(out, {each.name: each.seconds for each in found})
         sort(out)
+        gathered.first, gathered.last = clocks.ends(out)
     gathered.notes += [
         f"{clocks.words(each)}{', and was set right' if is_aligned else ': --align sets it right'}" for each in found
     ]

@@ -6,7 +6,7 @@ import platform
 from typing import Any
 
 from colregs.case import audit, sweep
-from colregs.case.chosen import choose
+from colregs.case.chosen import absent_words, choose
 from colregs.case.commands import case_command, report_commands
 from colregs.case.folder import (ABOUT, DATABASE, LOG, MAP, PAGE, POINTS, REPORT, SCENARIO, SWEEP, Folder, Sums,
                                  new_folder)
@@ -54,6 +54,7 @@ class Making:
         case = Case(self.folder.path(SCENARIO), points, start=self.chosen.start, ticks=self.chosen.ticks)
         if not case.tracks:
             raise Fault(" ".join(summaries.summary(case, self.logs.gathered)))
+        self.chosen.doubts += absent_words(self.chosen, case.tracks)
         audited = audit.audit(self.place, case, self.given.all)
         self.folder.write(REPORT, [audited.text])
         case.joined |= audited.shares > 0
