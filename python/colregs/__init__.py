@@ -2,8 +2,11 @@
 
 `colregs.report("plan", scenario, log)` gives a report with typed rows.
 """
-from colregs.library import Options, Report, report
-from colregs.model.rows import Alarm, Meeting, PlanLeg, Point, Reason, Total, Verdict, Vessel
+import sys
+
+if sys.version_info >= (3, 11):         # an older Python gets as far as `colregs.start`, which says what is needed
+    from colregs.library import Options, Report, report
+    from colregs.model.rows import Alarm, Meeting, PlanLeg, Point, Reason, Total, Verdict, Vessel
 
 VERSION = "0.1.0"
 

@@ -186,11 +186,13 @@ class Parts(Cases):
             self.assertRegex(self.make("--area=" + area, status=1)[2], told)
 
     def test_what_cannot_be_asked_is_named(self) -> None:
-        for words, status, told in ((["--from", "23:00", "--to", "22:59:00"], 1, "no vessel has a position|no time "
-                                     "lies between"), (["--from", "noon"], 1, "`noon` is no time"),
-                                    (["--vessel", "NOBODY"], 1, "no vessel of the log has this name"), ([
-                                        "--from", "22:15", "--start", "1700000000"
-                                    ], 2, "go without")):
+        for words, status, told in (
+            (["--from", "23:00", "--to", "22:59:00"], 1, "no vessel has a position|no time lies between"),
+            (["--from", "noon"], 1, "`noon` is no time"),
+            (["--vessel", "NOBODY"], 1, "no vessel of the log has this name"),
+            (["--vessel", "299999999"], 1, "299999999, which --vessel asks for, has no position in the window"),
+            (["--from", "22:15", "--start", "1700000000"], 2, "go without")
+        ):
             with self.subTest(words):
                 self.assertRegex(self.make(*words, status=status)[2], told)
 
@@ -209,8 +211,8 @@ class Times(Cases):
         then no packet."""
         for head in ("d4c3b2a1", "a1b2c3d4", "4d3cb2a1", "a1b23c4d", "0a0d0d0a"):
             self.write("passing.log", bytes.fromhex(head) + bytes(20) + passing.log().encode())
-            self.assertRegex(self.make(status=1)[2], "no sentence and no row was read. passing.log: 0 lines, packed by "
-                                                     "a capture")
+            self.assertRegex(self.make(status=1)[2], "no sentence and no row was read. passing.log: no lines, packed "
+                                                     "by a capture")
 
     def test_dates_in_the_future_are_a_doubt(self) -> None:
         """4000000000 s are 2 October 2096, 07:06:40 UTC."""

@@ -14,7 +14,7 @@ from typing import Any
 
 import crowd
 import test_shares
-from given import LONGEST, PROGRAM, TOOLS, needs, text_of, with_program
+from given import HANGS, PROGRAM, TOOLS, needs, text_of, with_program
 from colregs.shares.engines import Limits, limits_of, ranges
 from colregs.shares.jobs import Need
 
@@ -51,12 +51,12 @@ def is_alive(process: int) -> bool:
 
 class Engines(test_shares.Shares):
     def until(self, done: Callable[[], bool], what: str) -> None:
-        end = time.monotonic() + LONGEST
+        end = time.monotonic() + HANGS
         while time.monotonic() < end:
             if done():
                 return
             time.sleep(0.1)
-        self.fail(f"not in {LONGEST} s: {what}")
+        self.fail(f"not in {HANGS} s: {what}")
 
     def results(self) -> int:
         folder = self.path("jobs.kept")
@@ -91,7 +91,7 @@ class Parallel(Engines):
     def test_a_job_that_fails_is_counted(self) -> None:
         self.write("s.toml", crowd.harbour().replace("ticks = 198 ", "ticks = 198000 "))
         self.plan("--ticks", "100")
-        self.assertIn("1 jobs: 0 were kept before, 0 ran, 1 failed", self.many("jobs", "--parallel", status=1)[2])
+        self.assertIn("1 job: 0 were kept before, 0 ran, 1 failed", self.many("jobs", "--parallel", status=1)[2])
 
 
 CONFIGURATION = """ClusterName=test
@@ -264,7 +264,7 @@ class Dask(Engines):
         _, process, tool = map(int, ("0 " + text_of(self.path("first"))).split()[-3:])
         workers[parent_of(tool)].kill()
         os.kill(tool, signal.SIGKILL)
-        self.assertIn(b"5 jobs: 0 were kept before, 5 ran, 0 failed", run.communicate(timeout=LONGEST)[1])
+        self.assertIn(b"5 jobs: 0 were kept before, 5 ran, 0 failed", run.communicate(timeout=HANGS)[1])
         self.until(lambda: not is_alive(process), "the end of the program with its tool")
         self.joined_is_whole()
 
@@ -272,7 +272,7 @@ class Dask(Engines):
         self.plan("--ticks-each", "1000")
         words = ["jobs", "--dask", f"tcp://127.0.0.1:{free_port()}", "--program", PROGRAM]
         done = subprocess.run([PYTHON, os.path.join(TOOLS, "colregs-many"), *words], cwd=self.folder,
-                              capture_output=True, timeout=LONGEST)
+                              capture_output=True, timeout=HANGS)
         self.assertEqual(done.returncode, 1)
         self.assertIn(b"does not answer", done.stderr)
 
@@ -291,7 +291,7 @@ class Ends(Engines):
         self.addCleanup(run.kill)
         self.until(lambda: os.path.exists(self.path("first")), "the first job")
         run.send_signal(number)
-        said = run.communicate(timeout=LONGEST)[1]
+        said = run.communicate(timeout=HANGS)[1]
         return run.returncode, int(text_of(self.path("first")).split()[-2]), said
 
     def folders(self) -> list[str]:

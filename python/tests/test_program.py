@@ -3,7 +3,7 @@ import os
 import subprocess
 import sys
 
-from given import HERE, LONGEST, InFolder
+from given import HANGS, HERE, InFolder
 from colregs.errors import Fault
 from colregs.run import program
 
@@ -21,7 +21,7 @@ class Found(InFolder):
         """Asks a Python in the folder of evidence for the program, with this PATH."""
         environment = {"PATH": path, "PYTHONPATH": os.path.dirname(HERE), "PYTHONDONTWRITEBYTECODE": "1"}
         return subprocess.run([sys.executable, *(words or ("-P", "-c", ASK))], cwd=self.path("evidence"),
-                              env=environment, capture_output=True, text=True, timeout=LONGEST)
+                              env=environment, capture_output=True, text=True, timeout=HANGS)
 
     def test_one_in_the_current_folder_is_not_run(self) -> None:
         for path in ("/none", ".", "", ":/none", "./", "../evidence"):

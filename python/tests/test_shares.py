@@ -162,7 +162,7 @@ class KeptResults(Shares):
             if change == "log.gz":
                 self.assertIn("log.gz changed after the jobs were planned: plan again", self.many("jobs", status=1)[2])
                 self.plan("--ticks-each", "1000")
-            self.assertIn(f"1 jobs: {kept} were kept before", self.many("jobs")[2])
+            self.assertIn(f"1 job: {kept} were kept before", self.many("jobs")[2])
 
     def test_what_goes_wrong_is_told(self) -> None:
         self.write("wrong.toml", crowd.harbour().replace("ticks = 198 ", "ticks = 0 "))

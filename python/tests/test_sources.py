@@ -267,7 +267,7 @@ class Blocks(Sources):
 
     def test_a_clock_that_was_not_set_is_told(self) -> None:
         log = "\n".join(f"{1700000000 + 10 * k} {S}" for k in range(2000)) + "\n1000000000 " + T
-        self.assertIn("1 sentences have times more than a day off nearly all others, as 2001-09-09",
+        self.assertIn("1 sentence has a time more than a day off nearly all others, as 2001-09-09",
                       "".join(self.gathered(log)[0].notes))
         self.assertEqual(self.gathered(f"1700000000 {S}\n1700090000 {T}")[0].notes, [])
 

@@ -18,11 +18,11 @@ import sys
 from collections.abc import Sequence
 from typing import NoReturn
 
+from colregs.case.folder import reports_in
 from colregs.cli.arguments import add_program, add_window, parser_of
 from colregs.errors import DONE, end
 from colregs.io.files import read_text
 from colregs.model.reports import Case
-from colregs.page import folder
 from colregs.page.maps import geojson
 from colregs.run.program import found, report_of, window_options
 
@@ -41,7 +41,7 @@ def parser() -> argparse.ArgumentParser:
 def case_of(given: argparse.Namespace) -> Case:
     """Returns the case of a folder, of a run, or of reports."""
     if os.path.isdir(given.scenario):
-        return Case(*folder.reports_in(given.scenario))
+        return Case(*reports_in(given.scenario))
     if given.log:
         program, options = found(given.program), window_options(given.start, given.ticks)
         texts = [report_of(program, mode, given.scenario, given.log, options=options) for mode in ("points", "audit")]

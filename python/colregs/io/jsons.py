@@ -97,6 +97,10 @@ class Objects:
                 return self.aisstream(held)
             if "MMSI" in held and "LATITUDE" in held:
                 return self.hub(held)
+            if "ERROR" in held and "FORMAT" in held:
+                if held["ERROR"] is False:
+                    return Held("AISHub's answer", aside=True)
+                return Held(f"AISHub's error: {held.get('ERROR_MESSAGE', '')}")
         except (ValueError, TypeError, KeyError, AttributeError, OverflowError, Unsure, RowFault):
             return Held("JSON with a field that is not what it should be")
         return Held("JSON of gpsd that is no report" if "class" in held else "JSON without a sentence", aside="class"
