@@ -31,6 +31,7 @@ class Item:
     settled: AlarmStretch | None = None
     expected: Span | None = None            # as the last answer has it
     expected_at: int | None = None          # when an answer had it first
+    confirmed_at: int = 0                   # when an answer had it last
     settled_at: int | None = None
     withdrawn_at: int | None = None
     over: bool = False
@@ -123,15 +124,15 @@ class Alarms:
 
     # what is preliminary
 
-    def answer(self, spans: Mapping[Key, list[Span]], settled_to: int) -> None:
+    def answer(self, spans: Mapping[Key, list[Span]], settled_to: int, is_whole: bool = True) -> None:
         """Takes the broken stretches of an answer. Alarms before `settled_to` are settled: there the answer adds no
-        item."""
+        item. Only an answer about all pairs withdraws the items that it does not have."""
         confirmed: set[str] = set()
         for key, own in spans.items():
             for first, last in own:
                 if last > settled_to or self.matched(key, first, last, lambda item: item.id in self.lasting):
                     confirmed.add(self.expect(key, first, last).id)
-        for item in [self.items[name] for name in self.lasting if name not in confirmed]:
+        for item in [self.items[name] for name in self.lasting if is_whole and name not in confirmed]:
             self.doubt(item)
 
     def expect(self, key: Key, first: int, last: int) -> Item:
@@ -139,6 +140,7 @@ class Alarms:
         item = self.matched(key, first, last, lambda item: item.id in self.lasting or item.state == WITHDRAWN)
         if item is None:
             item = self.new(key, first, last)
+        item.confirmed_at = self.clock
         if item.expected_at is None:
             item.expected_at = self.clock
             if item.settled is None:
@@ -208,13 +210,15 @@ class Alarms:
             self.delays[state][1] += 1
 
     def pass_time(self, clock: int) -> None:
-        """Ends the items that can no longer grow, and removes old ones."""
+        """Ends the items that can no longer grow, withdraws those that can no longer settle, and removes old ones."""
         self.clock = clock
         for item in [self.items[name] for name in self.lasting]:
             if item.settled and self.stretches.is_over(item.settled, clock):
                 item.over, item.expected = True, None
                 item.fit()
                 self.touch(item)
+            elif item.settled is None and clock > max(item.last, item.confirmed_at) + self.stretches.wait:
+                self.doubt(item)
         for item in list(self.old(clock)):
             self.drop(item)
 

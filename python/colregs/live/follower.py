@@ -84,7 +84,7 @@ class LiveFollow(Follow):
     def look(self) -> None:
         """Notes where the stream is."""
         if self.clock.time is not None and self.files.out is not None:
-            vessels = tuple(sorted(self.scenario.subjects or self.heard)) if self.grouped else ()
+            vessels = tuple(sorted(self.scenario.subjects or self.heard))
             self.view = View(self.clock.time, self.files.place(), tuple(self.windows.values()), vessels)
 
     def say(self, words: str) -> None:

@@ -173,8 +173,8 @@ class State:
         with self.lock:
             self.answered = answer
             self.encounters.answer(answer.meetings, answer.start)
-            self.alarms.answer(answer.broken,
-                               answer.clock - self.scenario.gap - self.scenario.slack - self.scenario.tick)
+            settled_to = answer.clock - self.scenario.gap - self.scenario.slack - self.scenario.tick
+            self.alarms.answer(answer.broken, settled_to, not answer.fault)
             self.looked = 0.0
 
     def acknowledge(self, name: str, acknowledged: bool, words: str, at: int) -> Values | None:

@@ -24,6 +24,12 @@ class Window:
         self.heard |= set(vessels)
 
 
+def is_of(group: Collection[int] | None, subject: int, other: int, own: Collection[int]) -> bool:
+    """Returns whether a row is for the run of a group to report, where `own` are the scenario's subjects: its subject is
+    in the group, or is no subject at all and the other is."""
+    return group is None or subject in group or bool(own) and subject not in own and other in group
+
+
 class StreamRun:
     """The program in one mode over one window, with all pairs or those of a group of subjects."""
 
@@ -97,9 +103,8 @@ class StreamRun:
         rows(("ended", self, b"".join(error).decode("utf-8", "replace").strip()))
 
     def is_mine(self, subject: int, other: int, own: Collection[int]) -> bool:
-        """Returns whether a row is this run's to report: its subject is in the group, or is no subject at all and the
-        other is."""
-        return self.group is None or subject in self.group or bool(own) and subject not in own and other in self.group
+        """Returns whether a row is this run's to report."""
+        return is_of(self.group, subject, other, own)
 
     def stop(self) -> None:
         """Kills the program."""
