@@ -156,8 +156,8 @@ class Preliminary:
             now, pause = view(), LEAST_PAUSE
             if now is None or now.clock // self.scenario.tick == asked:
                 continue
-            asked = now.clock // self.scenario.tick
+            asked, begun = now.clock // self.scenario.tick, time.monotonic()
             found = self.answer(now)
             if found:
                 take(found)
-                pause = max(LEAST_PAUSE, PAUSES * found.seconds)
+                pause = max(LEAST_PAUSE, PAUSES * (time.monotonic() - begun))

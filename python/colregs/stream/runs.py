@@ -41,8 +41,9 @@ class StreamRun:
         self.closed: int | None = None                  # and where the clock is there
         self.cut, self.long = False, False
         self.behind = False                             # whether more lines are there than one block of them
+        # in a group of its own: a signal of the terminal ends the tool, which ends its runs in order
         self.child: subprocess.Popen[bytes] = subprocess.Popen(words, stdin=subprocess.PIPE, stdout=subprocess.PIPE,
-                                                               stderr=subprocess.PIPE)
+                                                               stderr=subprocess.PIPE, process_group=0)
         self.threads = [
             threading.Thread(target=work, args=(files, rows), daemon=True) for work in (self.feed, self.read)
         ]
