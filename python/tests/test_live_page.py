@@ -105,8 +105,6 @@ class Rows(threading.Thread):
             self.late = max(self.late, time.monotonic() - begun - 0.02)
 
 
-# Five of these seven tests fail on a machine under load, and the cause is not found yet (docs/TRAFFIC_SERVICE.md).
-@unittest.skipUnless(os.environ.get("COLREGS_LIVE_PAGE"), "the page is only partly tested yet: set COLREGS_LIVE_PAGE")
 @with_program
 @unittest.skipUnless(has_aiohttp(), "python3-aiohttp is not installed")
 @unittest.skipUnless(browser.installed(), "chromium is not installed")

@@ -21,12 +21,13 @@ from colregs.model.tracks import NONE
 from colregs.stream.borders import AFTER, BEFORE, DOUBT
 from colregs.stream.day_files import lines_of
 from colregs.stream.fleet import About, Fleet, Ship
-from colregs.stream.stretches import FORGOTTEN, Key, StretchBook, about, rows_in
+from colregs.stream.lately import rest_of
+from colregs.stream.stretches import AT_REST, BOTH, FORGOTTEN, Key, StretchBook, about, rows_in
 
 ROWS, MARKS = ("meeting", "verdict"), (BEFORE, AFTER, DOUBT)
 MOST_ROWS = 500                 # settled rows of `audit` that are listed: the latest
 EACH, MOST_PLACES = 30, 60      # s between two places of a track in a snapshot, and how many it has at most
-SECOND = 1.0                    # s of this machine's clock between two looks at the encounters
+SECOND = 1.0                    # s of this machine's clock between two looks at encounters, and at what is over
 Values = dict[str, Any]
 
 
@@ -164,9 +165,13 @@ class State:
         """Takes a line about a stretch."""
         self.alarms.told(told)
 
-    def about_of(self, key: Key, first: int, last: int) -> Values:
-        """Returns names, types, place and marks of a stretch."""
-        return about(self.fleet, self.earth, self.scenario.tick, key, first, last)
+    def about_of(self, key: Key, first: int, last: int, before: Values) -> Values:
+        """Returns names, types, place and marks of a stretch. Marks take a while to compute: until it settles, it has
+        those of before, and one of two vessels at rest, which are many and hidden, has that mark alone."""
+        still = rest_of(self.fleet, key[:2], first, last)
+        marks = [AT_REST] if still == BOTH else before.get("marks") if before.get("at_rest") == still else None
+        known = None if marks is None else (still, marks)
+        return about(self.fleet, self.earth, self.scenario.tick, key, first, last, known)
 
     # the answers and the browsers
 
@@ -175,8 +180,8 @@ class State:
         with self.lock:
             self.answered = answer
             self.encounters.answer(answer.meetings, answer.start)
-            self.alarms.answer(answer.broken,
-                               answer.clock - self.scenario.gap - self.scenario.slack - self.scenario.tick)
+            # a step is decided as late as the rules look ahead, and settles after that
+            self.alarms.answer(answer.broken, answer.clock - self.book.stretches.wait, not answer.fault)
             self.looked = 0.0
 
     def acknowledge(self, name: str, acknowledged: bool, words: str, at: int) -> Values | None:
@@ -250,15 +255,13 @@ class State:
         """Returns what changed since the last call; an empty dictionary if nothing did."""
         with self.lock:
             fleet, alarms, clock = self.fleet, self.alarms, self.clock
-            if clock is not None:
-                fleet.forget(clock - FORGOTTEN)
-                alarms.pass_time(clock)
+            encounters = self.pass_time(clock)
             parts: Values = {
                 "vessels": [self.vessel(fleet.ships[mmsi]) for mmsi in fleet.moved if mmsi in fleet.ships], "about": [
                     self.said_of(mmsi, fleet.about.get(mmsi, About())) for mmsi in fleet.told if mmsi in fleet.ships
                 ], "gone": list(fleet.gone),
                 "alarms": [alarms.values(alarms.items[name]) for name in alarms.changed if name in alarms.items],
-                "dropped": list(alarms.dropped), "rows": self.rows.new, **self.encounter_changes(clock)
+                "dropped": list(alarms.dropped), "rows": self.rows.new, **encounters
             }
             if self.health != self.said:
                 parts["health"] = self.said = self.health
@@ -270,11 +273,13 @@ class State:
             self.rows.new = []
             return {"clock": clock, **found} if found else {}
 
-    def encounter_changes(self, clock: int | None) -> Values:
-        """Returns the encounters that changed, at most once a second."""
+    def pass_time(self, clock: int | None) -> Values:
+        """Ends what is over by now, at most once a second; returns the encounters that changed."""
         now = time.monotonic()
         if clock is None or now < self.looked + SECOND:
             return {}
         self.looked = now
+        self.fleet.forget(clock - FORGOTTEN)
+        self.alarms.pass_time(clock)
         changed, over = self.encounters.changes(clock)
         return {"encounters": changed, "over": over}

@@ -169,6 +169,7 @@ class DayFiles:
         self.folder = folder
         self.day: str | None = None
         self.out: BinaryIO | None = None
+        self.length = 0                         # of the last file, with what is buffered
         os.makedirs(folder, exist_ok=True)
         days = self.days()
         if days:
@@ -188,8 +189,7 @@ class DayFiles:
             self.out.close()
         out = open(self.path(day), "ab")
         out.truncate(whole_length(self.path(day)))
-        out.seek(0, os.SEEK_END)
-        self.day, self.out = day, out
+        self.day, self.out, self.length = day, out, out.seek(0, os.SEEK_END)
 
     def write(self, line: bytes, at: int) -> None:
         """Writes a line at a time of the clock; the days never go back."""
@@ -198,6 +198,7 @@ class DayFiles:
             self.open(day)
         assert self.out is not None
         self.out.write(line)
+        self.length += len(line)
 
     def flush(self) -> None:
         """Writes what is buffered."""
@@ -207,7 +208,7 @@ class DayFiles:
     def place(self) -> Mark:
         """Returns the place after all that is written."""
         assert self.day is not None and self.out is not None        # a line was written
-        return self.day, self.out.tell()
+        return self.day, self.length
 
     def place_for(self, at: int) -> Mark:
         """Returns where a line would be written at a time of the clock."""

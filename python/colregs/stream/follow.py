@@ -501,7 +501,7 @@ class Follow:
         self.restart()
         threading.Thread(target=self.read, args=(source, room), daemon=True).start()
         waiting: list[tuple[Any, ...]] = []
-        ended = False
+        ended, passed = False, None
         while not stop.is_set() and not (ended and not waiting):
             if waiting and not self.is_behind() and (len(self.runs) < MOST_RUNS * len(self.given.modes)
                                                      or not self.crowded()):
@@ -520,8 +520,9 @@ class Follow:
                     raise event[1]
             elif event:
                 self.handle(event)
-            if self.listener and self.clock.time is not None:
-                self.listener.passed(self.clock.time)
+            if self.listener and self.clock.time is not None and (event is None or self.clock.time != passed):
+                passed = self.clock.time                # not after each of many rows at one time
+                self.listener.passed(passed)
         source.stop()
         self.finish()
         return FAILED if self.faults else DONE

@@ -24,6 +24,12 @@ class Window:
         self.heard |= set(vessels)
 
 
+def is_of(group: Collection[int] | None, subject: int, other: int, own: Collection[int]) -> bool:
+    """Returns whether a row is for the run of a group to report, where `own` are the scenario's subjects: its subject is
+    in the group, or is no subject at all and the other is."""
+    return group is None or subject in group or bool(own) and subject not in own and other in group
+
+
 class WindowRun:
     """A run over a window, with all pairs or those of a group of subjects."""
 
@@ -51,9 +57,8 @@ class WindowRun:
         return first
 
     def is_mine(self, subject: int, other: int, own: Collection[int]) -> bool:
-        """Returns whether a row is this run's to report: its subject is in the group, or is no subject at all and the
-        other is."""
-        return self.group is None or subject in self.group or bool(own) and subject not in own and other in self.group
+        """Returns whether a row is this run's to report."""
+        return is_of(self.group, subject, other, own)
 
     def stop(self) -> None:
         """Ends the run at once."""
@@ -66,8 +71,9 @@ class StreamRun(WindowRun):
     def __init__(self, words: list[str], window: Window, mode: str, group: frozenset[int] | None, files: DayFiles,
                  rows: Callable[[tuple[Any, ...]], None]) -> None:
         super().__init__(window, mode, group)
+        # in a group of its own: a signal of the terminal ends the tool, which ends its runs in order
         self.child: subprocess.Popen[bytes] = subprocess.Popen(words, stdin=subprocess.PIPE, stdout=subprocess.PIPE,
-                                                               stderr=subprocess.PIPE)
+                                                               stderr=subprocess.PIPE, process_group=0)
         self.threads = [
             threading.Thread(target=work, args=(files, rows), daemon=True) for work in (self.feed, self.read)
         ]

@@ -21,7 +21,7 @@ from colregs.stream.rows import Sink
 from colregs.stream.types import EVER
 
 Key = tuple[int, int, str]      # the vessel that a rule binds, the other one, and the rule
-BOTH = "both"                   # both vessels of a pair are at rest
+BOTH, AT_REST = "both", "at rest"       # both vessels of a pair are at rest, and the mark of such a stretch
 FORGOTTEN = 7200                # s after her last report that a vessel is forgotten
 AGAIN = 60                      # s of the stream's clock between two looks at who is at rest in one stretch
 COUNTED = 60                    # s of the clock between two lines that count what is hidden
@@ -83,6 +83,10 @@ class Stretches:
         """Returns whether no later alarm can make a stretch longer."""
         return clock > one.last + self.wait
 
+    def is_open(self, one: AlarmStretch) -> bool:
+        """Returns whether a stretch is not closed yet: it is not over, or alarms may be on their way."""
+        return any(other is one for other in self.open.get(one.key, ()))
+
     def close(self, one: AlarmStretch) -> None:
         """Forgets a stretch that is over."""
         self.open[one.key].remove(one)
@@ -95,12 +99,13 @@ class Stretches:
         return sorted(done, key=lambda one: (one.last, one.number))
 
 
-def about(fleet: Fleet, earth: Earth, tick: int, key: Key, first: int, last: int) -> dict[str, Any]:
+def about(fleet: Fleet, earth: Earth, tick: int, key: Key, first: int, last: int,
+          known: tuple[str, list[str]] | None = None) -> dict[str, Any]:
     """Returns the names, types, place and marks of a stretch. The place is the subject's when the first step begins, in
-    degrees."""
+    degrees. `known` says who is at rest, and the marks, if they need not be computed."""
     subject, other, _ = key
     place = fleet.place(subject, first)
-    still, marks = marks_of(fleet, tick, (subject, other), first, last)
+    still, marks = known or marks_of(fleet, tick, (subject, other), first, last)
     return {
         "subject_name": fleet.name(subject), "other_name": fleet.name(other), "subject_type": fleet.kind_words(subject),
         "other_type": fleet.kind_words(other), "position": earth.degrees(*place) if place else None, "at_rest": still,
