@@ -196,7 +196,7 @@ class Pages(InFolder):
                       states=[(0, "clear", 0.0, 14.0)])
         made.others = [Begin(200000100, name, 100, (0.0, 9000.0), Track(180.0, 14.0), "head_on")]
         path = self.write("trials.html",
-                          page("Trials of <x>", "about", PilotScenario.read(SCENARIO), groups_of([made]), [made], []))
+                          page("Trials of <x>", "about", PilotScenario.read(SCENARIO), [made], [made], []))
         with browser.Browser() as tab:
             tab.open(path)
             self.assertEqual(tab.value("document.querySelector('#others tr:nth-child(2) td').textContent"), name)
