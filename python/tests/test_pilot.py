@@ -233,7 +233,7 @@ class Answers:
                timeout: float = 60) -> Report:
         """Returns that every plan fails, after some seconds of the clock."""
         self.now += self.seconds
-        return Report(1 if mode == "plan" else 0, "", "", self.seconds)
+        return Report(1, "none,1,,,,,\n", "", self.seconds) if mode == "plan" else Report(0, "", "", self.seconds)
 
 
 class Lateness(unittest.TestCase):
@@ -428,7 +428,7 @@ class Going(InFolder):
 
     def test_a_program_that_is_killed_or_hangs_is_a_state(self) -> None:
         for body, words in (("kill -9 $$", "signal 9"), ("sleep 30", "no answer in"), ("exit 8", "status 8"),
-                            ("echo plan,x", "no plan")):
+                            ("echo plan,x", "no plan"), ("exit 1", "no row `none`")):
             program = self.write("program", "#!/bin/sh\n%s\n" % body)
             os.chmod(program, 0o755)
             child = self.start(program=program)
