@@ -8,6 +8,7 @@ import sys
 import time
 import types
 import unittest
+import unittest.mock
 from typing import IO, Any, NoReturn
 
 from given import InFolder, PROGRAM, TOOLS, example, text_of, with_program
@@ -15,10 +16,14 @@ from colregs import library
 from colregs.io.sentences import block, class_a, sentence, total
 from colregs.pilot.areas import Area, read_areas
 from colregs.pilot.choices import Offsets, rewritten
+from colregs.pilot.lines import line_of
+from colregs.pilot.live import Live as LivePilot, Pace
 from colregs.pilot.nmea import command_sentence, text_sentence
+from colregs.pilot.pilot import Pilot
+from colregs.pilot.planner import Planner
 from colregs.pilot.record import Record
-from colregs.pilot.route import Route, read_route
-from colregs.pilot.runner import LibraryRunner, ProcessRunner, Runner, status_words
+from colregs.pilot.route import OneTrack, Route, read_route
+from colregs.pilot.runner import LibraryRunner, ProcessRunner, Report, Runner, status_words
 from colregs.pilot.scenario import PilotScenario
 from colregs.pilot.states import Answer, Cause, Decision, Leg, Memory, Plan, State, Track, decide
 
@@ -210,6 +215,42 @@ class Records(unittest.TestCase):
         self.assertEqual((record.unread, len(record.lines)), (3, 3))
 
 
+class Answers:
+    """A runner by whose clock each run takes some seconds; it has no plan, and a clock's `monotonic` and `time`."""
+
+    def __init__(self, seconds: float) -> None:
+        self.seconds, self.now = seconds, 1000.0
+
+    def monotonic(self) -> float:
+        """Returns the seconds of the clock."""
+        return self.now
+
+    def time(self) -> float:
+        """Returns the same as the time of day."""
+        return self.now
+
+    def report(self, mode: str, scenario: str, log: bytes, rows: str | None = None, why: bool = False,
+               timeout: float = 60) -> Report:
+        """Returns that every plan fails, after some seconds of the clock."""
+        self.now += self.seconds
+        return Report(1, "none,1,,,,,\n", "", self.seconds) if mode == "plan" else Report(0, "", "", self.seconds)
+
+
+class Lateness(unittest.TestCase):
+    def test_an_answer_that_takes_more_than_half_of_the_time_between_two_lines_is_late(self) -> None:
+        # points, audit, plan, recheck and the escape: five runs for a moment
+        for seconds, is_late in ((2.9, False), (3.1, True)):
+            runner = Answers(seconds)
+            scenario = PilotScenario.read(example("giving_way.toml"))
+            with unittest.mock.patch("colregs.pilot.live.time", runner):
+                live = LivePilot(Pilot(scenario, Planner(scenario, runner), 3600), OneTrack(TRACK),
+                                 Pace(30, 60, False), lambda moment: None)
+                live.take(block(NOW) + sentence(class_a(200000031, (29000000, -74200000, 140, 0, 0, 0))))
+                line = json.loads(line_of(live.moment()))
+            self.assertEqual((line["late"], line["took"]), (is_late, 5 * seconds))
+            self.assertEqual("late" in line["words"], is_late, line["words"])
+
+
 @with_program
 class Live(InFolder):
     TRACK = ["--track", "0,14", "--program", PROGRAM]
@@ -263,28 +304,55 @@ class Live(InFolder):
         self.assertEqual([each["course"] for each in found], [each["course"] for each in plain])
         self.assertEqual([each["state"] for each in found], [each["state"] for each in plain])
 
-    def test_a_plan_that_enters_an_area_is_not_used(self) -> None:
-        # the plan of the example turns to 60 degrees; an area about the point 1 km ahead on that course bars it
-        def place(east: float, north: float) -> list[float]:
-            return [(-74200000 + east / 1852 * 10000 / 0.6652) / 600000, (29000000 + north / 1852 * 10000) / 600000]
+    def write_reef(self, *rings: list[tuple[float, float]]) -> None:
+        """Writes an area, whose rings are metres from own ship's last report to the east and to the north."""
         own = [
             row.split(",")
             for row in self.program("points", self.scenario, example("giving_way.log")).splitlines()
             if row.startswith("point,200000031")
         ][-1]
-        x, y = int(own[3]) / 10000 + 1500 * 0.866, int(own[4]) / 10000 + 1500 * 0.5
-        ring = [place(x + a, y + b) for a, b in ((-200, -200), (-200, 200), (200, 200), (200, -200))]
+
+        def place(east: float, north: float) -> list[float]:
+            x, y = int(own[3]) / 10000 + east, int(own[4]) / 10000 + north
+            return [(-74200000 + x / 1852 * 10000 / 0.6652) / 600000, (29000000 + y / 1852 * 10000) / 600000]
         self.write(
             "areas.geojson",
             json.dumps({
                 "type": "Feature", "properties": {"name": "reef"},
-                "geometry": {"type": "Polygon", "coordinates": [ring]}
+                "geometry": {"type": "Polygon", "coordinates": [[place(*each) for each in ring] for ring in rings]}
             }))
+
+    def test_an_area_all_around_own_ship_leaves_no_plan_and_is_named(self) -> None:
+        square = [(-1.0, -1.0), (-1.0, 1.0), (1.0, 1.0), (1.0, -1.0)]
+        self.write_reef([(3000 * x, 3000 * y) for x, y in square], [(1500 * x, 1500 * y) for x, y in square])
+        found = self.pilot("--every", "60", "--no-go", "areas.geojson", source="\n".join(self.lines))[-1]
+        self.assertEqual((found["state"], found["cause"], found["promised"]), ("none", "areas", False))
+        self.assertIn("`reef` is entered", found["words"])
+
+    def test_a_plan_that_enters_an_area_is_not_used(self) -> None:
+        # the plan of the example turns to 60 degrees; an area about the point 1.5 km ahead on that course bars it
+        x, y = 1500 * 0.866, 1500 * 0.5
+        self.write_reef([(x + a, y + b) for a, b in ((-200, -200), (-200, 200), (200, 200), (200, -200))])
         found = self.pilot("--every", "60", "--no-go", "areas.geojson", source="\n".join(self.lines))[-1]
         # plan 64 of docs/BUILDER.md's second question turns to 45 degrees, which the area bars too: what is left is a
         # larger or no turn, or none
         self.assertNotIn(found["course"], (45.0, 60.0))
         self.assertTrue(found["state"] == "manoeuvring" or "reef" in found["words"], found)
+
+    def test_the_sentences_of_a_command_become_sentences_for_the_autopilot(self) -> None:
+        self.write("in.log", "\n".join(self.lines) + "\n")
+        done = self.tool("colregs-pilot", "s.toml", *self.TRACK, "--replay", "--every", "60", "--nmea", "--out",
+                         "lines.json", "--command", f"cat {self.path('in.log')}")
+        self.assertEqual(done[0], 0, done[2])
+        lines = [json.loads(line) for line in text_of(self.path("lines.json")).splitlines()]
+        sentences = done[1].split()
+        self.assertEqual(len(sentences), 2 * len(lines))
+        for line, command, words in zip(lines, sentences[::2], sentences[1::2]):
+            self.assertTrue(command.startswith("$INHTC,") and f",{line['course']:.1f},,,T*" in command, command)
+            self.assertTrue(words.startswith("$INTXT,") and line["state"] in words, words)
+            for each in (command, words):
+                body, _, checked = each[1:].partition("*")
+                self.assertEqual(functools.reduce(lambda a, b: a ^ b, body.encode()), int(checked, 16), each)
 
     def test_a_route_with_a_turn_changes_the_track(self) -> None:
         self.write("route.csv", "latitude,longitude\n48.30,-123.6666667\n48.3333,-123.6666667\n48.3333,-123.5\n")
@@ -360,7 +428,7 @@ class Going(InFolder):
 
     def test_a_program_that_is_killed_or_hangs_is_a_state(self) -> None:
         for body, words in (("kill -9 $$", "signal 9"), ("sleep 30", "no answer in"), ("exit 8", "status 8"),
-                            ("echo plan,x", "no plan")):
+                            ("echo plan,x", "no plan"), ("exit 1", "no row `none`")):
             program = self.write("program", "#!/bin/sh\n%s\n" % body)
             os.chmod(program, 0o755)
             child = self.start(program=program)

@@ -16,7 +16,7 @@ from colregs.trials.meetings import KINDS, Begin, drawn
 from colregs.trials.page import page
 from colregs.trials.ships import CLASS_B, Plane, Ship, Transmitter
 from colregs.trials.summary import groups_of, quartiles, rows_of
-from colregs.trials.trial import Fix, Result, Setting, Trial
+from colregs.trials.trial import Breach, Fix, Result, Setting, Trial
 from colregs.pilot.motion import KNOT, Rates, moved
 
 SCENARIO = example("giving_way.toml")
@@ -94,7 +94,10 @@ class Same(InFolder):
             for jobs, name in (("1", "a"), ("2", "b")):
                 rows.append(self.trials(*words, "--jobs", jobs, "--json", name + ".json", "--logs", name))
                 told = json.loads(text_of(self.path(name + ".json")))
-                self.assertEqual(told.pop("measured")["plans"], sum(run["replans"] for run in told["runs"]))
+                times = told.pop("measured")
+                self.assertEqual(times["plans"], sum(run["replans"] for run in told["runs"]))
+                self.assertEqual([(each["kind"], each["others"], each["plans"]) for each in times["groups"]],
+                                 [(each["kind"], each["others"], each["replans"]) for each in told["groups"]])
                 values.append(json.dumps(told))
                 logs.append(
                     {each: text_of(self.path(os.path.join(name, each))) for each in sorted(os.listdir(self.path(name)))}
@@ -193,17 +196,22 @@ class Pages(InFolder):
     def test_a_name_with_markup_stays_a_name_and_nothing_is_asked_of_a_network(self) -> None:
         name = "</script><img src=x onerror=document.title='taken'>"
         made = result(9, fixes=[Fix(0, [(0, 0), (0, 9000)]), Fix(10, [(0, 70), (0, 8900)])],
-                      states=[(0, "clear", 0.0, 14.0)])
+                      states=[(0, "clear", 0.0, 14.0)], broken=[Breach("r14a", 200000100, 0, 0, True)])
         made.others = [Begin(200000100, name, 100, (0.0, 9000.0), Track(180.0, 14.0), "head_on")]
         path = self.write("trials.html",
-                          page("Trials of <x>", "about", PilotScenario.read(SCENARIO), groups_of([made]), [made], []))
+                          page("Trials of <x>", "about", PilotScenario.read(SCENARIO), [made], [made], []))
         with browser.Browser() as tab:
             tab.open(path)
             self.assertEqual(tab.value("document.querySelector('#others tr:nth-child(2) td').textContent"), name)
             self.assertEqual(tab.value("document.title"), "Trials of <x>")
-            tab.value("const s = document.getElementById('slider'); s.value = 1; s.dispatchEvent(new Event('input')); "
+            self.assertIn(f"r14a towards {name} broken", tab.value("document.getElementById('words').textContent"))
+            self.assertEqual(tab.value("document.getElementById('legend').textContent"),
+                             "cleara rule is broken (line below)")
+            # the slider begins where the two are nearest
+            self.assertEqual(tab.value("document.getElementById('slider').value"), "1")
+            tab.value("const s = document.getElementById('slider'); s.value = 0; s.dispatchEvent(new Event('input')); "
                       "1")
-            self.assertIn("10 s: clear", tab.value("document.getElementById('clock').textContent"))
+            self.assertIn("0 s: clear", tab.value("document.getElementById('clock').textContent"))
             self.assertEqual(tab.value("document.querySelectorAll('img').length"), 0)
             self.assertEqual(tab.errors, [])
             self.assertEqual([address for address in tab.asked if not address.startswith("file:")], [])

@@ -141,10 +141,9 @@ def made_again(given: argparse.Namespace, jobs: list[Job], results: list[Result]
 def write_page(given: argparse.Namespace, scenario: PilotScenario, setting: Setting, results: list[Result],
                pictured: list[Result]) -> None:
     """Writes the page."""
-    groups = groups_of([group_label(result) for result in results])
     crossing = [result for result in results if result.kind.startswith("crossing ")]
     text = page(f"Sea trials of {os.path.basename(given.scenario)}", about(given, setting, len(results)), scenario,
-                groups, pictured, crossing)
+                [group_label(result) for result in results], pictured, crossing)
     replace_file(given.page, text.encode())
 
 
@@ -179,7 +178,8 @@ def main(arguments: Sequence[str] | None = None) -> int:
     if given.json:
         replace_file(
             given.json,
-            (json.dumps(report_json(os.path.basename(given.scenario), setting, results), indent=1) + "\n").encode())
+            (json.dumps(report_json(os.path.basename(given.scenario), setting, results, grouped), indent=1) + "\n"
+             ).encode())
     if given.page or given.logs:
         pictured = made_again(given, jobs, results)
         if given.page:

@@ -134,6 +134,8 @@ class Planner:
         cause = CAUSES.get(report.status, Cause.PROGRAM)
         if cause is not Cause.EVERY_PLAN_FAILS:
             return Answer(cause=cause, words=status_words(report))
+        if not report.rows("none"):
+            return Answer(cause=Cause.PROGRAM, words="the program ended with status 1 and no row `none`")
         return self.refusal(question, report, choices, reported, scenario, patience if recheck else None)
 
     def refusal(self, question: Question, report: Report, choices: Choices, reported: Track, scenario: str,

@@ -12,7 +12,7 @@ from dataclasses import asdict
 from colregs.pilot.scenario import PilotScenario
 from colregs.trials.geometries import RATIOS
 from colregs.trials.meetings import OWN_LENGTH
-from colregs.trials.summary import Group, Json
+from colregs.trials.summary import Json, groups_of, measured_parts
 from colregs.trials.trial import FIX_EVERY, Result
 
 ASSETS = os.path.join(os.path.dirname(os.path.abspath(__file__)), "assets")
@@ -26,14 +26,15 @@ def asset(name: str) -> str:
 
 def run_words(result: Result) -> str:
     """Returns what happened in a run, in a few sentences."""
+    names = {begin.mmsi: begin.name for begin in result.others}
     words = [
         f"Seed {result.seed}: least distance {result.least:.0f} m, {result.replans} plans, {result.none} times none, "
         f"{result.lapsed} moments without a promise."
     ]
-    words += [f"Collision with {', '.join(map(str, result.collided))}."] if result.collided else []
-    words += [f"Domain of {', '.join(map(str, result.entered))} entered."] if result.entered else []
+    words += [f"Collision with {', '.join(names[mmsi] for mmsi in result.collided)}."] if result.collided else []
+    words += [f"Domain of {', '.join(names[mmsi] for mmsi in result.entered)} entered."] if result.entered else []
     words += [
-        f"{breach.rule} towards {breach.other} broken at {breach.first} to {breach.last} "
+        f"{breach.rule} towards {names.get(breach.other, breach.other)} broken from {breach.first} to {breach.last} "
         f"s{'' if breach.planned else ', without a new plan'}."
         for breach in result.broken
     ]
@@ -44,7 +45,7 @@ def run_picture(scenario: PilotScenario, result: Result) -> Json:
     """Returns what the page draws of a run; own ship is the first vessel, and has no domain."""
     lengths = [begin.length for begin in result.others]
     return {
-        "title": f"{result.kind} {result.seed}", "words": run_words(result), "every": FIX_EVERY,
+        "title": result.kind if " " in result.kind else f"{result.kind} {result.seed}", "words": run_words(result), "every": FIX_EVERY,
         "names": ["OWN SHIP"] + [begin.name for begin in result.others], "lengths": [OWN_LENGTH] + lengths,
         "radii": [0] + [scenario.base + scenario.lengths * length for length in lengths], "places": [
             fix.places for fix in result.fixes
@@ -61,11 +62,11 @@ def crossing_picture(results: Sequence[Result]) -> Json | None:
     return {"ratios": RATIOS, "nearest": 300, "values": values} if values else None
 
 
-def page(title: str, about: str, scenario: PilotScenario, groups: Sequence[Group], pictured: Sequence[Result],
+def page(title: str, about: str, scenario: PilotScenario, grouped: Sequence[Result], pictured: Sequence[Result],
          crossing: Sequence[Result]) -> str:
     """Returns the text of the page. No text of the data can end the script that holds it."""
     data = {
-        "about": about, "groups": [asdict(group) for group in groups],
+        "about": about, "groups": [asdict(group) for group in groups_of(grouped)], "times": measured_parts(grouped),
         "runs": [run_picture(scenario, result) for result in pictured], "crossing": crossing_picture(crossing)
     }
     held = json.dumps(data, separators=(",", ":"), ensure_ascii=False)

@@ -78,13 +78,18 @@ def group_of(kind: str, others: int, results: Sequence[Result]) -> Group:
                  sum(bool(result.fault) for result in results))
 
 
-def groups_of(results: Sequence[Result]) -> list[Group]:
-    """Returns a group for each kind and number of others, and one of all if there are several."""
+def parts_of(results: Sequence[Result]) -> list[tuple[str, int, Sequence[Result]]]:
+    """Returns the runs of each kind and number of others, and all of them if there are several kinds or numbers."""
     parts: dict[tuple[str, int], list[Result]] = {}
     for result in results:
         parts.setdefault((result.kind, len(result.others)), []).append(result)
-    groups = [group_of(kind, others, part) for (kind, others), part in sorted(parts.items())]
-    return groups + ([group_of("all", 0, results)] if len(groups) > 1 else [])
+    found: list[tuple[str, int, Sequence[Result]]] = [(*key, part) for key, part in sorted(parts.items())]
+    return found + ([("all", 0, results)] if len(found) > 1 else [])
+
+
+def groups_of(results: Sequence[Result]) -> list[Group]:
+    """Returns a group for each kind and number of others, and one of all if there are several."""
+    return [group_of(*part) for part in parts_of(results)]
 
 
 def rows_of(groups: Sequence[Group]) -> str:
@@ -117,10 +122,17 @@ def measured(results: Sequence[Result]) -> Json:
             } if seconds else {"plans": 0}
 
 
-def report_json(scenario: str, setting: Setting, results: Sequence[Result]) -> Json:
-    """Returns all runs and their groups; only what is `measured` differs from one time to the next."""
-    return {"scenario": scenario, "setting": asdict(setting), "groups": [asdict(group) for group in groups_of(results)],
-            "runs": [run_json(result) for result in results], "measured": measured(results)}
+def measured_parts(results: Sequence[Result]) -> list[Json]:
+    """Returns how long the plans of each group took."""
+    return [{"kind": kind, "others": others} | measured(part) for kind, others, part in parts_of(results)]
+
+
+def report_json(scenario: str, setting: Setting, results: Sequence[Result], grouped: Sequence[Result]) -> Json:
+    """Returns all runs, and the groups of those that have the names of their groups; only what is `measured` differs
+    from one time to the next."""
+    return {"scenario": scenario, "setting": asdict(setting), "groups": [asdict(group) for group in groups_of(grouped)],
+            "runs": [run_json(result) for result in results],
+            "measured": measured(results) | {"groups": measured_parts(grouped)}}
 
 
 def worst(results: Sequence[Result], count: int) -> list[Result]:

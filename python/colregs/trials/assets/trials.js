@@ -3,6 +3,7 @@ const data = JSON.parse(document.getElementById("data").textContent);
 const colours = ["#0072b2", "#d55e00", "#7b3294", "#8c564b", "#c79a00", "#cc3d8f", "#01665e"];
 const states = { clear: "#9fb8c8", manoeuvring: "#0072b2", held: "#c79a00", none: "#b2182b", own_unready: "#555555", stale: "#999999" };
 const byId = (name) => document.getElementById(name);
+const breachColour = "#111111";
 let run = null, step = 0, timer = null;
 
 function cell(row, words, kind, className) {
@@ -15,9 +16,9 @@ function cell(row, words, kind, className) {
 function fillGroups() {
   const table = byId("groups"), head = table.insertRow();
   for (const words of ["kind", "others", "runs", "collisions", "domains", "least", "1/4", "1/2", "3/4", "replans", "none", "none %", "held", "lapsed", "escapes",
-    "broke", "broke %", "with a plan", "rules", "way lost (m)"]) cell(head, words, "th");
-  for (const g of data.groups) {
-    const row = table.insertRow();
+    "broke", "broke %", "with a plan", "rules", "way lost (m)", "plan (ms)", "longest"]) cell(head, words, "th");
+  data.groups.forEach((g, k) => {
+    const row = table.insertRow(), times = data.times[k];
     cell(row, g.kind);
     cell(row, g.others || "");
     cell(row, g.runs);
@@ -26,8 +27,26 @@ function fillGroups() {
     for (const value of g.least.slice(0, 4)) cell(row, Math.round(value));
     for (const value of [g.replans, g.none, g.none_share, g.held, g.lapsed, g.escapes, g.broke, g.broke_share, g.planned]) cell(row, value);
     cell(row, Object.entries(g.rules).map(([rule, count]) => rule + " " + count).join(", "), "td", "words");
-    cell(row, Math.round(g.way_lost));
-  }
+    for (const value of [g.way_lost, 1000 * times.median, 1000 * times.greatest]) cell(row, Number.isFinite(value) ? Math.round(value) : "");
+  });
+}
+
+function fillLegend() {
+  const place = byId("legend"), used = new Set(run.states.map(([, state]) => state));
+  place.replaceChildren();
+  const add = (colour, words) => {
+    const square = document.createElement("i"), item = document.createElement("span");
+    square.style.background = colour;
+    item.append(square, words);
+    place.appendChild(item);
+  };
+  for (const [state, colour] of Object.entries(states)) if (used.has(state)) add(colour, state);
+  if (run.broken.length) add(breachColour, "a rule is broken (line below)");
+}
+
+function nearestStep() {
+  const least = run.places.map((fix, i) => Math.min(...fix.slice(1).map((_, k) => apart(i, k + 1))));
+  return least.indexOf(Math.min(...least));
 }
 
 function bounds() {
@@ -72,7 +91,7 @@ function apart(i, k) {
 }
 
 function drawDistance() {
-  const canvas = byId("distance"), pen = canvas.getContext("2d"), left = 54, top = 12, wide = canvas.width - left - 12, high = canvas.height - top - 62;
+  const canvas = byId("distance"), pen = canvas.getContext("2d"), left = 54, top = 12, wide = canvas.width - left - 12, high = canvas.height - top - 44;
   const last = run.places.length - 1, most = 6000, across = (i) => left + wide * i / Math.max(1, last), up = (m) => top + high * (1 - Math.min(m, most) / most);
   pen.clearRect(0, 0, canvas.width, canvas.height);
   pen.font = "12px Helvetica, Arial, sans-serif";
@@ -96,11 +115,9 @@ function drawDistance() {
     pen.fillRect(across(second / run.every), top + high + 8, across(end / run.every) - across(second / run.every), 12);
   });
   run.broken.forEach((breach) => {
-    pen.fillStyle = "#b2182b";
+    pen.fillStyle = breachColour;
     pen.fillRect(across(breach.first / run.every), top + high + 24, Math.max(2, across(breach.last / run.every) - across(breach.first / run.every)), 6);
   });
-  pen.fillStyle = "#555555";
-  pen.fillText("above: the pilot's state; below, red: a rule is broken", left, canvas.height - 8);
   pen.strokeStyle = "#222222"; pen.beginPath(); pen.moveTo(across(step), top); pen.lineTo(across(step), top + high + 30); pen.stroke();
 }
 
@@ -128,10 +145,11 @@ function show() {
 }
 
 function choose(number) {
-  run = data.runs[number]; step = 0;
-  byId("slider").max = run.places.length - 1; byId("slider").value = 0;
+  run = data.runs[number]; step = nearestStep();
+  byId("slider").max = run.places.length - 1; byId("slider").value = step;
   for (const [k, button] of [...document.querySelectorAll("#runs button")].entries()) button.setAttribute("aria-pressed", String(k === number));
   byId("words").textContent = run.words;
+  fillLegend();
   show();
 }
 
