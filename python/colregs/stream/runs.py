@@ -25,8 +25,8 @@ class Window:
 
 
 def is_of(group: Collection[int] | None, subject: int, other: int, own: Collection[int]) -> bool:
-    """Returns whether a row is for the run of a group to report, where `own` are the scenario's subjects: its subject is
-    in the group, or is no subject at all and the other is."""
+    """Returns whether a row is for the run of a group to report, where `own` are the scenario's subjects: its subject
+    is in the group, or is no subject at all and the other is."""
     return group is None or subject in group or bool(own) and subject not in own and other in group
 
 
