@@ -153,7 +153,7 @@ class Borders:
     # the ends of windows
 
     def end(self, start: int) -> list[tuple[str, Marks]]:
-        """Ends a window; returns the rows of the one before it that continue after the border and that this window lacks.
+        """Ends a window; returns the rows of the one before it that continue after the border and that this one lacks.
         A pair stays open if none of its meetings ended."""
         border, following = self.at(start), self.at(start + self.length)
         for pair in sorted({*border.earlier, *border.own}):

@@ -358,7 +358,7 @@ class Follow:
         self.runs.discard(run)
         self.point_runs.discard(run)
         status = run.status or 0
-        if run.mode == "audit" and status == 0:
+        if run.mode == "audit" and status == 0 and run.counts:
             self.health.ended(run.window.start, run.counts)
         if status == 7 and "pairs" in words:
             self.split_at_limit(run)
