@@ -158,6 +158,15 @@ class Parts(Cases):
         window = self.about()
         self.assertEqual((window["start"], window["ticks"] * window["tick"]), (1700000100, 500))
 
+    def test_names_outside_the_window_count(self) -> None:
+        """Names and types come in the first lines of the log, before the window."""
+        said = self.make("--from", "22:15")[1]
+        self.assertNotIn(str(passing.EAST), said)
+        with sqlite3.connect(self.path("made/case.db")) as base:
+            self.assertEqual(base.execute("select name, length from vessel where mmsi = ?", (passing.EAST,)).fetchone(),
+                             ("EAST", 80))
+        base.close()
+
     def test_only_pairs_with_a_vessel_that_is_asked_for_are_audited(self) -> None:
         """WEST is given by her name, EAST by her number; of the one who lies still only pairs with WEST stay."""
         for vessel, mmsi in (("west", passing.WEST), (str(passing.EAST), passing.EAST)):

@@ -36,6 +36,8 @@ class Making:
         self.case, self.audited = self.run_program()
         self.swept = sweep.swept(self.sweep, self.place, self.case, given.all) if self.sweep else []
         self.said = ships.read_log(folder.path(LOG))
+        for vessel in self.said.completed(self.case.vessels.values()):
+            self.case.take_vessel(vessel)
         self.marks = Marks(self.case, self.said.statuses)
         self.summary = [
             *summaries.summary(self.case, self.logs.gathered, self.marks), *self.logs.cuts, *self.chosen.cuts,

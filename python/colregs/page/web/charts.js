@@ -84,7 +84,7 @@ const Charts = (() => {
   function ruleWords(svg, top, meeting) {
     const rows = [];
     [...meeting.verdicts].sort((p, q) => p.first - q.first).forEach((verdict) => {
-      const rule = HELD.rules[verdict.rule], words = `${rule.name} ${nameOf(verdict.pair[0])}`, wide = words.length * 6.6, left = Math.max(LEFT, Math.min(x(begins(verdict)), WIDE - wide - 4));
+      const rule = HELD.rules[verdict.rule], words = `${rule.name} ${nameOf(verdict.pair[0])}`, wide = words.length * 6.6, left = Math.max(LEFT, Math.min(x(begins(verdict)), WIDE - RIGHT - wide));
       let row = rows.findIndex((until) => until < left);
       if (row < 0) row = rows.push(0) - 1;
       rows[row] = left + wide + 6;
