@@ -12,8 +12,10 @@ from typing import Any
 
 import browser
 import crowd
+import passing
 from given import with_program
 from live_server import Live, has_aiohttp
+from test_live_preliminary import EARLY, FORMULA, LATER, LATEST, between
 from test_live_server import WithHarbour
 from colregs.io.sentences import block, class_a, name_part, sentence
 
@@ -26,12 +28,15 @@ const look = () => { for (const li of document.querySelectorAll("#list-alarms li
 const watched = { childList: true, subtree: true, attributes: true };
 new MutationObserver(look).observe(document.getElementById("list-alarms"), watched); look(); true
 """
+# how often the page draws its map: each time it clears the canvas first
 FRAMES = """
-window.times = []; const frame = (now) => { times.push(now); requestAnimationFrame(frame); }; requestAnimationFrame(frame);
+window.times = []; const { clearRect } = CanvasRenderingContext2D.prototype;
+CanvasRenderingContext2D.prototype.clearRect = function (...room) { times.push(performance.now()); clearRect.apply(this, room); };
 true"""
-# frames a second, and the ms of the longest
+# drawings a second, and the ms of the longest
 MEASURED = """(() => { const gaps = times.slice(1).map((now, k) => now - times[k]);
 return [1000 * gaps.length / (times[times.length - 1] - times[0]), Math.max(...gaps)]; })()"""
+VESSELS = '[...document.querySelectorAll("#list-vessels li")].map((li) => li.dataset.id)'
 IDS = '[...document.querySelectorAll("#list-alarms li")].map((li) => [li.dataset.id, li.dataset.state])'
 
 
@@ -277,6 +282,50 @@ class Pages(WithHarbour):
         self.shows('document.getElementById("past").hidden && document.querySelectorAll("#list-alarms li").length > 3')
         self.check_quiet()
 
+    def drag(self, left: float, right: float) -> None:
+        """Draws an area over the height of the map, between two parts of its width."""
+        self.value('document.getElementById("area").click()')
+        x, y, width, height = self.value('(({left, top, width, height}) => [left, top, width, height])('
+                                         'document.getElementById("map").getBoundingClientRect())')
+        ends = (x + width * left + 1, y + 1), (x + width * right - 1, y + height - 1)
+        for kind, (east, south) in zip(("mousePressed", "mouseMoved", "mouseReleased"), (ends[0], ends[1], ends[1])):
+            self.tab.ask("Input.dispatchMouseEvent", type=kind, x=east, y=south, button="left", clickCount=1)
+        self.shows('document.getElementById("filter-words").textContent.includes("an area")')
+
+    def test_an_area_drawn_on_the_map_filters_the_lists(self) -> None:
+        server = self.live("--log", "log")
+        self.grow("log", "".join(self.lines[:700]))
+        self.open(server.url)
+        self.press("4")
+        count = 'document.querySelectorAll("#list-vessels li").length'
+        self.shows(f"{count} === 20")
+        self.value('document.getElementById("filters").open = true')
+        self.drag(0, 0.5)
+        self.shows(f"{count} > 0 && {count} < 20")
+        west = self.value(VESSELS)
+        self.drag(0.5, 1)
+        self.shows(f"{count} > 0 && {count} < 20 && ({VESSELS}).every((name) => !{json.dumps(west)}.includes(name))")
+        self.assertEqual(len({*west, *self.value(VESSELS)}), 20)
+        self.value('document.getElementById("clear").click()')
+        self.shows(f"{count} === 20")
+        self.check_quiet()
+
+    def test_a_preliminary_alarm_is_seen_to_settle_or_to_be_withdrawn(self) -> None:
+        self.write("s.toml", passing.SCENARIO + FORMULA)
+        server = self.live("--log", "log")
+        self.open(server.url)
+        self.value(WATCH)
+        for first, last, rule, state in ((0, EARLY, "stays", "preliminary"), (EARLY, LATER, "stays", "withdrawn"),
+                                         (LATER, LATER, "r14a", "preliminary"), (LATER, LATEST, "r14a", "settled")):
+            self.grow("log", between(first, last))
+            self.shows(f'[...document.querySelectorAll("#list-alarms li.{state}")].filter((li) => '
+                       f'li.textContent.includes("{rule}")).length === 2')
+            self.assertTrue(self.value(f'document.querySelector("#list-alarms li.{state} .chip.{state}") !== null'))
+        came = self.value("came")
+        seen = sorted("-".join([name.split("-")[2], *states]) for name, states in came.items() if "r8d" not in name)
+        self.assertEqual(seen, ["r14a-preliminary-settled"] * 2 + ["stays-preliminary-withdrawn"] * 2)
+        self.check_quiet()
+
     def test_it_fits_a_screen_and_a_telephone(self) -> None:
         server = self.live("--log", "log")
         self.grow("log", "".join(self.lines))
@@ -313,7 +362,7 @@ class Pages(WithHarbour):
         self.tab.ask("Input.insertText", text="200004000")
         self.shows('document.querySelector("#list-vessels li")?.textContent.includes("200004000")')
         self.shows('document.querySelector("#list-vessels .seen")?.textContent.includes("22:14:20")')
-        print("4000 vessels: {:.0f} frames a second, the longest took {:.0f} ms".format(*self.value(MEASURED)))
+        print("4000 vessels: {:.1f} drawings a second, at most {:.0f} ms apart".format(*self.value(MEASURED)))
         self.check_quiet()
 
 

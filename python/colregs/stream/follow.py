@@ -108,6 +108,7 @@ class Follow:
         self.windows: dict[int, Window] = {}            # those that are open, by their starts
         self.over: set[int] = set()                     # the starts of those that are closed
         self.runs: set[StreamRun] = set()
+        self.earliest: dict[str, int] = {}              # the first start of a window with a run in a mode, if known
         self.point_runs: set[StreamRun] = set()         # those of them that give points
         self.heard: dict[int, int] = {}                 # when the clock last heard each vessel
         self.events: queue.Queue[tuple[Any, ...]] = queue.Queue()
@@ -136,6 +137,7 @@ class Follow:
         for run in self.runs:
             run.stop()
         self.sink.close()
+        self.written.close()
         self.files.close()
         self.room.cleanup()
 
@@ -341,6 +343,7 @@ class Follow:
     def ended(self, run: StreamRun, words: str) -> None:
         """Takes the end of a run."""
         self.runs.discard(run)
+        self.earliest = {}
         self.point_runs.discard(run)
         status = run.child.returncode
         if run.mode == "audit" and status == 0:
