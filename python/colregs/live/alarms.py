@@ -36,7 +36,8 @@ class Item:
     withdrawn_at: int | None = None
     over: bool = False
     about: About = field(default_factory=dict)
-    looked_at: int = 0
+    looked_at: int = 0                      # when names, types, place and marks were noted
+    sent_at: int = 0
 
     @property
     def state(self) -> str:
@@ -88,7 +89,8 @@ class Alarms:
                                                               lambda item: item.settled is None)
         if item is None:
             item = self.new(one.key, one.first, one.last)
-        if item.settled is None:
+        is_new = item.settled is None
+        if is_new:
             item.settled, item.settled_at, item.withdrawn_at = one, self.clock or None, None
             self.by_number[one.number] = item
             if self.clock:                      # otherwise an earlier run wrote it, and counted it
@@ -98,7 +100,7 @@ class Alarms:
         for other in [other for other in self.by_key[item.key] if other.settled is None]:
             if other is not item and other.touches(item.first, item.last):
                 self.join(item, other)
-        self.touch(item)
+        self.grow(item, is_new)
 
     def absorb(self, number: int, one: AlarmStretch) -> None:
         """Takes a stretch that turned out to be a part of another one."""
@@ -160,12 +162,13 @@ class Alarms:
             if item.settled is None:
                 self.count(PRELIMINARY, self.clock - first - self.stretches.tick)
         if item.expected != (first, last) or item.withdrawn_at is not None:
+            is_new = item.expected is None or item.withdrawn_at is not None
             item.expected, item.withdrawn_at = (first, last), None
             begins = item.first
             item.fit()
             if item.settled is None and (item.first != begins or self.clock >= item.looked_at + AGAIN):
                 self.look(item)
-            self.touch(item)
+            self.grow(item, is_new)
         return item
 
     def look(self, item: Item) -> None:
@@ -202,9 +205,17 @@ class Alarms:
         return next((item for item in reversed(self.by_key.get(key, [])) if item.touches(first, last) and fits(item)),
                     None)
 
+    def grow(self, item: Item, is_new: bool) -> None:
+        """Notes that an item has another step. Of two vessels at rest, which are many and hidden, that is sent once in a
+        while."""
+        self.lasting.add(item.id)
+        if is_new or not item.is_at_rest or self.clock >= item.sent_at + AGAIN:
+            self.touch(item)
+
     def touch(self, item: Item) -> None:
         """Notes that an item changed."""
         self.changed.add(item.id)
+        item.sent_at = self.clock
         if item.over or item.state == WITHDRAWN:
             self.lasting.discard(item.id)
         else:

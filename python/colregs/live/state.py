@@ -19,7 +19,7 @@ from colregs.model.rows import Meeting
 from colregs.model.scenario import Scenario
 from colregs.model.tracks import NONE
 from colregs.stream.borders import AFTER, BEFORE, DOUBT
-from colregs.stream.day_files import lines_of
+from colregs.stream.day_files import days_in, lines_of
 from colregs.stream.fleet import About, Fleet, Ship
 from colregs.stream.lately import rest_of
 from colregs.stream.stretches import AT_REST, BOTH, FORGOTTEN, Key, StretchBook, about, rows_in
@@ -96,7 +96,7 @@ class State:
     def load(self, days: list[str]) -> None:
         """Takes what an earlier run wrote on these days."""
         with self.lock:
-            self.first = first_time(line for day in days for line in lines_of(f"{self.folder}/{day}.log"))
+            self.first = first_time(line for day in days_in(self.folder) for line in lines_of(f"{self.folder}/{day}.log"))
             self.book.load(days)
             for told in self.book.restored:
                 self.alarms.told(told)

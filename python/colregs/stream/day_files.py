@@ -162,6 +162,11 @@ def begin_of(day: str) -> int:
     return calendar.timegm(time.strptime(day, "%Y-%m-%d"))
 
 
+def days_in(folder: str) -> list[str]:
+    """Returns the days that have a file in a folder, in order."""
+    return sorted(name[:-4] for name in os.listdir(folder) if name.endswith(".log") and len(name) == 14)
+
+
 class DayFiles:
     """A folder with a file of lines for each day; the last file grows."""
 
@@ -177,7 +182,7 @@ class DayFiles:
 
     def days(self) -> list[str]:
         """Returns the days that have a file, in order."""
-        return sorted(name[:-4] for name in os.listdir(self.folder) if name.endswith(".log") and len(name) == 14)
+        return days_in(self.folder)
 
     def path(self, day: str) -> str:
         """Returns the file of a day."""

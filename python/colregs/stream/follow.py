@@ -111,7 +111,7 @@ class Follow:
         self.windows: dict[int, Window] = {}            # those that are open, by their starts
         self.over: set[int] = set()                     # the starts of those that are closed
         self.runs: set[WindowRun] = set()
-        self.point_runs: set[WindowRun] = set()         # those of them that give points
+        self.earliest: dict[str, int] = {}              # the first start of a window with a run in a mode, if known
         self.heard: dict[int, int] = {}                 # when the clock last heard each vessel
         self.events: queue.Queue[tuple[Any, ...]] = queue.Queue()
         self.held: list[tuple[WindowRun, str]] = []     # rows that wait for those of windows before them
@@ -140,6 +140,7 @@ class Follow:
         for run in self.runs:
             run.stop()
         self.sink.close()
+        self.written.close()
         self.files.close()
         self.room.cleanup()
 
@@ -324,8 +325,7 @@ class Follow:
         words = [self.program, mode, name, f"--start={window.start}", f"--ticks={self.numbers.ticks}"]
         run = StreamRun(words, window, mode, group, self.files, self.events.put)
         self.runs.add(run)
-        if mode == POINTS:
-            self.point_runs.add(run)
+        self.earliest = {}
 
     def vessels(self, window: Window) -> set[int]:
         """Returns who can be a subject of a window: the scenario's subjects, or who was heard since its lines began."""
@@ -356,7 +356,7 @@ class Follow:
     def ended(self, run: WindowRun, words: str) -> None:
         """Takes the end of a run."""
         self.runs.discard(run)
-        self.point_runs.discard(run)
+        self.earliest = {}
         status = run.status or 0
         if run.mode == "audit" and status == 0 and run.counts:
             self.health.ended(run.window.start, run.counts)
@@ -379,6 +379,7 @@ class Follow:
                  "over")
         new = AreaRun(run.window, self.scenario, self.numbers.ticks, self.program, self.files, self.events.put)
         self.runs.add(new)
+        self.earliest = {}
         if run.limit and run.closed is not None:
             new.end_at(run.limit, run.closed, run.cut)
 
@@ -443,8 +444,12 @@ class Follow:
     def is_early(self, run: WindowRun) -> bool:
         """Returns whether a window before this run's is not done: its rows come first, and none that comes later delays
         them. So do its points, since a listener ignores points that are older than those that it has."""
-        same = self.point_runs if run.mode == POINTS else self.runs
-        return any(other.mode == run.mode and other.window.start < run.window.start for other in same)
+        if run.mode not in self.earliest:
+            starts = [other.window.start for other in self.runs if other.mode == run.mode]
+            if not starts:
+                return False
+            self.earliest[run.mode] = min(starts)
+        return self.earliest[run.mode] < run.window.start
 
     def handle(self, event: tuple[Any, ...]) -> None:
         """Takes a row or the end of a run."""

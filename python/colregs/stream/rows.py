@@ -5,7 +5,7 @@ import os
 import subprocess
 import sys
 from collections.abc import Iterable
-from typing import Any, Protocol
+from typing import Any, Protocol, TextIO
 
 from colregs.errors import Fault, reason
 from colregs.model.earth import iso
@@ -131,6 +131,8 @@ class Written:
         self.folder, self.sink = folder, sink
         self.known: dict[tuple[str, int], set[str]] = {}
         self.read: set[str] = set()
+        self.out: TextIO | None = None                  # the file of the last row
+        self.out_path = ""
 
     def path(self, start: int) -> str:
         """Returns the file of the rows of the day on which a window starts."""
@@ -172,8 +174,22 @@ class Written:
         """Writes a line of a window."""
         line = json.dumps(told) + "\n"
         self.sink.write(line)
-        with open(self.path(start), "a", encoding="utf-8") as out:
-            out.write(line)
+        out = self.file(self.path(start))
+        out.write(line)
+        out.flush()
+
+    def file(self, path: str) -> TextIO:
+        """Returns a day's file: it stays open, because a harbour can have thousands of rows a second in a replay."""
+        if self.out is None or path != self.out_path:
+            self.close()
+            self.out, self.out_path = open(path, "a", encoding="utf-8"), path
+        return self.out
+
+    def close(self) -> None:
+        """Closes the file of the last row."""
+        if self.out:
+            self.out.close()
+        self.out = None
 
     def forget(self, before: int) -> None:
         """Forgets the windows that began before a time."""

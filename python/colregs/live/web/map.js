@@ -19,7 +19,7 @@ export class ChartMap {
     if (settings.chart) this.addChart();
     this.drawing = new Drawing(byId("drawing"), this.map);
     this.map.on("move zoom resize viewreset", () => this.now());
-    this.map.on("click", ({ containerPoint }) => choose(this.drawing.near(containerPoint.x, containerPoint.y)));
+    this.map.on("click", ({ containerPoint }) => { if (!this.asksArea) choose(this.drawing.near(containerPoint.x, containerPoint.y)); });
     this.map.on("mousemove", ({ containerPoint }) => {
       this.map.getContainer().style.cursor = this.asksArea ? "" : this.drawing.near(containerPoint.x, containerPoint.y) ? "pointer" : "";
     });
@@ -69,25 +69,31 @@ export class ChartMap {
     else if (known.length) this.map.fitBounds(L.latLngBounds(known).pad(0.6), { animate: false, maxZoom: 15 });
   }
 
-  // Lets the user draw an area: from where a button goes down to where it goes up.
+  // Lets the user draw an area: from where a button goes down to where it goes up. `areaDrawn` is called with the bounds so far, and whether
+  // they are the last ones.
   askAreas(areaDrawn) {
     let corner = null;
     const { map } = this, container = map.getContainer();
-    const end = (at) => {
-      this.asksArea = false;
+    const bounds = (event) => L.latLngBounds(corner, map.mouseEventToLatLng(event));
+    const end = (area) => {
+      setTimeout(() => { this.asksArea = false; });         // after the click that the map makes of it
       map.dragging.enable();
       container.classList.remove("crosshair");
-      areaDrawn(at && corner && L.latLngBounds(corner, at));
       corner = null;
+      areaDrawn(area, true);
     };
     this.askArea = () => {
       this.asksArea = true;
       map.dragging.disable();
       container.classList.add("crosshair");
     };
-    const place = (event) => map.mouseEventToLatLng(event);
-    container.addEventListener("pointerdown", (event) => { if (this.asksArea) { corner = place(event); container.setPointerCapture(event.pointerId); } });
-    container.addEventListener("pointerup", (event) => { if (this.asksArea && corner) end(place(event)); });
+    container.addEventListener("pointerdown", (event) => {
+      if (!this.asksArea) return;
+      corner = map.mouseEventToLatLng(event);
+      container.setPointerCapture(event.pointerId);
+    });
+    container.addEventListener("pointermove", (event) => { if (corner) areaDrawn(bounds(event), false); });
+    container.addEventListener("pointerup", (event) => { if (corner) end(bounds(event)); });
     container.addEventListener("pointercancel", () => { if (this.asksArea) end(null); });
   }
 }

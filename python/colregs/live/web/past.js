@@ -9,6 +9,11 @@ export class Past {
     Object.assign(this, { live, changed, store: null, asked: null, timer: 0 });
     this.slider = byId("slider");
     this.slider.addEventListener("input", () => this.ask(Number(this.slider.value)));
+    this.moment = byId("moment");
+    this.moment.addEventListener("change", () => {
+      const at = Date.parse(`${this.moment.value}Z`) / 1000;
+      if (Number.isFinite(at)) this.ask(at);
+    });
     byId("earlier").addEventListener("click", () => this.move(-60));
     byId("later").addEventListener("click", () => this.move(60));
     byId("now").addEventListener("click", () => this.end());
@@ -22,6 +27,12 @@ export class Past {
     this.slider.min = Math.floor(health.first / STEP) * STEP;
     this.slider.max = Math.ceil(clock / STEP) * STEP;
     if (this.asked === null) this.slider.value = this.slider.max;
+    this.fitMoment();
+  }
+
+  // Shows the moment in its field, unless the user is writing there.
+  fitMoment() {
+    if (document.activeElement !== this.moment) this.moment.value = new Date(Number(this.slider.value) * 1000).toISOString().slice(0, 19);
   }
 
   move(seconds) { this.ask((this.asked ?? this.live.clock) + seconds); }
@@ -31,6 +42,7 @@ export class Past {
     if (at >= this.live.clock - STEP) { this.end(); return; }
     this.asked = Math.max(Number(this.slider.min), Math.round(at / STEP) * STEP);
     this.slider.value = this.asked;
+    this.fitMoment();
     byId("past").hidden = false;
     byId("past-time").textContent = `${date(this.asked)} ${time(this.asked)} UTC`;
     byId("past-words").textContent = "reading \u2026";
