@@ -1,7 +1,7 @@
 #!/usr/bin/env python3
 """Sea trials of examples/pilot.toml as a table: trials.py PROGRAM [--runs N] [--jobs N] [--kept FOLDER]
 
-First N runs with 1 to 4 others that keep on, a row for each number of others. Then a fiftieth as many runs with others
+First N runs with 1 to 4 others that keep on, a row for each number of others. Then a hundredth as many runs with others
 that turn the wrong way, report badly or plan themselves, and with an own ship that is sluggish; the fixed geometries
 and the crossings. Seeds begin with 10001, so that a second run makes the same runs. FOLDER holds what is done, by
 thousands of runs: a measure that was stopped continues there.
@@ -77,7 +77,7 @@ def measure(given: argparse.Namespace) -> None:
         if some:
             print(row(f"{number} that keep{'s' if number == 1 else ''} on", some), flush=True)
     for name, more in HARDER:
-        print(row(f"1 to 4, {name}", drawn(given, name, max(1, given.runs // 50), more)), flush=True)
+        print(row(f"1 to 4, {name}", drawn(given, name, max(1, given.runs // 100), more)), flush=True)
     for name, more in FIXED:
         runs = made(given, name, more)
         print(row(f"{len(runs)} {name}", runs), flush=True)

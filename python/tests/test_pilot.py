@@ -289,6 +289,15 @@ class Live(InFolder):
         self.assertEqual((found["state"], found["cause"]), ("none", "scenario"))
         self.assertIn("scenario: detect.risk: range", found["words"])
 
+    def test_rows_that_no_program_of_ours_writes_are_a_state(self) -> None:
+        for rows, status, words in (("point,x,y\nmeeting,a\nvessel,,,,,,\nplan,x", 0, "no plan"),
+                                    ("why,99,9,9,9,9,9\nnone,1,,,,,", 1, "no reasons"), ("", 1, "no row `none`")):
+            program = self.write("program", f"#!/bin/sh\ncat <<'END'\n{rows}\nEND\nexit {status}\n")
+            os.chmod(program, 0o755)
+            found = self.pilot("--every", "60", "--program", program, source="\n".join(self.lines))[-1]
+            self.assertEqual((found["state"], found["cause"]), ("none", "program"))
+            self.assertIn(words, found["words"])
+
     def test_an_own_ship_that_is_not_heard_is_not_ready(self) -> None:
         self.write("s.toml", text_of(self.scenario).replace("mmsi = 200000031 ", "mmsi = 200000030 "))
         found = self.pilot("--every", "60", source="\n".join(self.lines))[-1]
@@ -428,7 +437,7 @@ class Going(InFolder):
 
     def test_a_program_that_is_killed_or_hangs_is_a_state(self) -> None:
         for body, words in (("kill -9 $$", "signal 9"), ("sleep 30", "no answer in"), ("exit 8", "status 8"),
-                            ("echo plan,x", "no plan"), ("exit 1", "no row `none`")):
+                            ("echo plan,x", "no plan")):
             program = self.write("program", "#!/bin/sh\n%s\n" % body)
             os.chmod(program, 0o755)
             child = self.start(program=program)

@@ -2,8 +2,9 @@
 trials run this code."""
 from __future__ import annotations
 
+from collections.abc import Callable
 from dataclasses import dataclass
-from typing import Protocol
+from typing import Protocol, TypeVar
 
 from colregs.pilot.motion import Place
 from colregs.pilot.planner import Patience, Planner, Question
@@ -14,6 +15,18 @@ from colregs.pilot.states import Answer, Cause, Decision, Memory, Track, decide,
 
 LONG = 1800            # s: a window this long is cut to the meetings that last, if nobody asked for them before
 BEFORE = 6             # ticks that a window begins before the oldest meeting that lasts
+
+
+Found = TypeVar("Found")
+
+
+def read(reader: Callable[[Report], Found], report: Report) -> Found | None:
+    """Returns what a reader finds in a report; nothing if the report is not whole, or its rows are not the
+    program's."""
+    try:
+        return reader(report) if report.status == 0 else None
+    except (IndexError, ValueError):
+        return None
 
 
 class Log(Protocol):
@@ -69,14 +82,13 @@ class Pilot:
         lines, text = self.lines(log, window), self.scenario.text(window, subjects=(self.scenario.own,))
         points = self.planner.runner.report("points", text, lines, timeout=patience.left())
         audit = self.planner.runner.report("audit", text, lines, timeout=patience.left())
-        return Scene(
-            latest_sightings(points) if points.status == 0 else {}, self.lasting(window, audit), names_of(audit))
+        return Scene(read(latest_sightings, points) or {}, self.lasting(window, audit), read(names_of, audit) or {})
 
     def lasting(self, window: Window, audit: Report) -> list[Meeting]:
         """Returns own ship's meetings that last, and lets the next window begin before the oldest one."""
-        if audit.status != 0:
+        meetings = read(lambda rows: lasting_meetings(rows, self.scenario.own, window, self.scenario.gap), audit)
+        if meetings is None:
             return []
-        meetings = lasting_meetings(audit, self.scenario.own, window, self.scenario.gap)
         begins = min([meeting.begins
                       for meeting in meetings] + [window.ends - self.scenario.gap]) - BEFORE * window.tick
         self.cut = any(meeting.begins <= window.start

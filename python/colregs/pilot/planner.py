@@ -147,7 +147,10 @@ class Planner:
             again = self.runner.report("recheck", scenario, question.log, rows=report.text, timeout=patience.left())
             checked = {0: True, 10: False}.get(again.status)
         words = "every plan fails: %d courses and %d speeds for a leg" % (len(choices.courses), len(choices.speeds))
-        reasons = read_reasons(report, choices, reported, question.window)
+        try:
+            reasons = read_reasons(report, choices, reported, question.window)
+        except (IndexError, ValueError):
+            return Answer(cause=Cause.PROGRAM, words="the program's rows are no reasons")
         return Answer(cause=Cause.EVERY_PLAN_FAILS, words=words, reasons=reasons, checked=checked)
 
     def escape(self, question: Question, patience: Patience) -> Plan | None:
