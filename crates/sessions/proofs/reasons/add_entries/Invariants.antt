@@ -1,4 +1,4 @@
-use Rattle.std.proofs.Common.{◌≡◌, take, flat_map}
+use Rattle.std.proofs.Common.{take, flat_map}
 use Rattle.refutations.specs.EntryRows.{entry_text}
 use Rattle.refutations.specs.EntryTexts.{HasRows}
 use Rattle.sessions.proofs.reasons.add_entries.Given as goal
