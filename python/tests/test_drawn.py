@@ -6,7 +6,7 @@ from concurrent.futures import ProcessPoolExecutor
 import drawn_logs
 from given import PROGRAM, with_program
 
-NUMBERS = range(9000, 9600)         # about what four processors draw in half a minute; dev/bench/all has 20,000
+NUMBERS = range(9000, 9300)         # a quarter of a minute on four processors; dev/bench/all runs 20,000
 
 
 @with_program
