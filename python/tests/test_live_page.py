@@ -31,7 +31,8 @@ new MutationObserver(look).observe(document.getElementById("list-alarms"), watch
 # how often the page draws its map: each time it clears the canvas first
 FRAMES = """
 window.times = []; const { clearRect } = CanvasRenderingContext2D.prototype;
-CanvasRenderingContext2D.prototype.clearRect = function (...room) { times.push(performance.now()); clearRect.apply(this, room); };
+CanvasRenderingContext2D.prototype.clearRect = function (...room) {
+  times.push(performance.now()); clearRect.apply(this, room); };
 true"""
 # drawings a second, and the ms of the longest
 MEASURED = """(() => { const gaps = times.slice(1).map((now, k) => now - times[k]);
