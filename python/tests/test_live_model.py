@@ -75,7 +75,8 @@ class Items(WithScenario):
         self.stretches = Stretches(self.scenario)
         notes = Notes(self.folder)
         self.addCleanup(notes.close)
-        self.alarms = Alarms(self.stretches, notes, lambda key, first, last, before: {"subject_name": "A", "at_rest": ""})
+        about = {"subject_name": "A", "at_rest": ""}
+        self.alarms = Alarms(self.stretches, notes, lambda key, first, last, before: dict(about))
         self.alarms.clock = START + 300
 
     def settle(self, step: int) -> None:

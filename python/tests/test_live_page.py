@@ -31,7 +31,8 @@ new MutationObserver(look).observe(document.getElementById("list-alarms"), watch
 # how often the page draws its map: each time it clears the canvas first
 FRAMES = """
 window.times = []; const { clearRect } = CanvasRenderingContext2D.prototype;
-CanvasRenderingContext2D.prototype.clearRect = function (...room) { times.push(performance.now()); clearRect.apply(this, room); };
+CanvasRenderingContext2D.prototype.clearRect = function (...room) {
+  times.push(performance.now()); clearRect.apply(this, room); };
 true"""
 # drawings a second, and the ms of the longest
 MEASURED = """(() => { const gaps = times.slice(1).map((now, k) => now - times[k]);
@@ -278,6 +279,10 @@ class Pages(WithHarbour):
         self.shows('document.querySelectorAll("#list-encounters li").length === 4')
         self.press("[")
         self.shows('document.getElementById("past-time").textContent.endsWith("22:19:00 UTC")')
+        self.value('document.getElementById("moment").focus(); document.getElementById("moment").value = ""')
+        self.tab.ask("Input.insertText", text="2023-11-14 22:20")
+        self.press("Enter")
+        self.shows('document.getElementById("past-time").textContent.endsWith("22:20:00 UTC")')
         self.press("l", "1")
         self.shows('document.getElementById("past").hidden && document.querySelectorAll("#list-alarms li").length > 3')
         self.check_quiet()

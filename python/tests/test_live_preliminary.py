@@ -16,8 +16,8 @@ EARLY, LATER, LATEST = 135, 255, 900        # s: the encounter has begun; r14a i
 
 
 def turns() -> list[tuple[int, str]]:
-    """Returns seconds and reports of the two vessels that pass, each every half a minute in turn: so the newest place of
-    one is always older than that of the other."""
+    """Returns seconds and reports of the two vessels that pass, each every half a minute in turn, so that one is always
+    known longer than the other."""
     reports = []
     for second in range(0, LATEST, 15):
         if second % 30:

@@ -206,8 +206,8 @@ class Alarms:
                     None)
 
     def grow(self, item: Item, is_new: bool) -> None:
-        """Notes that an item has another step. Of two vessels at rest, which are many and hidden, that is sent once in a
-        while."""
+        """Notes that an item has another step. Of two vessels at rest, which are many and hidden, that is sent once a
+        minute."""
         self.lasting.add(item.id)
         if is_new or not item.is_at_rest or self.clock >= item.sent_at + AGAIN:
             self.touch(item)

@@ -61,8 +61,11 @@ class Paced:
             self.due = max(self.due, time.monotonic() - 1)          # what the stream lost in a stop is not made up for
 
     def done(self, mark: Mark) -> None:
-        """Notes that the lines up to a mark are taken. It is stored once a second: a fast replay has many marks, and the
-        disk takes its time for each. A restart may repeat the lines of that second, which changes no row."""
+        """Notes that the lines up to a mark are taken.
+
+        It is stored once a second, because a fast replay has many marks and the disk takes its time for each. A restart
+        may repeat the lines of that second, which changes no row.
+        """
         self.mark = mark
         if time.monotonic() >= self.stored + EACH:
             self.store()

@@ -286,14 +286,15 @@ class Server:
 
     async def end_idle(self, connections: Callable[[], list[web.RequestHandler]]) -> None:
         """Ends connections that are there at two looks and have made no request."""
-        before: set[web.RequestHandler] = set()
+        before: set[asyncio.BaseProtocol] = set()
         while True:
             await asyncio.sleep(IDLE)
-            now = set(connections())
+            there = connections()
+            now: set[asyncio.BaseProtocol] = set(there)
             self.asked_once &= now
-            for one in before & now - self.asked_once:
-                if one.transport:
-                    one.transport.abort()               # type: ignore[attr-defined]
+            for one in there:
+                if one in before and one not in self.asked_once and isinstance(one.transport, asyncio.Transport):
+                    one.transport.abort()
             before = now
 
     # lists and numbers

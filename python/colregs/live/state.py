@@ -96,7 +96,8 @@ class State:
     def load(self, days: list[str]) -> None:
         """Takes what an earlier run wrote on these days."""
         with self.lock:
-            self.first = first_time(line for day in days_in(self.folder) for line in lines_of(f"{self.folder}/{day}.log"))
+            every = (lines_of(f"{self.folder}/{day}.log") for day in days_in(self.folder))
+            self.first = first_time(line for lines in every for line in lines)
             self.book.load(days)
             for told in self.book.restored:
                 self.alarms.told(told)

@@ -311,7 +311,8 @@ class Follow:
         oldest = min(self.windows, default=self.now()) - 2 * self.numbers.ticks * self.numbers.tick
         self.over = {start for start in self.over if start >= oldest}
         self.heard = {mmsi: at for mmsi, at in self.heard.items() if at >= oldest}
-        self.written.forget(oldest)
+        at_work = min([run.window.start for run in self.runs] + list(self.windows), default=self.now())
+        self.written.forget(at_work - 2 * self.numbers.length)      # a window that ends can write rows of the one before
         self.borders.forget(oldest)
         self.marks = {mark: place for mark, place in self.marks.items() if mark >= oldest // MARK - 1}
 

@@ -3,6 +3,7 @@ import { Drawing } from "./drawing.js";
 import { byId } from "./words.js";
 
 const FRAME = 100;      // ms between two drawings
+const SETTLING = 15000; // ms after the page is opened in which the map shows all vessels, unless the user moves it
 
 export class ChartMap {
   // `view` returns what to draw: store, states, filters and chosen. `choose` is called with a vessel that is clicked, or null.
@@ -10,7 +11,8 @@ export class ChartMap {
     this.view = view;
     this.drawn = 0;
     this.waits = false;
-    this.fitted = false;
+    this.fitted = 0;            // the vessels that the map was fitted to
+    this.moved = false;
     this.map = L.map("map", { attributionControl: Boolean(settings.tiles), zoomSnap: 0.25, maxZoom: 19, minZoom: 2, fadeAnimation: false, zoomAnimation: false,
       inertia: false, keyboard: true });
     this.map.setView([settings.centre[1], settings.centre[0]], 12);
@@ -23,6 +25,7 @@ export class ChartMap {
     this.map.on("mousemove", ({ containerPoint }) => {
       this.map.getContainer().style.cursor = this.asksArea ? "" : this.drawing.near(containerPoint.x, containerPoint.y) ? "pointer" : "";
     });
+    for (const kind of ["pointerdown", "wheel", "keydown"]) this.map.getContainer().addEventListener(kind, () => { this.moved = true; });
     new ResizeObserver(() => this.map.invalidateSize({ animate: false })).observe(byId("map"));
     this.askAreas(areaDrawn);
   }
@@ -52,13 +55,14 @@ export class ChartMap {
   now() {
     this.drawn = performance.now();
     const { store, states, filters, chosen } = this.view();
-    if (!this.fitted && store.vessels.size) this.fit(store);
+    const isNew = !this.moved && performance.now() < SETTLING && store.vessels.size > this.fitted;
+    if (isNew || !this.fitted && store.vessels.size) this.fit(store);
     this.drawing.draw(store, states, filters, chosen);
   }
 
   // Shows all vessels.
   fit(store) {
-    this.fitted = true;
+    this.fitted = store.vessels.size;
     const places = [...store.vessels.values()].filter((vessel) => vessel.latitude !== undefined).map((vessel) => [vessel.latitude, vessel.longitude]);
     if (places.length) this.map.fitBounds(L.latLngBounds(places).pad(0.08), { animate: false, maxZoom: 15 });
   }

@@ -11,8 +11,9 @@ export class Past {
     this.slider.addEventListener("input", () => this.ask(Number(this.slider.value)));
     this.moment = byId("moment");
     this.moment.addEventListener("change", () => {
-      const at = Date.parse(`${this.moment.value}Z`) / 1000;
-      if (Number.isFinite(at)) this.ask(at);
+      const at = Date.parse(`${this.moment.value.trim().replace(" ", "T")}Z`) / 1000;
+      this.moment.blur();
+      if (Number.isFinite(at)) this.ask(at); else this.fitMoment();
     });
     byId("earlier").addEventListener("click", () => this.move(-60));
     byId("later").addEventListener("click", () => this.move(60));
@@ -32,7 +33,8 @@ export class Past {
 
   // Shows the moment in its field, unless the user is writing there.
   fitMoment() {
-    if (document.activeElement !== this.moment) this.moment.value = new Date(Number(this.slider.value) * 1000).toISOString().slice(0, 19);
+    const at = Number(this.slider.value);
+    if (document.activeElement !== this.moment) this.moment.value = `${date(at)} ${time(at)}`;
   }
 
   move(seconds) { this.ask((this.asked ?? this.live.clock) + seconds); }
