@@ -23,8 +23,8 @@ MANY = ["--targets", "1..4"]
 HARDER = [("contrary", ["--others", "contrary"]), ("noise", ["--noise"]), ("sluggish", ["--sluggish"]),
           ("planning", ["--others", "planning"])]
 FIXED = [("geometries", ["--no-draw", "--geometries"]), ("crossings", ["--no-draw", "--crossing"])]
-HEAD = ("Others", "runs", "collisions", "domains entered", "least, m", "`none`, % of answers", "broke a rule, % of runs",
-        "rules")
+HEAD = ("Others", "runs", "collisions", "domains entered", "least, m", "`none`, % of answers",
+        "broke a rule, % of runs", "rules")
 
 Runs = list[dict[str, Any]]
 
