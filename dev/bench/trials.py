@@ -3,8 +3,8 @@
 
 First N runs with 1 to 4 others that keep on, a row for each number of others. Then a hundredth as many runs with others
 that turn the wrong way, report badly or plan themselves, and with an own ship that is sluggish; the fixed geometries
-and the crossings. Seeds begin with 10001, so that a second run makes the same runs. FOLDER holds what is done, by
-thousands of runs: a measure that was stopped continues there.
+and the crossings. Seeds begin with 10001, so that a second run makes the same runs. FOLDER stores each 250 runs: a
+measure that was stopped continues there.
 """
 import argparse
 import json
@@ -18,13 +18,13 @@ from typing import Any
 HERE = os.path.dirname(os.path.abspath(__file__))
 TOP = os.path.dirname(os.path.dirname(HERE))
 TOOL, SCENARIO = os.path.join(TOP, "tools", "colregs-trials"), os.path.join(TOP, "examples", "pilot.toml")
-FIRST, PIECE = 10001, 1000
+FIRST, PIECE = 10001, 250
 MANY = ["--targets", "1..4"]
 HARDER = [("contrary", ["--others", "contrary"]), ("noise", ["--noise"]), ("sluggish", ["--sluggish"]),
           ("planning", ["--others", "planning"])]
 FIXED = [("geometries", ["--no-draw", "--geometries"]), ("crossings", ["--no-draw", "--crossing"])]
-HEAD = ("Others", "runs", "collisions", "domains entered", "least, m", "`none`, % of answers", "broke a rule, % of runs",
-        "rules")
+HEAD = ("Others", "runs", "collisions", "domains entered", "least, m", "`none`, % of answers",
+        "broke a rule, % of runs", "rules")
 
 Runs = list[dict[str, Any]]
 

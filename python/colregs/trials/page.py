@@ -45,7 +45,8 @@ def run_picture(scenario: PilotScenario, result: Result) -> Json:
     """Returns what the page draws of a run; own ship is the first vessel, and has no domain."""
     lengths = [begin.length for begin in result.others]
     return {
-        "title": result.kind if " " in result.kind else f"{result.kind} {result.seed}", "words": run_words(result), "every": FIX_EVERY,
+        "title": result.kind if " " in result.kind else f"{result.kind} {result.seed}",
+        "words": run_words(result), "every": FIX_EVERY,
         "names": ["OWN SHIP"] + [begin.name for begin in result.others], "lengths": [OWN_LENGTH] + lengths,
         "radii": [0] + [scenario.base + scenario.lengths * length for length in lengths], "places": [
             fix.places for fix in result.fixes
