@@ -297,7 +297,7 @@ class Results:
 
     def result(self, job: Job) -> str:
         """Returns the result of a job. Groups of subjects of one share have the same log and the same checks."""
-        key = (job.start, job.ticks, *job.files, *(job.vessels or [None]))
+        key = (job.start, job.ticks, *job.files, *(job.vessels or [0]))
         if key not in self.shares:
             self.shares[key] = self.share(job)
         log, checks = self.shares[key]
