@@ -312,7 +312,8 @@ class Follow:
         self.over = {start for start in self.over if start >= oldest}
         self.heard = {mmsi: at for mmsi, at in self.heard.items() if at >= oldest}
         at_work = min([run.window.start for run in self.runs] + list(self.windows), default=self.now())
-        self.written.forget(at_work - 2 * self.numbers.length)      # the end of a window can write rows of the one before
+        # the end of a window can write rows of the one before
+        self.written.forget(at_work - 2 * self.numbers.length)
         self.borders.forget(oldest)
         self.marks = {mark: place for mark, place in self.marks.items() if mark >= oldest // MARK - 1}
 
