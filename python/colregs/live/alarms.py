@@ -250,6 +250,10 @@ class Alarms:
                 self.touch(item)
             elif item.settled is None and clock > max(item.last, item.confirmed_at) + self.stretches.wait:
                 self.doubt(item)
+            elif item.settled is None and not item.about.get("position"):
+                self.look(item)                         # the answer was there before the points
+                if item.about.get("position"):
+                    self.touch(item)
         for item in list(self.old(clock)):
             self.drop(item)
 
