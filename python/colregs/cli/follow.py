@@ -26,7 +26,7 @@ from colregs.stream.stretches import PATIENCE, StretchSink
 
 
 def modes(word: str) -> list[str]:
-    """Returns the modes of words as audit,watch."""
+    """Parses modes such as audit,watch."""
     names = word.split(",")
     if not set(names) <= {"audit", "watch"} or len(set(names)) < len(names):
         raise argparse.ArgumentTypeError("modes are audit, watch, or audit,watch")
@@ -65,8 +65,8 @@ def parser() -> argparse.ArgumentParser:
                             "is over; pairs at rest are counted")
     words.add_argument("--at-rest", action="store_true", help="with --stretches, write those of pairs at rest too")
     words.add_argument("--patience", type=int, default=PATIENCE, metavar="SECONDS",
-                       help="with --stretches, how long an alarm waits for positions that come late, as on a busy machine "
-                            f"(default: {PATIENCE})")
+                       help="with --stretches, how long an alarm waits for positions that come late, as on a busy "
+                            f"machine (default: {PATIENCE})")
     words.add_argument("--out", metavar="FILE", help="a file that rows are added to, instead of standard output")
     words.add_argument("--to", metavar="COMMAND", help="a command that reads the rows")
     return words
