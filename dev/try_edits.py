@@ -20,7 +20,7 @@ from dev.repository import listed_crates, path_of
 
 
 def copy_with_edits(room: str, wanted: list[str]) -> None:
-    """Copies the sources into a folder. A wanted crate gets its further edits there, and none of the gate."""
+    """Copies the sources into a folder. A wanted crate gets its further edits there, instead of those of the gate."""
     for name in ("crates.txt", "HANDLES"):
         shutil.copy(path_of(name), room)
     shutil.copytree(path_of("crates"), os.path.join(room, "crates"), ignore=shutil.ignore_patterns("out", "must-fail"))

@@ -1,4 +1,4 @@
-"""The tools around the program `colregs`: they read logs, call the program, and show its rows. They judge no meeting.
+"""The tools around the program `colregs`: they read logs, call the program, and show its rows. They judge no encounter.
 
 `colregs.report("plan", scenario, log)` gives a report with typed rows.
 """

@@ -20,7 +20,7 @@ WRONG_USES = [
     (["passing.log", "--scenario", "none.toml"], "none.toml"),
     (["passing.log", "--scenario", "/dev/zero"], "/dev/zero is a device"),
     (["passing.log", "--scenario", "passing.log"], "passing.log: not TOML: "),
-    (["passing.log", "--program", "none"], "no program"),
+    (["passing.log", "--program", "none"], "cannot be run as a program"),
     (["passing.log", "--chart", "passing.toml"], "GeoJSON"),
     (["passing.log", "-o", "."], "is there already"),
     (["passing.toml", "--scenario", "passing.toml"], "no sentence and no row was read"),
@@ -220,8 +220,8 @@ class Times(Cases):
         then no packet."""
         for head in ("d4c3b2a1", "a1b2c3d4", "4d3cb2a1", "a1b23c4d", "0a0d0d0a"):
             self.write("passing.log", bytes.fromhex(head) + bytes(20) + passing.log().encode())
-            self.assertRegex(self.make(status=1)[2], "no sentence and no row was read. passing.log: no lines, packed "
-                                                     "by a capture")
+            self.assertRegex(self.make(status=1)[2], "no sentence and no row was read. passing.log: no lines, "
+                                                     "compressed by a capture")
 
     def test_dates_in_the_future_are_a_doubt(self) -> None:
         """4000000000 s are 2 October 2096, 07:06:40 UTC."""

@@ -77,21 +77,21 @@ class Parallel(Engines):
     @needs("parallel")
     def test_jobs_without_a_result_run_and_no_others(self) -> None:
         self.plan("--ticks-each", "1000", "--group", "7")
-        self.assertIn("3 jobs: 0 were kept before, 3 ran, 0 failed", self.many("jobs", "--parallel", "--jobs", "3")[2])
+        self.assertIn("3 jobs: 0 were cached, 3 ran, 0 failed", self.many("jobs", "--parallel", "--jobs", "3")[2])
         self.assertEqual(text_of(self.path("jobs.kept/joblog")).count("colregs-many one"), 3)
         self.joined_is_whole()
         name = next(name for name in os.listdir(self.path("jobs.kept")) if len(name) == 68)
         os.truncate(self.path("jobs.kept/" + name), 40)         # what its list of ended jobs calls done
-        self.assertIn("3 jobs: 2 were kept before, 1 ran, 0 failed", self.many("jobs", "--parallel")[2])
+        self.assertIn("3 jobs: 2 were cached, 1 ran, 0 failed", self.many("jobs", "--parallel")[2])
         self.write("s.toml", crowd.harbour() + "# another scenario\n")
-        self.assertIn("3 jobs: 0 were kept before, 3 ran, 0 failed", self.many("jobs", "--parallel")[2])
+        self.assertIn("3 jobs: 0 were cached, 3 ran, 0 failed", self.many("jobs", "--parallel")[2])
         self.joined_is_whole()
 
     @needs("parallel")
     def test_a_job_that_fails_is_counted(self) -> None:
         self.write("s.toml", crowd.harbour().replace("ticks = 198 ", "ticks = 198000 "))
         self.plan("--ticks", "100")
-        self.assertIn("1 job: 0 were kept before, 0 ran, 1 failed", self.many("jobs", "--parallel", status=1)[2])
+        self.assertIn("1 job: 0 were cached, 0 ran, 1 failed", self.many("jobs", "--parallel", status=1)[2])
 
 
 CONFIGURATION = """ClusterName=test
@@ -264,7 +264,7 @@ class Dask(Engines):
         _, process, tool = map(int, ("0 " + text_of(self.path("first"))).split()[-3:])
         workers[parent_of(tool)].kill()
         os.kill(tool, signal.SIGKILL)
-        self.assertIn(b"5 jobs: 0 were kept before, 5 ran, 0 failed", run.communicate(timeout=HANGS)[1])
+        self.assertIn(b"5 jobs: 0 were cached, 5 ran, 0 failed", run.communicate(timeout=HANGS)[1])
         self.until(lambda: not is_alive(process), "the end of the program with its tool")
         self.joined_is_whole()
 
@@ -336,7 +336,7 @@ class Scripts(Engines):
         self.plan("--ticks-each", "1000", "--group", "10")
         for command in self.many("commands", "jobs")[1].splitlines():
             subprocess.run(["sh", "-c", command], check=True, timeout=300)
-        self.assertIn("2 were kept before, 0 ran", self.many("jobs")[2])
+        self.assertIn("2 were cached, 0 ran", self.many("jobs")[2])
 
     def test_a_task_of_an_array_runs_the_job_of_its_number(self) -> None:
         self.plan("--ticks-each", "1000", "--group", "4")

@@ -229,7 +229,7 @@ class KeptResults(Joins):
             os.truncate(self.path("jobs.kept/" + name), size)
         error = self.many("join", "jobs", status=1)[2]
         self.assertIn("2 of 5 jobs have no result yet", error)
-        self.assertIn("3 were kept before, 2 ran, 0 failed", self.many("jobs")[2])
+        self.assertIn("3 were cached, 2 ran, 0 failed", self.many("jobs")[2])
         self.assertEqual(crowd.stretches(self.many("join", "jobs")[1]), joined)
 
     def test_a_result_ends_with_the_sum_of_its_lines(self) -> None:

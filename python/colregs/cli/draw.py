@@ -1,9 +1,9 @@
 """Draws an audit, or a plan, as pictures in SVG.
 
-    draw SCENARIO OUT --log LOG [--program PROGRAM] [--plan]
-    draw SCENARIO OUT --points POINTS --audit AUDIT
-    draw SCENARIO OUT --points POINTS --plan PLAN
-    draw CASE OUT
+    colregs-draw SCENARIO OUT --log LOG [--program PROGRAM] [--plan]
+    colregs-draw SCENARIO OUT --points POINTS --audit AUDIT
+    colregs-draw SCENARIO OUT --points POINTS --plan PLAN
+    colregs-draw CASE OUT
 
 For an audit, OUT.svg shows the tracks on the plane of the scenario: each vessel's name and a mark every few minutes,
 the moment at which two vessels that met were nearest, and, along the track of the vessel that a rule binds, the

@@ -26,7 +26,7 @@ from colregs.stream.stretches import PATIENCE, StretchSink
 
 
 def modes(word: str) -> list[str]:
-    """Returns the modes of words as audit,watch."""
+    """Parses modes such as audit,watch."""
     names = word.split(",")
     if not set(names) <= {"audit", "watch"} or len(set(names)) < len(names):
         raise argparse.ArgumentTypeError("modes are audit, watch, or audit,watch")

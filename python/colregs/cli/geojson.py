@@ -1,14 +1,15 @@
 """Writes GeoJSON (RFC 7946) of the reports of a log to standard output.
 
-    geojson SCENARIO POINTS [AUDIT] > OUT.geojson
-    geojson SCENARIO --log LOG [--program PROGRAM] > OUT.geojson
-    geojson CASE > OUT.geojson
+    colregs-geojson SCENARIO POINTS [AUDIT] > OUT.geojson
+    colregs-geojson SCENARIO --log LOG [--program PROGRAM] > OUT.geojson
+    colregs-geojson CASE > OUT.geojson
 
 Each report is a point, with MMSI, name, time, speed in knots and course in degrees; each track is a line, broken where
 two reports lie more than the scenario's gap apart, with its two ends. With a report of `audit` each meeting and each
 stretch of a verdict is a line too, along the track of its subject, and the nearest place of each meeting is a point,
-with a line to the other vessel. Rows have both MMSIs and names, steps, times, and who lies still in them. Places are
-those of the log, in degrees of latitude and longitude. If a log crosses the date line, longitudes continue past 180.
+with a line to the other vessel. Rows have both MMSIs and names, steps, times, and which vessel is at rest. Positions
+are those of the log, in degrees of latitude and longitude. If a log crosses the date line, longitudes continue past
+180.
 
 Exit status: 0 if all is written, 1 if it is not, 2 if the command line is wrong.
 """

@@ -60,7 +60,7 @@ def run_jobs(given: argparse.Namespace) -> int:
     for words in faults:
         report("many", words)
     before = len(jobs) - ran - len(faults)
-    report("many", f"{count(len(jobs), 'job')}: {before} were kept before, {ran} ran, {len(faults)} failed")
+    report("many", f"{count(len(jobs), 'job')}: {before} were cached, {ran} ran, {len(faults)} failed")
     return FAILED if faults else DONE
 
 
@@ -145,7 +145,7 @@ def tell(summary: join.Summary, folder: str) -> None:
 
 
 def tiles(word: str) -> tuple[int, int]:
-    """Returns columns and rows of words as 4x3."""
+    """Parses columns and rows such as 4x3."""
     sides = re.fullmatch(r"([1-9]\d?)x([1-9]\d?)", word)
     if not sides:
         raise argparse.ArgumentTypeError("tiles are columns x rows, as 4x3")

@@ -89,7 +89,7 @@ class Reading:
 
 
 class Unsure(Exception):
-    """A time that stands there, and is not to be read; its words say what it is."""
+    """A time that must not be guessed; the text says what it is."""
 
 
 def seconds_of(year: int, month: int, day: int, hour: int, minute: int, second: int, zone: int = 0) -> int:

@@ -1,8 +1,8 @@
 """Logs whose lines are JSON: AIS-catcher, gpsd (`gpspipe -w`), SignalK's deltas, and others that hold a sentence and a
 time.
 
-An object that holds sentences gives them as they are. One that holds a ship's values alone becomes a position report,
-message 18 of class B and else message 1, and message 24.
+Sentences in an object are taken as they are. An object with only a ship's values becomes a position report, message 18
+for class B and otherwise message 1, and message 24.
 """
 import json
 import math
@@ -23,8 +23,8 @@ HELD = re.compile(r"![A-Z0-9]{2}VD[MO],")
 
 
 class Held:
-    """What an object holds: a time or nothing, sentences as they are, or sentences made; or the name of what it is,
-    where it holds neither."""
+    """What an object holds: a time or nothing, sentences as they are, or sentences made; or the name of what it is
+    if it holds neither."""
 
     def __init__(self, form: str, time: int | None = None, raw: Sequence[bytes] = (), made: Sequence[bytes] = (),
                  fix: Report | None = None, aside: bool = False) -> None:

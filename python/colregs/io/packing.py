@@ -1,7 +1,7 @@
-"""Opens a log as it was given, packed or not, in bytes or in UTF-16, and gives its lines one by one.
+"""Opens a log, compressed or not, in bytes or in UTF-16, and yields its lines.
 
-A file that is not there, is damaged or is cut off ends in a Fault with words for its reader, and never in anything
-else. Python unpacks gzip, xz, bzip2 and zip by itself; for zstd the command `zstd` is needed (tools/PACKAGES).
+A file that does not exist, is damaged or is cut off raises a Fault, and nothing else. Python decompresses gzip, xz,
+bzip2 and zip by itself; zstd needs the command `zstd` (tools/PACKAGES).
 """
 import bz2
 import contextlib
@@ -61,7 +61,7 @@ def packing(path: str) -> str:
 def zstd(path: str) -> Iterator[IO[bytes]]:
     """Opens a file that is packed by zstd."""
     if not shutil.which("zstd"):
-        raise Fault(f"{path} is packed by zstd, and the command zstd is not here (Debian package zstd)")
+        raise Fault(f"{path} is compressed by zstd: install the command zstd (Debian package zstd)")
     with subprocess.Popen(["zstd", "-dcq", "--", path], stdout=subprocess.PIPE, stderr=subprocess.DEVNULL) as child:
         assert child.stdout is not None
         try:
@@ -146,7 +146,7 @@ def told(path: str, packed: str) -> Iterator[None]:
     try:
         yield
     except DAMAGE:
-        raise Fault(f"{path} is packed by {packed}, and damaged or cut off") from None
+        raise Fault(f"{path} is compressed by {packed}, and damaged or cut off") from None
     except OSError as error:
         raise Fault(f"{path} cannot be read: {reason(error)}") from None
 

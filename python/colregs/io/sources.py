@@ -1,10 +1,10 @@
 """Makes one log of any logs: `gather` writes sentences with tag blocks, sorted by time, and counts each line by the
 form in which it was read.
 
-A sentence takes its time from its tag block, else from behind its sum, else from before it. A line without a time has
-that of the receiver's own clock (RMC, ZDA) or of the line before, whichever came last, and if there is neither, that of
-base stations (message 4). A line that gives nothing is counted too: `aside` where it is known and of no use here,
-`unread` with an example where it is not understood.
+A sentence takes its time from its tag block, otherwise from after its checksum, otherwise from before it. A line
+without a time has that of the receiver's own clock (RMC, ZDA) or of the line before, whichever came last, and if there
+is neither, that of base stations (message 4). A line that gives nothing is counted too: `aside` if it is known and not
+needed, `unread` with an example if it is not understood.
 """
 import collections
 import os
@@ -57,8 +57,8 @@ class Unread:
 
 
 class Gathered:
-    """What came of the logs: counts by form, files, first and last time, how many sentences were written, and words for
-    the reader."""
+    """How the logs were read: counts by form, files, first and last time, how many sentences were written, and notes
+    for the reader."""
 
     def __init__(self) -> None:
         self.files: list[Part] = []
@@ -123,15 +123,15 @@ class Gathered:
         return sum(part.lines for part in self.files)
 
     def words(self) -> Iterator[str]:
-        """Yields what came of the logs, line by line."""
+        """Yields how the logs were read, as lines of text."""
         for part in self.files:
-            packed = "" if part.packed == "plain" else ", packed by " + part.packed
+            packed = "" if part.packed == "plain" else ", compressed by " + part.packed
             encoding = "" if part.encoding == "bytes" else ", in " + part.encoding
             yield f"{part.name}: {count(part.lines, 'line')}{packed}{encoding}"
         for name, number in sorted(self.forms.items(), key=lambda entry: (-entry[1], entry[0])):
             yield f"read: {number} x {name}"
         for name, number in sorted(self.aside.items(), key=lambda entry: (-entry[1], entry[0])):
-            yield f"of no use here: {number} x {name}"
+            yield f"not needed: {number} x {name}"
         for name, told in sorted(self.unread.items(), key=lambda entry: (-entry[1].count, entry[0])):
             yield f"not understood: {told.count} x {name}, as {told.example}"
         yield from self.notes
@@ -353,13 +353,13 @@ class Reader:
                 return time, "tag block", more
         behind = self.times.read(line[end:], True)
         found = behind or self.times.read(before)
-        return found and (found[0], f"{found[1]} {'behind the sum' if behind else 'before the sentence'}", more)
+        return found and (found[0], f"{found[1]} {'after the checksum' if behind else 'before the sentence'}", more)
 
     def sentences(self, line: bytes) -> None:
         """Reads each sentence of a line; what follows the first has the time of the first."""
         found = list(SENTENCE.finditer(line))
         if not found:
-            self.gathered.cannot("a sentence without its sum, or cut off", line)
+            self.gathered.cannot("a sentence without its checksum, or cut off", line)
             return
         try:
             own = self.own_time(line, found[0].start(), found[-1].end())

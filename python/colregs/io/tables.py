@@ -50,7 +50,7 @@ NO_SHIPS = ("base", "aton", "aid", "sar", "search", "man over")
 
 
 class RowFault(Exception):
-    """Why a row gives nothing; its words name the form."""
+    """Why a row gives nothing; the text names the form."""
 
 
 def plain(head: str) -> str:
@@ -113,7 +113,7 @@ def columns_of(word: str) -> Columns:
 
 
 class Table:
-    """A head, and what its rows come to."""
+    """A header, and the sentences that its rows become."""
 
     def __init__(self, heads: Sequence[str], delimiter: str, columns: Columns = ()) -> None:
         self.width, self.delimiter, self.ship = len(heads), delimiter, units.Ship()

@@ -32,7 +32,7 @@ detect = {{ watch = 1, risk = 1, clear = 1, horizon = 60, doubt = 0, ahead = 0, 
 act = {{ steady_turn = 0, apparent_turn = 1, steady_speed = 0, apparent_speed = 1 }}
 rules = {{ safe = 1, overtake = 1, close = 1, t8 = 0, ta = 0, tl = 0, tw = 0, te = 0 }}
 """
-TEXT = """# A scenario to start from, by tools/scenario. \
+TEXT = """# A scenario to start from, by colregs-scenario. \
 The window, the tick and the reference are guessed from the log; every other number is
 # that of the worked encounters, whatever the log: go through them. docs/SCENARIO.md describes each key.
 version = 1

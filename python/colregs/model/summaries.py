@@ -37,7 +37,7 @@ def plain(moment: float) -> str:
 
 
 def read_words(case: Case, gathered: Gathered) -> Iterator[str]:
-    """Yields what was read of the logs."""
+    """Yields how the logs were read."""
     files = count(len(gathered.files), "file")
     if gathered.first is None:
         yield f"Read: {files} with {count(gathered.lines(), 'line')}, and none of the lines has a time."
