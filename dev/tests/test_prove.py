@@ -90,9 +90,10 @@ class Prove(InRepository):
             run.send_signal(number)
             run.communicate(timeout=300)
             self.assertEqual(run.returncode, status)
-        for _ in range(100):
-            if self.running():
-                time.sleep(0.1)
+        for _ in range(3000):
+            if not self.running():
+                break
+            time.sleep(0.1)
         self.assertEqual(self.running(), [])
         self.proved()
         self.assertIn("the proofs of 2 others are cached", self.run_of(*PROVE)[2])

@@ -284,8 +284,9 @@ class Ends(Engines):
         and what it said."""
         self.slow_program()
         self.plan("--ticks-each", "1000", "--group", "4")
+        # the tests may run in the background of a shell, which lets its commands ignore SIGINT
         run = subprocess.Popen(
-            [sys.executable,
+            ["env", "--default-signal=INT", sys.executable,
              os.path.join(TOOLS, "colregs-many"), "jobs", "--jobs", "2", "--program", self.used], cwd=self.folder,
             stderr=subprocess.PIPE, text=True)
         self.addCleanup(run.kill)
