@@ -1,9 +1,9 @@
 """The pages: their links, their sizes, the crates that docs/MAP.md names, and the form of the decisions.
 
 Each link within the repository leads to a file, and to a heading of it if it names one. README.md has at most 6 KB. The
-size of all pages in docs/ is reported, with its aim of 160 KB. Each crate of tests in crates.txt has one row in
-docs/MAP.md, whose drawing names each crate of the program and of the library. The decisions of docs/DECISIONS.md have
-their numbers in order, and each says what it rules out.
+size of all pages is reported, with its aim of 160 KB. Each crate of tests in crates.txt has one row in docs/MAP.md,
+whose drawing names each crate of the program and of the library. The decisions of docs/DECISIONS.md have their numbers
+in order, and each says what it rules out.
 """
 from __future__ import annotations
 
@@ -18,7 +18,7 @@ from dev.repository import TOP, crates_of, listed_crates, read
 NEEDS_PROGRAM = False
 README_BYTES = 6 * 1024
 PRODUCTS = ("colregs", "colregs_c")      # the program, and the library for callers in C
-DOCS_BYTES = 160 * 1000      # an aim: it is reported, and fails nothing
+PAGES_BYTES = 160 * 1024      # an aim: it is reported, and fails nothing
 
 
 def anchors(text: str) -> set[str]:
@@ -74,7 +74,6 @@ def check(found: Findings) -> None:
             found.fault(fault)
     if sizes["README.md"] > README_BYTES:
         found.fault(f"README.md: {sizes['README.md']} bytes, and it may have {README_BYTES}")
-    docs = sum(size for page, size in sizes.items() if page.startswith("docs/"))
-    found.note(f"the pages in docs/ have {docs} bytes together, and the aim is {DOCS_BYTES}")
+    found.note(f"the pages have {sum(sizes.values())} bytes together, and the aim is {PAGES_BYTES}")
     for fault in [*crates_in_map(read("docs", "MAP.md"), listed_crates()), *decisions(read("docs", "DECISIONS.md"))]:
         found.fault(fault)
