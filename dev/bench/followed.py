@@ -3,13 +3,14 @@
 PROGRAM [--speed N] [--hours N]
 
 The day is the first of months.py. Its lines are written to colregs-follow at the pace of their stamps, N times as fast.
-Every row that is not marked as `begins_before` has to be one of the run over the whole day, and each row of that run
-that the stream lacks has to belong to a pair with a marked row whose time it meets. Rows have what came of the rows,
-the CPU seconds and the peak memory of the tool and its children. The exit status is 1 if a row differs.
+Every row without a mark has to be one of the run over the whole day, and each row of that run that the stream lacks has
+to belong to a pair with a marked row whose time it meets. Rows have what came of the rows, the CPU seconds and the peak
+memory of the tool and its children. The exit status is 1 if a row differs.
 """
 import argparse
 import gzip
 import json
+import math
 import os
 import re
 import resource
@@ -28,7 +29,9 @@ HERE = os.path.dirname(os.path.abspath(__file__))
 FOLLOW = os.path.join(HERE, "..", "..", "tools", "colregs-follow")
 STAMP = re.compile(rb"\\c:(\d+)")
 TICK = 10
-Moved = tuple[tuple[str, ...], int, int, tuple[str, ...]]        # what of a pair, first and last second, and the rest
+MARKS = {"begins_before", "ends_after", "doubt"}
+Head = tuple[str, ...]
+Moved = tuple[Head, int, int, tuple[str, ...]]          # what of a pair, first and last second, and the rest
 
 
 def stamp_of(line: bytes) -> int:
@@ -62,13 +65,25 @@ def absolute(row: str, start: int) -> Moved:
 
 
 def compared(told: list[dict[str, Any]], whole: set[Moved]) -> tuple[int, int, list[Moved], list[Moved]]:
-    """Returns how many rows are those of one run, are marked, are not of one run, and are missing without a mark."""
-    rows = {absolute(row["row"], row["run"]) for row in told if not row.get("begins_before")}
-    marked: dict[tuple[str, ...], list[tuple[int, int]]] = {}
+    """Returns how many rows are those of one run, are marked, are not of one run, and are missing without a mark.
+
+    A marked row is a mark for its time, and for all later time if it ends after its window, up to the end of the pair's
+    next meeting.
+    """
+    rows, marked, meetings = set[Moved](), dict[Head, list[tuple[int, float]]](), dict[Head, list[int]]()
     for row in told:
-        if row.get("begins_before"):
-            head, first, last, _ = absolute(row["row"], row["run"])
-            marked.setdefault(head[1:3], []).append((first, last))
+        moved = absolute(row["row"], row["run"])
+        pair = moved[0][1:3]
+        if not MARKS & set(row):
+            rows.add(moved)
+        else:
+            marked.setdefault(pair, []).append((moved[1], math.inf if row.get("ends_after") else moved[2]))
+        if row["kind"] == "meeting" and not row.get("ends_after"):
+            meetings.setdefault(pair, []).append(moved[2])
+    for pair, spans in marked.items():
+        marked[pair] = [(first, last if last < math.inf else min((end for end in meetings.get(pair, [])
+                                                                  if end > first), default=last))
+                        for first, last in spans]
     missing = [
         row for row in whole - rows
         if not any(first <= row[2] and row[1] <= last for first, last in marked.get(row[0][1:3], []))

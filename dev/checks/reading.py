@@ -2,8 +2,8 @@
 
 From the names in the contract of `colregs_program::run` it follows each definition to those that it cites, through the
 `use` lines of `specs/`. READING.md must name every module that holds one of them, before the heading "Beside `run`",
-and no other, each with its number of lines. `python3 -m dev.checks.reading` prints the modules that are reached, with
-what is reached of each.
+and no other. A number in brackets after a name is the module's number of lines. `python3 -m dev.checks.reading` prints
+the modules that are reached, with what is reached of each.
 """
 from __future__ import annotations
 
@@ -141,18 +141,16 @@ def reached() -> dict[Place, set[str]]:
     return found
 
 
-def listed(text: str) -> Iterator[tuple[Place, int]]:
-    """Yields the modules that a text names, each with the number of lines that it states. Raises Unknown if there is no
-    such module."""
-    crate = ""
-    for name, lines in re.findall(r"`([\w/]+)`\s+\((\d+)\)", text):
-        if "/specs/" in name:
-            crate, name = name.split("/specs/")
-        yield home(Place(crate, name.replace("/", "."))), int(lines)
+def listed(text: str) -> Iterator[tuple[Place, int | None]]:
+    """Yields the modules that a text names, as `crate: Module, Module`, each with the number of lines that it states
+    after the last one, if any. Raises Unknown if there is no such module."""
+    for crate, names, lines in re.findall(r"`(\w+):\s+([\w/,\s]+)`(?:\s+\((\d+)\))?", text):
+        for name in re.split(r",\s+", names):
+            yield home(Place(crate, name.replace("/", "."))), int(lines) if lines else None
 
 
 def check(found: Findings) -> None:
-    """Adds a fault for each module that is missing, is not reached, or has another number of lines."""
+    """Adds a fault for each module that is missing, is not reached, or has not the number of lines that is stated."""
     text, _, beside = read("docs", "READING.md").partition(BESIDE)
     try:
         reach, named, more = reached(), dict(listed(text)), dict(listed(beside))
@@ -163,8 +161,9 @@ def check(found: Findings) -> None:
         found.fault(f"{place.path()} is reached, and not named: {' '.join(sorted(reach[place]))}")
     for place in sorted(named.keys() - reach.keys()):
         found.fault(f"{place.path()} is named, and not reached")
-    for place, lines in sorted({**named, **more}.items()):
-        found.same(f"lines of {place.path()} by READING.md", lines, len(read("crates", place.path()).splitlines()))
+    for place, lines in {**named, **more}.items():
+        if lines is not None:
+            found.same(f"lines of {place.path()} by READING.md", lines, len(read("crates", place.path()).splitlines()))
 
 
 if __name__ == "__main__":

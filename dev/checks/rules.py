@@ -1,15 +1,12 @@
-"""docs/RULES.md: each formula is that of the definitions and behaves as its rule, and the numbers, units and drawings
-are right.
+"""docs/RULES.md: each formula is that of the definitions and behaves as its rule, and the numbers and drawings are
+right.
 
 - Each formula of the page is the tree of the definitions (`rule_set/specs/RuleTrees`), read with the numbers of the
-scenario that the page names for it; each rule, with
-  ranks and without, has its formula on the page.
-- Audited by the program beside its rule, as a formula of the scenario, each has the rows and the total of its rule:
-over all shipped examples with their own numbers of
-  detection and action, and with some of these altered; if ranks count, also with vessels that fish. Each has some row
-  that is broken or open there.
-- The table of numbers has each number of `detect`, `act` and `rules`, once, and states rightly what the shipped
-scenarios have.
+  scenario that the page names for it. Each rule has its formula on the page; those with ranks follow by its table.
+- The program audits each formula beside its rule, as a formula of the scenario, with the same rows and total: over all
+  shipped examples with their own numbers of detection and action, and with some of these altered; if ranks count, also
+  with vessels that fish. Each has some row that is broken or open there.
+- The table of numbers has each number of `detect`, `act` and `rules` once, with the values of the shipped scenarios.
 - The drawings are what dev/draw_rules.py makes.
 """
 from __future__ import annotations
@@ -76,13 +73,29 @@ def trees(sort: str) -> tuple[int, dict[str, Tree]]:
 
 
 def shown(page: str, found: Findings) -> Formulas:
-    """Returns the formulas of the page: each is in a block whose first line is a word, the rule and the sort."""
+    """Returns the formulas of the page: each is in a block whose first line is a word, the rule and the sort. Those
+    with ranks that have no block follow from the ones without ranks by the page's table of changes."""
     formulas: Formulas = {}
     for rule, sort, text in re.findall(r"^```formula (\w+) ?([\w ]*)\n(.*?)^```$", page, re.M | re.S):
         if sort not in SORTS or rule in formulas.setdefault(sort, {}):
             found.fault(f"the formula `{rule} {sort}` is of no sort, or is there twice")
         formulas.setdefault(sort, {})[rule] = " ".join(text.split())
+    changed = {rule: with_ranks(page, text) for rule, text in formulas.get("", {}).items()}
+    formulas["ranks"] = {
+        **{rule: text for rule, text in changed.items() if text != formulas[""][rule]},
+        **formulas.get("ranks", {})
+    }
     return formulas
+
+
+def with_ranks(page: str, text: str) -> str:
+    """Returns a formula without ranks as it is with them, by the page's table of changes; the longest part that fits
+    is changed."""
+    table = re.search(r"^\| Without ranks \| With ranks \|\n(?:\|.*\n)+", page, re.M)
+    rows = re.findall(r"^\| `(.*?)`(?:, elsewhere)? \| `(.*?)` \|$", table[0] if table else "", re.M)
+    changes: dict[str, str] = {old.replace("\\|", "|"): new.replace("\\|", "|") for old, new in rows}
+    parts = "|".join(re.escape(old) for old in sorted(changes, key=len, reverse=True))
+    return re.sub(parts, lambda found: changes[found[0]], text) if parts else text
 
 
 def compare_tree(name: str, text: str, tick: int, wanted: Tree, found: Findings) -> None:
@@ -189,17 +202,6 @@ def compare_rows(formulas: Formulas, found: Findings) -> None:
 
 # ---- numbers and drawings
 
-def units() -> dict[str, str]:
-    """Returns the unit of each number, by docs/SCENARIO.md."""
-    found = {}
-    for keys, unit in re.findall(r"^\| [\d, to]+ \| (`.*?) \| .* \| (.*?) ?\|$", read("docs", "SCENARIO.md"), re.M):
-        table = None
-        for key in re.findall(r"`([\w.]+)`", keys):
-            table = key.partition(".")[0] or table
-            found[f"{table}.{key.rpartition('.')[2]}"] = unit
-    return found
-
-
 def values_shipped() -> dict[str, list[int]]:
     """Returns what the shipped scenarios have for each number of detection, action and the rules."""
     values: dict[str, list[int]] = {"rules.ranks": [0]}
@@ -211,11 +213,9 @@ def values_shipped() -> dict[str, list[int]]:
 
 
 def compare_numbers(page: str, found: Findings) -> None:
-    """Compares the table of numbers with docs/SCENARIO.md and the shipped scenarios: each key once, its unit, the least
-    and the greatest number."""
-    known, values = units(), values_shipped()
-    for key, unit in re.findall(r"^\| `(\w+\.\w+)` \| .*? \| (.*?) ?\|", page, re.M):
-        found.same(f"the unit of `{key}`", unit, known.get(key))
+    """Compares the table of numbers with the shipped scenarios: each key once, with the least and the greatest
+    number."""
+    values = values_shipped()
     listed = re.findall(r"^\| `(\w+\.\w+)` \| (.*?) \|", page, re.M)
     for key, stated in listed:
         least, greatest = min(values.get(key, [-1])), max(values.get(key, [-1]))

@@ -8,6 +8,7 @@ import unittest
 from unittest import mock
 
 from colregs.io.sentences import class_a, sentence
+from dev import edits
 from dev.checking import Findings, module, names, summary
 from dev.checks import commands, contracts, crates, english, gate, manual, pages, program, reading, repeats, rules
 from dev.formulas import Definitions, Text
@@ -170,6 +171,21 @@ class English(unittest.TestCase):
         self.assertTrue(allowed.allows(english.Finding("docs/A.md", 1, "once more", "again")))
         self.assertFalse(allowed.allows(english.Finding("docs/A.md", 1, "anew", "again")))
         self.assertEqual((allowed.unused, allowed.unknown), ({("docs/B.md", "anew")}, ["free docs"]))
+
+
+class Edits(unittest.TestCase):
+    FILES = {"src/lib.rt": "a < b\nc < d\n"}
+
+    def test_an_edit_changes_a_line_that_its_file_has_once(self) -> None:
+        for words, want in (
+            ("file: src/lib.rt\nold: a < b\nnew: a > b\n", ""),
+            ("file: src/lib.rt\nold: a < b\nnew: c < d\nold: c < d\nnew:\n", "`c < d` is in src/lib.rt 2 times"),
+            ("file: src/lib.rt\nold: e\nnew: f\n", "`e` is in src/lib.rt 0 times"),
+            ("file: src/main.rt\nold: a\nnew: b\n", "there is no file src/main.rt"),
+            ("old: a\nnew: b\n", "a line `new:` is before any line `file:` or `old:`"),
+            ("file: src/lib.rt\n", "it has no lines `old:` and `new:`"),
+        ):
+            self.assertEqual(edits.fault_in(words, self.FILES.get), want, words)
 
 
 class Gate(unittest.TestCase):

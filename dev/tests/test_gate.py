@@ -48,7 +48,7 @@ sys.exit(gate.main())"""
         """Returns the rows of the crates after a gate whose measure got this signal."""
         run = self.RUN.replace("python", sys.executable, 1).replace("SIGNAL", str(int(number)))
         done = subprocess.run(["bash", "-c", run, self.MEASURE.replace("TOP", repr(TOP))], cwd=self.folder,
-                              capture_output=True, text=True, timeout=120)
+                              capture_output=True, text=True, timeout=600)
         self.assertNotIn("Traceback", done.stderr)
         return (
             list(csv.reader(text_of(self.path("crates")).splitlines())) if os.path.exists(self.path("crates")) else []

@@ -76,7 +76,7 @@ class Prove(InRepository):
             if "high" in line:
                 break
         self.source("crates/low/src/lib.rt", "// other sources")
-        _, err = run.communicate(timeout=60)
+        _, err = run.communicate(timeout=300)
         self.assertEqual(run.returncode, 21)
         self.assertIn("changed while the program was proved", err)
 
@@ -88,7 +88,7 @@ class Prove(InRepository):
                 if "high" in line:
                     break
             run.send_signal(number)
-            run.communicate(timeout=30)
+            run.communicate(timeout=300)
             self.assertEqual(run.returncode, status)
         for _ in range(100):
             if self.running():

@@ -20,7 +20,7 @@ class Release(InFolder):
     def made(self, *words: str) -> tuple[int, str]:
         """Makes a release of the program: the status and standard error."""
         done = subprocess.run([os.path.join(TOP, ".ci", "release"), *words,
-                               self.path("out"), PROGRAM], capture_output=True, text=True, timeout=120)
+                               self.path("out"), PROGRAM], capture_output=True, text=True, timeout=600)
         return done.returncode, done.stderr
 
     def report(self, *command: str) -> str:

@@ -74,7 +74,7 @@ class Command(unittest.TestCase):
     def run_of(self, *words: str) -> subprocess.CompletedProcess[str]:
         """Runs `./test` with these arguments."""
         return subprocess.run([sys.executable, os.path.join(TOP, "test"), *words], capture_output=True, text=True,
-                              timeout=120)
+                              timeout=600)
 
     def test_wrong_uses_end_with_status_2_and_run_nothing(self) -> None:
         for words, said in ((["no such job"], "no job's name begins with no such job"),

@@ -12,7 +12,7 @@ import time
 from typing import Any
 
 NAMES = ("chromium", "chromium-browser", "google-chrome")
-PATIENCE = 60
+PATIENCE = 300          # s: only a browser that hangs is so slow
 # the browser reads its orders from file 3 and answers on file 4, whatever these are here
 LAUNCH = """
 import fcntl, os, sys
@@ -133,6 +133,14 @@ class Browser:
                 told["exceptionDetails"].get("exception", {}).get("description", "a fault in the script")
             )
         return told["result"].get("value")
+
+    def wait(self, script: str) -> None:
+        """Waits until an expression of the page is true, however slow the machine is."""
+        until = time.monotonic() + PATIENCE
+        while not self.value(script):
+            if time.monotonic() > until:
+                raise TimeoutError(f"never true: {script}")
+            time.sleep(0.05)
 
     def picture(self, path: str, whole: bool = False) -> None:
         """Writes a picture of the page."""

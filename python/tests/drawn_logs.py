@@ -20,15 +20,17 @@ import subprocess
 import sys
 import tempfile
 import time
+import unittest.mock
 from collections import Counter
 from dataclasses import dataclass, field
+from typing import Any
 
 from crowd import stretches
 from colregs.errors import Fault
 from colregs.io import sentences
 from colregs.model.scenario import Scenario
 from colregs.run.program import found
-from colregs.shares import cutter, join, plans, seen, spans
+from colregs.shares import cutter, join, places, plans, seen, spans
 from colregs.shares.jobs import Job, job_of
 from colregs.shares.reads import Read
 
@@ -271,10 +273,16 @@ class Results:
 
     def __init__(self, scenario: Scenario, program: str) -> None:
         self.of, self.program = scenario, program
+        self.texts: dict[tuple[int, ...], str] = {}             # scenarios by their subjects
+        self.lines: dict[tuple[str, ...], list[bytes]] = {}     # lines by the names of their files
+        self.shares: dict[tuple[Any, ...], tuple[bytes, bytes]] = {}
 
-    def run(self, mode: str, job: Job, log: bytes, folder: str) -> bytes:
-        with open(os.path.join(folder, "share.toml"), "w", encoding="utf-8") as out:
-            out.write(self.of.with_subjects(job.subjects))
+    def run(self, mode: str, job: Job, log: bytes) -> bytes:
+        key = tuple(job.subjects or ())
+        if key not in self.texts:
+            self.texts[key] = self.of.with_subjects(job.subjects)
+        with open(os.path.join(os.path.dirname(self.of.path), "share.toml"), "w", encoding="utf-8") as out:
+            out.write(self.texts[key])
         done = subprocess.run([self.program, mode, out.name, *job.options()], input=log, capture_output=True)
         if done.returncode:
             raise Fault(f"status {done.returncode}, {done.stderr.decode()}")
@@ -288,16 +296,36 @@ class Results:
             raise AssertionError(f"{job.words()}: its log by blocks is another")
 
     def result(self, job: Job) -> str:
-        """Returns the result of a job."""
-        folder, lines, cut = os.path.dirname(self.of.path), read_lines(job.files), job.cut(self.of)
+        """Returns the result of a job. Groups of subjects of one share have the same log and the same checks."""
+        key = (job.start, job.ticks, *job.files, *(job.vessels or [0]))
+        if key not in self.shares:
+            self.shares[key] = self.share(job)
+        log, checks = self.shares[key]
+        return (self.run("audit", job, log) + checks).decode()
+
+    def share(self, job: Job) -> tuple[bytes, bytes]:
+        """Returns the log of a job, and the rows that the join needs besides its report."""
+        cut = job.cut(self.of)
+        if tuple(job.files) not in self.lines:
+            self.lines[tuple(job.files)] = read_lines(job.files)
+        lines = self.lines[tuple(job.files)]
         log = b"".join(cutter.share_lines(lines, cut) if cut else lines)
         if cut and job.reads is not None and job.start // TICK % 2:
             self.check_reads(job, cut, log)
-        text = self.run("audit", job, log, folder)
-        if job.is_part(self.of):
-            points = self.run("points", job, log, folder).splitlines(True)
-            text += b"".join(seen.rows_to_keep(points, [(first, last) for first, last in job.heads]))
-        return text.decode()
+        if not job.is_part(self.of):
+            return log, b""
+        points = self.run("points", job, log).splitlines(True)
+        return log, b"".join(seen.rows_to_keep(points, [(first, last) for first, last in job.heads]))
+
+
+def write_cut(files: list[str], cut: cutter.Cut, folder: str, target: str, words: str,
+              reads: list[list[list[Any]]] | None = None) -> None:
+    """Does what `colregs.shares.cuts.write_cut` does, in this process: the start of another one takes longer than all
+    else."""
+    log = cutter.share_lines(read_lines(files), cut) if reads is None else cutter.share_of_files(
+        files, [[Read(*read) for read in of_file] for of_file in reads], cut)
+    with open(target, "wb") as out:
+        out.writelines(log)
 
 
 def read_lines(files: list[str]) -> list[bytes]:
@@ -358,7 +386,8 @@ def tried(number: int, program: str, folder: str) -> Outcome:
     # small blocks, so that windows begin and end within and between them
     spans.PIECE = 200 + number % 7 * 900
     try:
-        jobs = [job_of(job) for job in plans.plan(files, made.wanted, scenario, program)]
+        with unittest.mock.patch.object(places, "write_cut", write_cut):
+            jobs = [job_of(job) for job in plans.plan(files, made.wanted, scenario, program)]
         lines = join.joined(jobs, Results(scenario, program), scenario, summary)        # type: ignore[arg-type]
         joined = stretches("\n".join(lines))
     except Fault as fault:

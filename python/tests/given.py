@@ -11,6 +11,7 @@ import unittest
 from collections.abc import Callable
 from typing import Any, TypeVar
 
+HANGS = 600             # s: only a program that hangs takes so long, however slow the machine is
 HERE = os.path.dirname(os.path.abspath(__file__))
 TOP = os.path.dirname(os.path.dirname(HERE))
 TOOLS, EXAMPLES = os.path.join(TOP, "tools"), os.path.join(TOP, "examples")
@@ -66,7 +67,7 @@ class InFolder(unittest.TestCase):
     def tool(self, name: str, *words: str, source: bytes = b"") -> tuple[int, str, str]:
         """Runs a tool; returns its status, standard output and standard error."""
         done = subprocess.run([sys.executable, os.path.join(TOOLS, name), *words], input=source, capture_output=True,
-                              cwd=self.folder, timeout=120)
+                              cwd=self.folder, timeout=HANGS)
         return done.returncode, done.stdout.decode("utf-8", "replace"), done.stderr.decode("utf-8", "replace")
 
     def within(self, name: str, *words: str) -> tuple[int, str, str]:
@@ -87,6 +88,6 @@ class InFolder(unittest.TestCase):
     def program(self, mode: str, scenario: str, log: str) -> str:
         """Returns the report of the program; fails if it ends with another status than 0 or 1."""
         with open(log, "rb") as source:
-            done = subprocess.run([PROGRAM, mode, scenario], stdin=source, capture_output=True, timeout=120)
+            done = subprocess.run([PROGRAM, mode, scenario], stdin=source, capture_output=True, timeout=HANGS)
         self.assertIn(done.returncode, (0, 1), done.stderr)
         return done.stdout.decode()

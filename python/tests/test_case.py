@@ -20,7 +20,7 @@ WRONG_USES = [
     (["passing.log", "--scenario", "none.toml"], "none.toml"),
     (["passing.log", "--scenario", "/dev/zero"], "/dev/zero is a device"),
     (["passing.log", "--scenario", "passing.log"], "passing.log: not TOML: "),
-    (["passing.log", "--program", "none"], "no program"),
+    (["passing.log", "--program", "none"], "cannot be run as a program"),
     (["passing.log", "--chart", "passing.toml"], "GeoJSON"),
     (["passing.log", "-o", "."], "is there already"),
     (["passing.toml", "--scenario", "passing.toml"], "no sentence and no row was read"),
@@ -158,6 +158,15 @@ class Parts(Cases):
         window = self.about()
         self.assertEqual((window["start"], window["ticks"] * window["tick"]), (1700000100, 500))
 
+    def test_names_outside_the_window_count(self) -> None:
+        """Names and types come in the first lines of the log, before the window."""
+        said = self.make("--from", "22:15")[1]
+        self.assertNotIn(str(passing.EAST), said)
+        with sqlite3.connect(self.path("made/case.db")) as base:
+            self.assertEqual(base.execute("select name, length from vessel where mmsi = ?", (passing.EAST,)).fetchone(),
+                             ("EAST", 80))
+        base.close()
+
     def test_only_pairs_with_a_vessel_that_is_asked_for_are_audited(self) -> None:
         """WEST is given by her name, EAST by her number; of the one who lies still only pairs with WEST stay."""
         for vessel, mmsi in (("west", passing.WEST), (str(passing.EAST), passing.EAST)):
@@ -186,11 +195,13 @@ class Parts(Cases):
             self.assertRegex(self.make("--area=" + area, status=1)[2], told)
 
     def test_what_cannot_be_asked_is_named(self) -> None:
-        for words, status, told in ((["--from", "23:00", "--to", "22:59:00"], 1, "no vessel has a position|no time "
-                                     "lies between"), (["--from", "noon"], 1, "`noon` is no time"),
-                                    (["--vessel", "NOBODY"], 1, "no vessel of the log has this name"), ([
-                                        "--from", "22:15", "--start", "1700000000"
-                                    ], 2, "go without")):
+        for words, status, told in (
+            (["--from", "23:00", "--to", "22:59:00"], 1, "no vessel has a position|no time lies between"),
+            (["--from", "noon"], 1, "`noon` is no time"),
+            (["--vessel", "NOBODY"], 1, "no vessel of the log has this name"),
+            (["--vessel", "299999999"], 1, "299999999, which --vessel asks for, has no position in the window"),
+            (["--from", "22:15", "--start", "1700000000"], 2, "go without")
+        ):
             with self.subTest(words):
                 self.assertRegex(self.make(*words, status=status)[2], told)
 
@@ -209,8 +220,8 @@ class Times(Cases):
         then no packet."""
         for head in ("d4c3b2a1", "a1b2c3d4", "4d3cb2a1", "a1b23c4d", "0a0d0d0a"):
             self.write("passing.log", bytes.fromhex(head) + bytes(20) + passing.log().encode())
-            self.assertRegex(self.make(status=1)[2], "no sentence and no row was read. passing.log: 0 lines, packed by "
-                                                     "a capture")
+            self.assertRegex(self.make(status=1)[2], "no sentence and no row was read. passing.log: no lines, "
+                                                     "compressed by a capture")
 
     def test_dates_in_the_future_are_a_doubt(self) -> None:
         """4000000000 s are 2 October 2096, 07:06:40 UTC."""

@@ -88,7 +88,7 @@ class WrongUses(InFolder):
     def test_a_log_that_cannot_be_read_as_it_is_is_named(self) -> None:
         table = "MMSI,BaseDateTime,LAT,LON,SOG,COG,Heading\n200000011,2023-11-14T22:13:21,48.25,-123.5,14,90,90\n"
         logs: tuple[tuple[str, str | bytes],
-                    ...] = (("packed log", gzip.compress(LOG.encode())), ("log in UTF-16", LOG.encode("utf-16")),
+                    ...] = (("compressed log", gzip.compress(LOG.encode())), ("log in UTF-16", LOG.encode("utf-16")),
                             ("no sentences", table), ("no sentences", "nothing of this is AIS\n"), ("empty log", ""))
         for name, log in logs:
             with self.subTest(name):

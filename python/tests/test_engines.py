@@ -14,11 +14,10 @@ from typing import Any
 
 import crowd
 import test_shares
-from given import PROGRAM, TOOLS, needs, text_of, with_program
+from given import HANGS, PROGRAM, TOOLS, needs, text_of, with_program
 from colregs.shares.engines import Limits, limits_of, ranges
 from colregs.shares.jobs import Need
 
-LONGEST = 90            # s that a test waits for an engine on a busy machine
 # Each run notes its node, its process and its parent's; the first one on the node n1 or the first worker waits to be
 # killed.
 SLOW = """#!/bin/sh
@@ -52,12 +51,12 @@ def is_alive(process: int) -> bool:
 
 class Engines(test_shares.Shares):
     def until(self, done: Callable[[], bool], what: str) -> None:
-        end = time.monotonic() + LONGEST
+        end = time.monotonic() + HANGS
         while time.monotonic() < end:
             if done():
                 return
             time.sleep(0.1)
-        self.fail(f"not in {LONGEST} s: {what}")
+        self.fail(f"not in {HANGS} s: {what}")
 
     def results(self) -> int:
         folder = self.path("jobs.kept")
@@ -78,21 +77,21 @@ class Parallel(Engines):
     @needs("parallel")
     def test_jobs_without_a_result_run_and_no_others(self) -> None:
         self.plan("--ticks-each", "1000", "--group", "7")
-        self.assertIn("3 jobs: 0 were kept before, 3 ran, 0 failed", self.many("jobs", "--parallel", "--jobs", "3")[2])
+        self.assertIn("3 jobs: 0 were cached, 3 ran, 0 failed", self.many("jobs", "--parallel", "--jobs", "3")[2])
         self.assertEqual(text_of(self.path("jobs.kept/joblog")).count("colregs-many one"), 3)
         self.joined_is_whole()
         name = next(name for name in os.listdir(self.path("jobs.kept")) if len(name) == 68)
         os.truncate(self.path("jobs.kept/" + name), 40)         # what its list of ended jobs calls done
-        self.assertIn("3 jobs: 2 were kept before, 1 ran, 0 failed", self.many("jobs", "--parallel")[2])
+        self.assertIn("3 jobs: 2 were cached, 1 ran, 0 failed", self.many("jobs", "--parallel")[2])
         self.write("s.toml", crowd.harbour() + "# another scenario\n")
-        self.assertIn("3 jobs: 0 were kept before, 3 ran, 0 failed", self.many("jobs", "--parallel")[2])
+        self.assertIn("3 jobs: 0 were cached, 3 ran, 0 failed", self.many("jobs", "--parallel")[2])
         self.joined_is_whole()
 
     @needs("parallel")
     def test_a_job_that_fails_is_counted(self) -> None:
         self.write("s.toml", crowd.harbour().replace("ticks = 198 ", "ticks = 198000 "))
         self.plan("--ticks", "100")
-        self.assertIn("1 jobs: 0 were kept before, 0 ran, 1 failed", self.many("jobs", "--parallel", status=1)[2])
+        self.assertIn("1 job: 0 were cached, 0 ran, 1 failed", self.many("jobs", "--parallel", status=1)[2])
 
 
 CONFIGURATION = """ClusterName=test
@@ -151,7 +150,7 @@ class Slurm(Engines):
 
     def daemon(self, pid_file: str, *words: str) -> None:
         try:
-            subprocess.run(words, check=True, capture_output=True, env=self.around, timeout=30)
+            subprocess.run(words, check=True, capture_output=True, env=self.around, timeout=300)
         except (OSError, subprocess.SubprocessError) as error:
             self.skipTest(f"{words[0]} does not start here: {getattr(error, 'stderr', b'') or error}")
         self.until(lambda: os.path.exists(self.path(pid_file)) and text_of(self.path(pid_file)).strip() != "", words[0])
@@ -166,7 +165,7 @@ class Slurm(Engines):
 
     def slurm(self, *words: str) -> str:
         return subprocess.run(words, check=True, capture_output=True, text=True, env=self.around,
-                              timeout=60).stdout.strip()
+                              timeout=300).stdout.strip()
 
     def submit(self) -> None:
         """Writes the script, and hands it to Slurm."""
@@ -265,7 +264,7 @@ class Dask(Engines):
         _, process, tool = map(int, ("0 " + text_of(self.path("first"))).split()[-3:])
         workers[parent_of(tool)].kill()
         os.kill(tool, signal.SIGKILL)
-        self.assertIn(b"5 jobs: 0 were kept before, 5 ran, 0 failed", run.communicate(timeout=LONGEST)[1])
+        self.assertIn(b"5 jobs: 0 were cached, 5 ran, 0 failed", run.communicate(timeout=HANGS)[1])
         self.until(lambda: not is_alive(process), "the end of the program with its tool")
         self.joined_is_whole()
 
@@ -273,7 +272,7 @@ class Dask(Engines):
         self.plan("--ticks-each", "1000")
         words = ["jobs", "--dask", f"tcp://127.0.0.1:{free_port()}", "--program", PROGRAM]
         done = subprocess.run([PYTHON, os.path.join(TOOLS, "colregs-many"), *words], cwd=self.folder,
-                              capture_output=True, timeout=LONGEST)
+                              capture_output=True, timeout=HANGS)
         self.assertEqual(done.returncode, 1)
         self.assertIn(b"does not answer", done.stderr)
 
@@ -292,7 +291,7 @@ class Ends(Engines):
         self.addCleanup(run.kill)
         self.until(lambda: os.path.exists(self.path("first")), "the first job")
         run.send_signal(number)
-        said = run.communicate(timeout=LONGEST)[1]
+        said = run.communicate(timeout=HANGS)[1]
         return run.returncode, int(text_of(self.path("first")).split()[-2]), said
 
     def folders(self) -> list[str]:
@@ -336,8 +335,8 @@ class Scripts(Engines):
     def test_commands_run_one_job_each(self) -> None:
         self.plan("--ticks-each", "1000", "--group", "10")
         for command in self.many("commands", "jobs")[1].splitlines():
-            subprocess.run(["sh", "-c", command], check=True, timeout=60)
-        self.assertIn("2 were kept before, 0 ran", self.many("jobs")[2])
+            subprocess.run(["sh", "-c", command], check=True, timeout=300)
+        self.assertIn("2 were cached, 0 ran", self.many("jobs")[2])
 
     def test_a_task_of_an_array_runs_the_job_of_its_number(self) -> None:
         self.plan("--ticks-each", "1000", "--group", "4")
@@ -346,7 +345,7 @@ class Scripts(Engines):
         for first, places in ((3, "21"), (0, "312")):
             for place in places:
                 subprocess.run(["sh", script, str(first)], check=True, env={**os.environ, "SLURM_ARRAY_TASK_ID": place},
-                               cwd=self.folder, timeout=60)
+                               cwd=self.folder, timeout=300)
         self.joined_is_whole()
         text, error = self.many("slurm", "jobs")[1:]
         self.assertNotIn("--array", text)

@@ -17,7 +17,11 @@ from given import InFolder, PROGRAM, TOOLS, example, needs, text_of, with_progra
 from colregs.io.sources import stamped
 from colregs.io import sentences
 from colregs.io.sieve import Senders
-from colregs.stream.day_files import LEAP, SURE, Clock, DayFiles, MedianClock
+from colregs.io.tag_blocks import stamp
+from colregs.model.earth import iso
+from colregs.model.formulas import sight_of
+from colregs.stream.borders import Borders
+from colregs.stream.day_files import ACTIVE, LEAP, SURE, Clock, DayFiles, MedianClock
 from colregs.stream.health import Health
 from colregs.stream.rows import steps_of
 
@@ -25,6 +29,9 @@ SHIFT = 1700006400 - 1700001000          # s: midnight comes 1000 s after the be
 START = crowd.START + SHIFT
 WINDOWS = ["--ticks-each", "60", "--overlap", "900"]
 UNITS = sorted(os.listdir(os.path.join(TOOLS, "systemd")))
+
+
+MARKS = {"begins_before", "ends_after", "doubt"}
 
 
 def has_watch() -> bool:
@@ -56,6 +63,10 @@ class Streams(InFolder):
                          source=source.encode())
         self.assertEqual(done[0], status, done[2])
         return done[1], done[2]
+
+    def again(self, after: int) -> list[str]:
+        """Returns the lines again, `after` seconds later."""
+        return [line + "\n" for line in crowd.moved([line.rstrip("\n") for line in self.lines], after)]
 
     def rows(self, text: str) -> list[str]:
         return [absolute(told["row"], told["run"]) for told in map(json.loads, text.splitlines())]
@@ -92,10 +103,6 @@ class Once(Streams):
         self.assertEqual("".join(text_of(self.path("days/" + day + ".log")) for day in ("2023-11-14", "2023-11-15")),
                          "".join(self.lines))
 
-    def again(self, after: int) -> list[str]:
-        """Returns the lines again, `after` seconds later."""
-        return [line + "\n" for line in crowd.moved([line.rstrip("\n") for line in self.lines], after)]
-
     def test_a_restart_reads_the_day_files_from_the_first_window_that_is_not_done(self) -> None:
         end = len(self.lines) + 1500
         self.lines += self.again(8000)
@@ -114,7 +121,9 @@ class Once(Streams):
 
     def test_an_outage_of_more_than_an_hour_within_meetings_gives_the_rows_of_one_run(self) -> None:
         self.lines += self.again(8000)[1000:]
-        self.assertEqual(sorted(self.rows(self.follow("--whole", source="".join(self.lines))[0])), sorted(self.whole()))
+        for clock in ("greatest", "median"):
+            out, _ = self.follow("--whole", "--clock", clock, source="".join(self.lines), days=clock)
+            self.assertEqual(sorted(self.rows(out)), sorted(self.whole()), clock)
 
     def test_a_file_that_grows_with_a_kill_in_between(self) -> None:
         log = self.write("log", "".join(self.lines[:1200]))
@@ -176,18 +185,19 @@ class Killed(Streams):
 class Meetings(InFolder):
     """Streams of drawn vessels in windows of 1000 s that overlap by as much."""
 
-    def followed(self, rows: list[tuple[float, bytes]], scenario: str) -> tuple[list[str], list[str], list[str]]:
+    def followed(self, rows: list[tuple[float, bytes]], scenario: str,
+                 *words: str) -> tuple[list[str], list[Any], list[str]]:
+        """Returns the rows without a mark, the lines of those with one, and the rows of one run."""
         text = b"".join(line + b"\n" for _, line in sorted(rows, key=lambda row: row[0]))
         self.write("s.toml", scenario)
-        self.write("log", text)
-        status, out, error = self.tool("colregs-follow", "s.toml", "--days", "days", "--program", PROGRAM,
-                                       "--ticks-each", "100", "--overlap", "1000", "--whole", source=text)
-        self.assertEqual(status, 0, error)
+        status, out, self.error = self.tool("colregs-follow", "s.toml", "--days", "days", "--program", PROGRAM,
+                                            "--ticks-each", "100", "--overlap", "1000", "--whole", *words, source=text)
+        self.assertEqual(status, 0, self.error)
         told = [json.loads(line) for line in out.splitlines()]
         done = subprocess.run([PROGRAM, "audit", self.path("s.toml")], input=text, capture_output=True)
         whole = [absolute(row, drawn_logs.START) for row in crowd.stretches(done.stdout.decode())]
-        marked = [absolute(row["row"], row["run"]) for row in told if row.get("begins_before")]
-        return [absolute(row["row"], row["run"]) for row in told if not row.get("begins_before")], marked, whole
+        marked = [line for line in told if MARKS & set(line)]
+        return [absolute(row["row"], row["run"]) for row in told if not MARKS & set(row)], marked, whole
 
     def test_rows_of_a_meeting_that_began_before_their_window_say_so(self) -> None:
         still = [
@@ -203,7 +213,49 @@ class Meetings(InFolder):
                          [row for row in whole if str(test_joins.EAST) in row])
         self.assertLessEqual(set(rows), set(whole))
         self.assertTrue(marked)
-        self.assertTrue(all(str(test_joins.YACHT) in row for row in marked))
+        self.assertTrue(all(test_joins.YACHT in (line["subject"], line["other"]) for line in marked))
+
+    def abreast(self) -> list[tuple[float, bytes]]:
+        """Two vessels that meet head on, then turn to go abreast, too near to be clear and without a risk."""
+        return [
+            *test_joins.way(test_joins.EAST, 9, 0, 0, 3, to=5400),
+            *test_joins.way(test_joins.NORTH, 9, 180, 500, 4, x=100, y=2615, to=500),
+            *test_joins.way(test_joins.NORTH, 9, 0, 500, 514, x=400, y=2615, to=5400)
+        ]
+
+    def test_a_meeting_that_the_next_window_does_not_see_is_written_and_marked(self) -> None:
+        rows, marked, whole = self.followed(self.abreast(), test_joins.SCENARIO.replace("ticks = 2160", "ticks = 540"))
+        long = [row for row in whole if row.startswith("meeting,")]
+        self.assertEqual(len(long), 2)
+        self.assertEqual([row for row in rows if row.startswith("meeting,")], [])
+        self.assertEqual([(line["row"].split(",")[:4], line["begins"], "ends_after" in line)
+                          for line in marked if line["kind"] == "meeting"],
+                         [(row.split(",")[:4], iso(int(row.split(",")[4])), True) for row in long])
+        missing = set(whole) - set(rows)
+        self.assertLessEqual({tuple(row.split(",")[1:3]) for row in missing},
+                             {(str(line["subject"]), str(line["other"])) for line in marked})
+
+    def test_a_restart_writes_such_a_meeting_too(self) -> None:
+        text, found = b"".join(line + b"\n" for _, line in sorted(self.abreast(), key=lambda row: row[0])), []
+        self.write("s.toml", test_joins.SCENARIO)
+        cut = [0, text.index(b"\\c:%d*" % (drawn_logs.START + 2613)), len(text)]
+        for begin, end in zip(cut, cut[1:]):
+            status, out, error = self.tool("colregs-follow", "s.toml", "--days", "days", "--program", PROGRAM,
+                                           "--ticks-each", "100", "--overlap", "1000",
+                                           *(["--whole"] if end == cut[-1] else []), source=text[begin:end])
+            self.assertEqual(status, 0, error)
+            found += [json.loads(line) for line in out.splitlines()]
+        self.assertEqual([line["encounter"] for line in found if line.get("ends_after") and line["kind"] == "meeting"],
+                         ["head_on", "head_on"])
+
+    def test_windows_that_differ_about_a_pair_say_so(self) -> None:
+        # the window from 600 s on begins with a report of the far vessel, and then takes none of the near one's
+        shared = [*test_joins.way(test_joins.YACHT, 0, 0, 0, 22, x=30000, to=2900), *test_joins.two(at=2300, to=5400)]
+        rows, _, whole = self.followed(shared, test_joins.SCENARIO.replace("ticks = 2160", "ticks = 540"), "--overlap",
+                                       "2000")
+        self.assertIn(f"differ about {test_joins.YACHT} and {test_joins.CARGO}, as if two vessels had one MMSI",
+                      self.error)
+        self.assertLessEqual(set(rows), set(whole))
 
     def test_a_ship_type_that_was_reported_once_counts_in_every_window_of_a_stream(self) -> None:
         rows = [
@@ -252,6 +304,10 @@ class Healths(Streams):
         self.assertEqual(self.met(out), wanted)
         self.assertGreater(self.health()["stations"]["C"]["restamped"], 100)
         self.assertEqual(self.health()["rows"], len(out.splitlines()))
+        self.lines += self.again(8000)[1000:]
+        wanted = self.met(self.follow("--whole", source=self.of_stations(0), days="outage")[0])
+        out, error = self.follow("--whole", "--clock", "median", source=self.of_stations(1200), days="ahead")
+        self.assertEqual(self.met(out), wanted)
 
     def test_a_first_line_a_day_ahead_and_ten_lines_a_year_ahead_lose_nothing(self) -> None:
         for ahead, count in ((86400, 1), (31536000, 10)):
@@ -299,13 +355,30 @@ class Limits(Streams):
         self.assertGreater(len(wanted), 200)
         self.assertEqual(sorted(self.rows(out)), sorted(wanted))
 
+    def test_a_window_with_too_many_vessels_is_audited_by_areas(self) -> None:
+        self.write("s.toml", crowd.SCENARIO.replace("watch = 5000", "watch = 900").replace("risk = 500", "risk = 100"))
+        out, error = self.follow("--whole", "--ticks-each", "1200", source=crowd.wide().decode())
+        self.assertIn("more than 4096 vessels in the window from", error)
+        met = [row for row in map(json.loads, out.splitlines()) if row["kind"] == "meeting"]
+        self.assertEqual(sorted((row["subject"], row["other"]) for row in met),
+                         [(200000001 + k, 200000001 + (k ^ 1)) for k in range(4200)])
+
+    def test_a_window_whose_run_fails_has_a_line_that_says_what_is_missing(self) -> None:
+        self.write("s.toml", crowd.SCENARIO.replace("watch = 5000", "watch = 900").replace("risk = 500", "risk = 100"))
+        out, error = self.follow("--whole", "--modes", "watch", "--ticks-each", "1200", source=crowd.wide().decode(),
+                                 status=1)
+        self.assertIn("a run takes 4096 vessels", error)
+        told = [json.loads(line) for line in out.splitlines() if '"missing"' in line]
+        self.assertEqual({(row["kind"], row["mode"], row["ends"] > row["begins"], "vessels" in row["why"])
+                          for row in told}, {("missing", "watch", True, True)})
+
     def test_a_meeting_longer_than_the_overlap_is_told(self) -> None:
         error = self.follow("--whole", "--overlap", "400", "--ticks-each", "40", source="".join(self.lines))[1]
         self.assertIn("longer than the overlap", error)
 
     def test_wrong_words_are_refused(self) -> None:
         for words, told in (
-            (["--overlap", "0"], "the overlap is 31 ticks or more"),
+            (["--overlap", "0"], "the overlap is 32 ticks or more"),
             (["--ticks-each", "20000"], "at most 20000"),
             (["--log", "none"], "none is not there"),
             (["--log", "s.toml", "--command", "x"], "not both"),
@@ -336,10 +409,57 @@ class Parts(InFolder):
             self.assertEqual(clock.take(b"\\c:%d*00\\" % at), told, at)
         for name, at, told in (("a", 200, 200), ("b", 201, 201), ("c", 999, 201), ("a", 230, 230), ("d", 231, 231)):
             self.assertEqual(clock.take(b"\\s:%s,c:%d*00\\" % (name.encode(), at)), told, name)
-        # a damaged block stays as it is
-        self.assertEqual(clock.timed(b"\\s:c,c:999*00\\!x"), b"\\s:c,c:999*00\\!x")
-        line = sentences.block(999, b"s:c") + b"!x"
-        self.assertEqual(clock.timed(line), sentences.block(231, b"s:c") + b"!x")
+
+    def heard(self, clock: MedianClock, name: str, at: int) -> list[tuple[int | None, int | None]]:
+        """Returns the stamps of the lines that a clock releases at a line of a station: as they came, and as they are
+        written."""
+        line = sentences.block(at, b"s:" + name.encode()) + b"!x"
+        clock.take(line)
+        return [(stamp(came), stamp(written)) for came, written in clock.released(line)]
+
+    def test_a_line_ahead_of_the_clock_of_most_waits_until_that_is_decided(self) -> None:
+        clock, found = MedianClock(30), []
+        for name in "abde":
+            self.assertEqual(self.heard(clock, name, 200), [(200, 200)])
+        self.assertEqual(self.heard(clock, "c", 1000), [])
+        for k in range(2 * ACTIVE):
+            found += self.heard(clock, "abde"[k % 4], 200 + k // 20)
+        self.assertEqual(found[:2], [(1000, 200), (200, 200)])
+        self.assertEqual(len(found), 2 * ACTIVE + 1)
+        self.assertEqual(self.heard(clock, "c", 1010), [(1010, 209)])          # as far ahead as before
+        for name, released in (("a", []), ("b", []), ("d", [(7400, 7400)] * 3)):
+            self.assertEqual(self.heard(clock, name, 7400), released, name)    # an outage of two hours
+        self.assertEqual(self.heard(clock, "c", 8200), [(8200, 7400)])
+
+    def test_lines_ahead_of_the_clock_at_the_end_are_left_out(self) -> None:
+        clock = MedianClock(30)
+        for at, count in ((100, 30), (9000, 3), (101, 1)):
+            for _ in range(count):
+                clock.take(sentences.block(at))
+                clock.released(sentences.block(at))
+        self.assertEqual(clock.last(), ([(sentences.block(101), sentences.block(101))], 3))
+
+    def test_windows_are_compared_where_the_own_steps_of_the_earlier_one_end(self) -> None:
+        # windows of 200 ticks, 100 apart: step 180 of the first, its last own one, is step 80 of the second
+        said: list[str] = []
+        borders = Borders(180, 120, 100, 1000, {"own": sight_of("seen")}, said.append)
+        first = ("verdict,1,2,own,broken,5,90", "meeting,1,2,head_on,150,190,5", "meeting,3,4,passing,150,190,5",
+                 "meeting,5,6,passing,100,185,5", "meeting,7,8,passing,130,170,5")
+        self.assertEqual([borders.take(0, row) for row in first], [()] * 5)
+        self.assertEqual(borders.end(0), [])
+        told = json.loads(json.dumps(borders.stored()))
+        for row, marks in (("meeting,1,2,head_on,50,95,5", ()),             # begins alike
+                           ("meeting,5,6,passing,20,96,5", ("begins_before",)),
+                           ("verdict,1,2,own,broken,93,97", ("doubt",)),    # as `seen` is of all times
+                           ("verdict,7,8,r8d,broken,94,98", ("doubt",)),    # the meeting before is not there
+                           ("verdict,9,10,r8d,broken,79,99", ("begins_before",)),
+                           ("verdict,9,10,r8d,broken,81,99", ())):
+            self.assertEqual(borders.take(1000, row), marks, row)
+        self.assertEqual(borders.end(1000), [("meeting,3,4,passing,150,190,5", ())])
+        self.assertEqual([line.split(" differ about ")[1].split(",")[0] for line in said], ["7 and 8"])
+        again = Borders(180, 120, 100, 1000, {}, said.append)
+        again.load(told)
+        self.assertEqual(len(again.end(1000)), 3)
 
     def test_a_line_that_was_cut_off_is_not_gone_on_with(self) -> None:
         files = DayFiles(self.folder)

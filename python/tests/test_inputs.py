@@ -80,8 +80,12 @@ class Captures(Logs):
         _, out = self.made(pcap("<", 0xA1B2C3D4, udp(S), b"short", udp(S))[:-20])
         self.assertEqual(out, TAGGED)
         for size in range(4, 80, 7):
-            self.made(pcap("<", 0xA1B2C3D4, udp(S))[:size])
-            self.made(pcapng(udp(S))[:size])
+            for log in pcap("<", 0xA1B2C3D4, udp(S)), pcapng(udp(S)):
+                self.assertRegex(self.made(log[:size])[0].notes[0], "^log is cut off|no sentence and no row")
+
+    def test_a_packed_capture_is_one_too(self) -> None:
+        found, out = self.made(gzip.compress(pcap("<", 0xA1B2C3D4, udp(S))))
+        self.assertEqual((out, found.files[0].packed), (TAGGED, "gzip, as a capture"))
 
 
 class Cut(Logs):
@@ -108,16 +112,24 @@ class TimesOfDay(Logs):
     def test_times_without_a_date_take_the_one_that_is_given_and_go_on_after_midnight(self) -> None:
         times = Times(date=datetime.date(2023, 11, 14))
         self.assertEqual([(times.read(text) or (0,))[0] - AT
-                          for text in (b"22:13:21 ", b"23:59:59", b"00:00:01", b"00:00:02")], [0, 6398, 6400, 6401])
+                          for text in (b"22:13:21 ", b"23:59:59", b"00:00:01", b"23:59:58", b"00:00:02")],
+                         [0, 6398, 6400, 6397, 6401])
 
-    def test_syslog_has_the_year_of_the_date(self) -> None:
+    def test_a_date_that_cannot_be_read_is_not_hidden_by_the_one_that_is_given(self) -> None:
+        with self.assertRaisesRegex(Unsure, "day and month may be exchanged"):
+            Times(date=datetime.date(2023, 11, 14)).read(b"14/11/2023 22:13:21")
+
+    def test_syslog_has_the_year_of_the_date_and_the_next_one_after_new_year(self) -> None:
         found = Times(date=datetime.date(2023, 1, 1)).read(b"Nov 14 22:13:21 host ais[7]: ")
         self.assertEqual(found, (AT, "date of syslog, with the year of --date"))
+        times = Times(date=datetime.date(2023, 12, 31))
+        self.assertEqual([(times.read(text) or (0,))[0] for text in (b"Dec 31 23:59:59", b"Jan  1 00:00:00")],
+                         [1704067199, 1704067200])
 
     def test_twelve_hours_and_the_day_first(self) -> None:
         for text in (b"2023-11-14 10:13:21 PM", b"14-Nov-2023 10:13:21 p.m."):
             self.assertEqual((Times().read(text) or (0,))[0], AT, text)
-        for text in (b"14/11/2023 22:13:21", b"14-11-2023 10:13:21 PM"):
+        for text in (b"14/11/2023 22:13:21", b"14-11-2023 10:13:21 PM", b"14/11/23 22:13:21"):
             self.assertEqual((Times(day_first=True).read(text) or (0,))[0], AT, text)
         self.assertEqual((Times().read(b"2023-11-14 12:00:00 AM") or (0,))[0], 1699920000)
         for text in (b"14/11/2023 22:13:21", b"22:13:21"):
@@ -143,20 +155,29 @@ class Tables(Logs):
         _, out = self.made(table,
                            columns=tuple(tables.columns_of("mmsi=ship,time=when,latitude=y,longitude=x,speed=V")))
         self.assertEqual(self.report(out)[:5], (AT, 200000011, 14.0, -123.58234, 48.25))
-        with self.assertRaisesRegex(Fault, "`depth` is no column"):
-            tables.columns_of("depth=z")
+        _, out = self.made(table.replace("14.0", "140"), columns=tuple(
+            tables.columns_of("mmsi=ship,time=when,latitude=y,longitude=x,speedx10=v")))
+        self.assertEqual(self.report(out)[2], 14.0)
+        for words, told in ("depth=z", "`depth` is no column"), ("mmsi=", "no column with a head"), (
+                "speed=v,speedx10=w", "`speed` has two heads"):
+            with self.assertRaisesRegex(Fault, told):
+                tables.columns_of(words)
+        found, _ = self.made(table, columns=(("mmsi", "vessel"), ("time", "when")))
+        self.assertRegex(" ".join(found.words()), "known as mmsi, latitude, longitude among .*; --columns names "
+                                                  "`vessel`, which is not there")
 
     def test_a_head_that_is_not_known_is_named_with_its_heads(self) -> None:
-        found, _ = self.made("ship,when,y,x,v\n200000011,2023-11-14 22:13:21,48.25,-123.58234,14.0\n")
+        found, _ = self.made("# by hand\nship,when,y,x,v\n200000011,2023-11-14 22:13:21,48.25,-123.58234,14.0\n")
         self.assertRegex(" ".join(found.words()), "a table whose head is not known: no column is known as mmsi, time, "
                                                   "latitude, longitude among ship, when, y, x, v; "
                          "name them by --columns")
 
     def test_degrees_and_minutes(self) -> None:
         for text, value in (("48 15 N", 48.25), ("48\u00b015'00\" S", -48.25), ("123\u00b034.9404'W", -123.58234),
-                            ("-48 15", -48.25), ("48,25", 48.25), ("E 12.5", 12.5)):
+                            ("-48 15", -48.25), ("48,25", 48.25), ("E 12.5", 12.5), ("4815.00S", -48.25),
+                            ("123-34.9404W", -123.58234)):
             self.assertAlmostEqual(units.degrees(text) or 0, value, places=9, msg=text)
-        for text in ("48 75 N", "north"):
+        for text in ("48 75 N", "north", "4815.00", "48-75.0N"):
             with self.assertRaises(ValueError):
                 units.degrees(text)
 
@@ -184,7 +205,8 @@ class Jsons(Logs):
             }
         }
         for value in (hub, stream):
-            _, out = self.made(json.dumps(value) + "\n")
+            found, out = self.made(json.dumps(value) + "\n")
+            self.assertEqual(found.unread, {})
             self.assertEqual(self.report(out.splitlines()[-1]), (AT, 200000011, 14.0, -123.58234, 48.25, 90.0))
 
 
@@ -224,6 +246,7 @@ class Clocks(Logs):
                                  "sets it right"])
         found, out = self.made(self.log(25), align=True)
         self.assertEqual(clocks.ahead(self.path("out")), [])
+        self.assertEqual((found.first, found.last), (AT, AT + 390))
         self.assertEqual(sorted(int(line[3:13]) for line in out.splitlines()),
                          sorted(2 * [AT + 10 * k for k in range(40)]))
 

@@ -5,7 +5,7 @@ import subprocess
 import sys
 import unittest
 
-from given import InFolder, PROGRAM, TOP, example, text_of, with_program
+from given import HANGS, PROGRAM, TOP, InFolder, example, text_of, with_program
 
 
 @with_program
@@ -16,7 +16,7 @@ class Installed(InFolder):
             "PATH": "/usr/bin:/bin", "COLREGS_PROGRAM": PROGRAM, "HOME": self.folder, "PIP_NO_INDEX": "1",
             "PIP_FIND_LINKS": self.folder
         }
-        return subprocess.run(words, capture_output=True, text=True, cwd=self.folder, env=environment, timeout=120)
+        return subprocess.run(words, capture_output=True, text=True, cwd=self.folder, env=environment, timeout=HANGS)
 
     def test_pip_installs_it_and_its_commands_run(self) -> None:
         if subprocess.run([sys.executable, "-m", "venv", self.path("new")], capture_output=True).returncode != 0:

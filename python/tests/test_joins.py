@@ -6,14 +6,12 @@ import io
 import json
 import math
 import os
-import tempfile
 import unittest
 import unittest.mock
 from collections.abc import Iterable, Iterator
 from typing import Any
 
 import crowd
-import drawn_logs
 from drawn_logs import METRE, START, in_parts, scenario_text, stamped, voyage
 from given import InFolder, PROGRAM, text_of, with_program
 from colregs.io import sentences
@@ -27,7 +25,6 @@ from colregs.shares.reads import COPY, LINES, SEEK, SKIP, Read, Window, read_of,
 from colregs.shares.spans import Believed, Block, Span, believed, read_span
 
 Row = tuple[float, bytes]
-NUMBERS = range(9000, 9036)         # drawn logs that run here; `drawn_logs.py PROGRAM --count 20000` runs more
 YACHT, CARGO, EAST, NORTH = 200000001, 200000002, 200000003, 200000004
 SCENARIO = scenario_text(2160)
 RANKS = SCENARIO + "ranks = 1\n"
@@ -166,12 +163,6 @@ class Windows(Joins):
         self.assertIn("lines are before the start and are not audited",
                       self.many("plan", "late.toml", "log.gz", "--ticks-each", "360")[2])
 
-    def test_drawn_logs_are_those_of_one_run_or_refused_or_marked(self) -> None:
-        for number in NUMBERS:
-            with tempfile.TemporaryDirectory() as folder, unittest.mock.patch("sys.stderr", io.StringIO()):
-                outcome = drawn_logs.tried(number, PROGRAM, folder)
-            self.assertEqual(outcome.faults, [], f"drawn log {number}")
-
 
 class Plans(Joins):
     def test_a_stored_index_gives_the_same_plan_without_reading_the_files_again(self) -> None:
@@ -238,7 +229,7 @@ class KeptResults(Joins):
             os.truncate(self.path("jobs.kept/" + name), size)
         error = self.many("join", "jobs", status=1)[2]
         self.assertIn("2 of 5 jobs have no result yet", error)
-        self.assertIn("3 were kept before, 2 ran, 0 failed", self.many("jobs")[2])
+        self.assertIn("3 were cached, 2 ran, 0 failed", self.many("jobs")[2])
         self.assertEqual(crowd.stretches(self.many("join", "jobs")[1]), joined)
 
     def test_a_result_ends_with_the_sum_of_its_lines(self) -> None:

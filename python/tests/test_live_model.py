@@ -75,7 +75,8 @@ class Items(WithScenario):
         self.stretches = Stretches(self.scenario)
         notes = Notes(self.folder)
         self.addCleanup(notes.close)
-        self.alarms = Alarms(self.stretches, notes, lambda key, first, last: {"subject_name": "A", "at_rest": ""})
+        about = {"subject_name": "A", "at_rest": ""}
+        self.alarms = Alarms(self.stretches, notes, lambda key, first, last, before: dict(about))
         self.alarms.clock = START + 300
 
     def settle(self, step: int) -> None:
@@ -109,6 +110,14 @@ class Items(WithScenario):
         self.settle(10)
         self.assertEqual((self.only().state, self.only().withdrawn_at), (SETTLED, None))
 
+    def test_a_preliminary_alarm_that_can_no_longer_settle_is_withdrawn(self) -> None:
+        self.alarms.answer({KEY: [(START + 100, START + 130)]}, START)
+        self.alarms.answer({}, START, is_whole=False)
+        self.alarms.pass_time(START + 300 + self.stretches.wait)
+        self.assertEqual(self.only().state, PRELIMINARY)
+        self.alarms.pass_time(START + 301 + self.stretches.wait)
+        self.assertEqual(self.only().state, WITHDRAWN)
+
     def test_what_goes_beyond_the_settled_steps_is_withdrawn_alone(self) -> None:
         self.settle(10)
         self.alarms.answer({KEY: [(START + 100, START + 160)]}, START)
@@ -128,6 +137,23 @@ class Items(WithScenario):
         self.settle(11)
         self.assertEqual((self.only().first - START, self.only().last - START, self.alarms.dropped),
                          (100, 130, {second}))
+
+    def test_a_settled_alarm_takes_in_the_preliminary_one_that_it_grows_to(self) -> None:
+        self.settle(10)
+        self.alarms.answer({KEY: [(START + 120, START + 150)]}, START)
+        self.assertEqual(len(self.alarms.items), 2)
+        self.settle(11)
+        self.assertEqual((self.only().state, self.only().first - START, self.only().last - START), (SETTLED, 100, 150))
+
+    def test_an_item_is_not_over_while_alarms_may_be_on_their_way(self) -> None:
+        self.settle(10)
+        late = START + 120 + self.stretches.wait
+        self.alarms.pass_time(late)
+        self.alarms.answer({KEY: [(START + 100, START + 160)]}, START)
+        self.assertEqual((self.only().over, self.only().last - START), (False, 160))
+        self.stretches.close(self.stretches.over(late)[0])
+        self.alarms.pass_time(late)
+        self.assertEqual((self.only().over, self.only().last - START), (True, 110))
 
     def test_old_items_go(self) -> None:
         self.settle(10)
@@ -354,10 +380,13 @@ class Doors(InFolder):
 class Streams(WithScenario):
     """What `colregs-follow --stretches` writes."""
 
+    # a busy machine may let alarms or positions wait for long
     WORDS = ["--days", "days", "--program", PROGRAM, "--ticks-each", "60", "--overlap", "900", "--modes", "watch"]
+    PATIENT = ["--patience", "600"]
 
     def follow(self, log: str, *words: str) -> list[Any]:
-        status, out, error = self.tool("colregs-follow", "s.toml", *self.WORDS, *words, source=log.encode())
+        status, out, error = self.tool("colregs-follow", "s.toml", *self.WORDS, *self.PATIENT, *words,
+                                       source=log.encode())
         self.assertEqual((status, error), (0, ""))
         return [json.loads(line) for line in out.splitlines()]
 
@@ -468,7 +497,9 @@ class States(WithScenario):
         self.assertIsNotNone(state.acknowledge(alarm["id"], True, "seen", 7))
         self.assertEqual(state.change()["alarms"][0]["note"], {"acknowledged": True, "note": "seen", "at": 7})
         self.assertIsNone(state.acknowledge("none", True, "", 7))
-        state.answer(Answer(START, START + 110, fault="status 7"))
+        state.answer(Answer(START, START + 110, fault="status 7"))          # it says nothing of the alarm
+        self.assertNotIn("alarms", state.change())
+        state.answer(Answer(START, START + 120))
         self.assertEqual(state.change()["alarms"][0]["state"], WITHDRAWN)
 
 

@@ -87,8 +87,7 @@ class Strait(InFolder):
             number = tab.value("HELD.meetings.findIndex(m => m.pair.some(k => HELD.vessels[k].mmsi === "
                                f"{strait.NORTH})) + 1")
             tab.value(f"location.hash = '#meeting{number}'")
-            tab.value("new Promise(done => setTimeout(done, 200))")
-            self.assertIn("NORTH", tab.value("document.querySelector('#chosen').textContent"))
+            tab.wait("document.querySelector('#chosen').textContent.includes('NORTH')")
             self.assertEqual(tab.value("document.querySelectorAll('#charts polyline.courses').length"), 2)
             self.assertEqual(tab.value("document.querySelectorAll('#marks li').length"), 6)
             self.assertEqual(tab.errors, [])

@@ -73,7 +73,7 @@ class Pages(InFolder):
 
     def test_an_older_python_ends_with_one_sentence(self) -> None:
         script = ("import sys; sys.version_info = (3, 9, 2); sys.path.insert(0, sys.argv[1]); from colregs.start "
-                  "import start; start('case')")
+                  "import start; assert 'colregs.library' not in sys.modules; start('case')")
         done = subprocess.run([sys.executable, "-c", script, os.path.join(TOP, "python")], capture_output=True,
                               text=True)
         self.assertEqual((done.returncode, done.stderr), (1, "case: Python 3.11 or later is needed, and this is Python "

@@ -76,11 +76,10 @@ class Page(InFolder):
             number = tab.value("HELD.meetings.findIndex(m => m.pair.some(k => HELD.vessels[k].mmsi === "
                                f"{strait.CEDAR})) + 1")
             tab.value(f"location.hash = '#meeting{number}'")
-            tab.value("new Promise(done => setTimeout(done, 300))")
-            self.assertEqual(tab.value("Playback.time"), tab.value("begins(HELD.meetings[%d])" % (number - 1)))
+            tab.wait("Playback.time === begins(HELD.meetings[%d])" % (number - 1))
             tab.value("Playback.set(1500)")
             self.assertEqual(tab.value("document.querySelector('#play-clock').textContent"), "22:38:20 UTC")
-            self.assertEqual(tab.value("document.querySelector('#charts line.moment').getAttribute('visibility')"),
+            self.assertEqual(tab.value("document.querySelector('#charts .moment').getAttribute('visibility')"),
                              "visible")
             found = tab.value("approach(HELD.meetings[%d].pair, 1500)" % (number - 1))
             self.assertAlmostEqual(found["least"], strait.LEAST, delta=3)
@@ -98,8 +97,9 @@ class Page(InFolder):
                 self.assertTrue(tab.value(paper))
             tab.value("document.querySelector('#play-speed').value = 60, "
                       "document.querySelector('#play-toggle').click()")
-            tab.value("new Promise(done => setTimeout(done, 600))")
-            self.assertGreater(tab.value("Playback.time"), 1510)
+            tab.wait("Playback.time > 1510")
+            tab.value("document.querySelector('#play-toggle').click()")
+            self.assertEqual(tab.value("document.querySelector('#play-toggle').textContent"), "play")
             tab.value("document.querySelector('#play-whole').click()")
             self.assertEqual(tab.value("Number(document.querySelector('#play-time').max)"), strait.STEPS * strait.TICK)
             self.assertEqual(tab.value("document.querySelectorAll('#sweep tbody tr').length") > 0, True)

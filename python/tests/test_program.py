@@ -3,7 +3,7 @@ import os
 import subprocess
 import sys
 
-from given import HERE, InFolder
+from given import HANGS, HERE, InFolder
 from colregs.errors import Fault
 from colregs.run import program
 
@@ -21,14 +21,14 @@ class Found(InFolder):
         """Asks a Python in the folder of evidence for the program, with this PATH."""
         environment = {"PATH": path, "PYTHONPATH": os.path.dirname(HERE), "PYTHONDONTWRITEBYTECODE": "1"}
         return subprocess.run([sys.executable, *(words or ("-P", "-c", ASK))], cwd=self.path("evidence"),
-                              env=environment, capture_output=True, text=True, timeout=60)
+                              env=environment, capture_output=True, text=True, timeout=HANGS)
 
     def test_one_in_the_current_folder_is_not_run(self) -> None:
         for path in ("/none", ".", "", ":/none", "./", "../evidence"):
             with self.subTest(path):
                 done = self.asked(path)
                 self.assertEqual((done.returncode, done.stdout), (1, ""))
-                self.assertIn("the program is not here", done.stderr)
+                self.assertIn("there is no program", done.stderr)
 
     def test_one_on_an_absolute_folder_of_path_is_run(self) -> None:
         os.mkdir(self.path("bin"))
@@ -46,5 +46,5 @@ class Found(InFolder):
             os.path.realpath(self.path("bin/colregs")))
 
     def test_a_named_one_that_is_none_is_refused(self) -> None:
-        with self.assertRaisesRegex(Fault, "no program that can be run"):
+        with self.assertRaisesRegex(Fault, "cannot be run as a program"):
             program.found(self.path("none"))

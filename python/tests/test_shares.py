@@ -16,7 +16,7 @@ from colregs.io.sieve import Senders, Sieve
 WAYS = [["--tiles", "2x1"], ["--tiles", "1x2", "--group", "12"], ["--ticks-each", "60", "--overlap", "900"],
         ["--ticks-each", "75", "--overlap", "800", "--group", "12"]]
 FAULTS = [
-    ("{", "line 1: no job"),
+    ("{", "line 1: not a job"),
     ('{"files": ["log"], "scenario": "s.toml", "start": 0}', "`ticks` is missing or wrong"),
     ('{"files": ["log"], "scenario": "s.toml", "start": 0, "ticks": 20001}', "1 to 20000 ticks"),
     ('{"files": ["log"], "scenario": "s.toml", "start": 0, "ticks": 1, "more": 1}', "`more` is missing or wrong"),
@@ -149,7 +149,7 @@ class KeptResults(Shares):
         self.write("die", "")
         self.assertEqual(self.tool("colregs-many", "jobs", "--jobs", "1", "--program", self.used)[0], -9)
         os.remove(self.path("die"))
-        self.assertIn("5 jobs: 2 were kept before, 3 ran, 0 failed", self.many("jobs", "--jobs", "1")[2])
+        self.assertIn("5 jobs: 2 were cached, 3 ran, 0 failed", self.many("jobs", "--jobs", "1")[2])
         self.assertEqual(text_of(self.path("calls")).count("run"), 6)
         self.assertEqual(crowd.stretches(self.many("join", "jobs")[1]), crowd.stretches(self.whole()))
 
@@ -162,7 +162,7 @@ class KeptResults(Shares):
             if change == "log.gz":
                 self.assertIn("log.gz changed after the jobs were planned: plan again", self.many("jobs", status=1)[2])
                 self.plan("--ticks-each", "1000")
-            self.assertIn(f"1 jobs: {kept} were kept before", self.many("jobs")[2])
+            self.assertIn(f"1 job: {kept} were cached", self.many("jobs")[2])
 
     def test_what_goes_wrong_is_told(self) -> None:
         self.write("wrong.toml", crowd.harbour().replace("ticks = 198 ", "ticks = 0 "))

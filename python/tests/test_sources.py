@@ -241,7 +241,7 @@ class Blocks(Sources):
     def test_other_fields_of_a_tag_block_stay_and_a_wrong_sum_is_told(self) -> None:
         found, made = self.gathered(f"\\g:1-2-7,s:r1,c:1700000001*3D\\{S}\n\\c:1700000001*00\\{T}\n")
         self.assertEqual(made, ["\\c:1700000001,g:1-2-7,s:r1*3D\\" + S])
-        self.assertEqual(found.unread["a tag block with a wrong sum"].count, 1)
+        self.assertEqual(found.unread["a tag block with a wrong checksum"].count, 1)
 
     def test_a_part_without_a_time_stays_with_the_part_before(self) -> None:
         found, made = self.gathered(text_of(example("crossing.log")))
@@ -267,7 +267,7 @@ class Blocks(Sources):
 
     def test_a_clock_that_was_not_set_is_told(self) -> None:
         log = "\n".join(f"{1700000000 + 10 * k} {S}" for k in range(2000)) + "\n1000000000 " + T
-        self.assertIn("1 sentences have times more than a day off nearly all others, as 2001-09-09",
+        self.assertIn("1 sentence has a time more than a day off nearly all others, as 2001-09-09",
                       "".join(self.gathered(log)[0].notes))
         self.assertEqual(self.gathered(f"1700000000 {S}\n1700090000 {T}")[0].notes, [])
 
@@ -279,7 +279,7 @@ class Blocks(Sources):
         )
         self.assertEqual((counted, found.lines()), (10, 10))
         self.assertEqual(sorted(found.unread), [
-            "JSON without a sentence", "a line with no sentence and no row", "a sentence without its sum, or cut off"])
+            "JSON without a sentence", "a line with no sentence and no row", "a sentence without its checksum, or cut off"])
 
 
 def gather_lines(test: InFolder, lines: Iterable[str]) -> list[str]:
@@ -335,7 +335,7 @@ class Files(Sources):
     def test_a_file_that_is_damaged_or_cut_off_is_refused(self) -> None:
         cut_off = gzip.compress(self.TEXT)[:14], lzma.compress(self.TEXT)[:-10]
         for packed in (*cut_off, b"PK\x03\x04nonsense", b"\x1f\x8bnonsense", b"\x28\xb5\x2f\xfd.."):
-            with self.subTest(packed[:4]), self.assertRaisesRegex(Fault, "damaged or cut off|zstd is not here"):
+            with self.subTest(packed[:4]), self.assertRaisesRegex(Fault, "damaged or cut off|install the command zstd"):
                 self.gathered(packed)
 
     def test_utf_16_and_byte_order_marks(self) -> None:

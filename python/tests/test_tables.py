@@ -138,8 +138,8 @@ class Tables(InFolder):
     def test_numbers_in_tenths_under_a_head_without_a_unit_are_not_guessed(self) -> None:
         table = "mmsi;timestamp;lat;lon;speed;course\n200000011;2023-11-14 22:13:21;48.25;-123.5;14;900\n200000011;2023-11-14 22:13:22;48.25;-123.5;140;90\n"
         found = gather([self.write("table.csv", table)], self.path("out"))
-        self.assertEqual(sorted(found.unread), ["a row whose course is over 360: if it is in tenths, its head says so as `course x10`",
-                                                "a row whose speed is over 102.3: if it is in tenths, its head says so as `speed x10`"])
+        self.assertEqual(sorted(found.unread), ["a row whose course is over 360: if it is in tenths, say so by --columns coursex10=HEAD",
+                                                "a row whose speed is over 102.3: if it is in tenths, say so by --columns speedx10=HEAD"])
 
     @with_program
     def test_the_examples_through_marine_cadastre_and_back_have_the_same_pairs_kinds_and_rules(self) -> None:

@@ -69,6 +69,8 @@ class Shares(InFolder):
         self.assertEqual(status, 0, error)
         self.assertRegex(said, r"The audit was made by \d+ runs over shares of the pairs")
         self.assertNotIn("Less was audited", said)
+        about = json.loads(text_of(self.path("made/case.json")))
+        self.assertEqual(set(os.listdir(self.path("made"))), {"case.json", *about["files"]})
         status, again, error = self.tool("colregs-many", "made/shares.jobs", "--program", PROGRAM, "--jobs", "2")
         self.assertEqual(status, 0, error)
         status, joined, error = self.tool("colregs-many", "join", "made/shares.jobs", "--program", PROGRAM)

@@ -1,3 +1,10 @@
 pub use Rattle.report_csv.specs.CsvRows
 pub mod ReportRows
 pub mod ReportTexts
+pub mod OutcomeRows
+pub mod PointRows
+pub mod StretchRows
+pub mod VesselRows
+pub mod TotalRows
+pub mod AlarmRows
+pub mod PlanRows

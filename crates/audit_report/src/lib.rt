@@ -1,14 +1,30 @@
 //! The rows of reports as text.
 //!
 //! A report is a list of rows of seven fields, as CSV (RFC 4180): fields between commas, quoted where they must be, and a line feed
-//! behind each row. [`ReportText`] takes rows one after the other and holds the text of all; [`row_bytes`] gives that of one.
+//! behind each row. [`ReportText`] takes rows one after the other and holds the text of all; [`row_bytes`] gives that of one. Each
+//! other function here writes rows of one kind behind those of a text: those of lines, stretches, vessels, rules, alarms or plans.
 //!
 //! That rule `r14a` is broken by 200000001 towards 200000002 at step 23 alone is the row `verdict,200000001,200000002,r14a,broken,23,23`.
-//! Out of scope: when a row is written.
+//! If the first of two judged lines was accepted, they result in one row `point` and then, at the log's end, in the 21 rows `lines`;
+//! one of these counts an accepted report. Out of scope: which rows a report has, and in which order. That is `sessions`.
 #![tactic(auto)]
 
+mod alarms;
+mod outcome_rows;
+mod planned_legs;
+mod points;
 mod report_row;
 mod report_text;
+mod stretches;
+mod totals;
+mod vessels;
 
+pub use alarms::write_alarms;
+pub use outcome_rows::write_counts;
+pub use planned_legs::PlannedLegs;
+pub use points::write_line;
 pub use report_row::ReportRow;
 pub use report_text::{ReportText, row_bytes};
+pub use stretches::write_stretches;
+pub use totals::write_totals;
+pub use vessels::{write_near, write_vessels};

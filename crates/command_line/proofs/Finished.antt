@@ -250,6 +250,11 @@ pub fault_in_two : (values : Choices) (words : List Text)
 unfolding colregs top
 fault_in_two values words = refl
 
+pub matches_finished : (values : Choices) (words : List Text)
+    → matches_of (colregs values) (with_program_name words) ≡ finished (top values).rules (fold (walked (top values).rules []) (walk_from nothing_held) words).held
+unfolding colregs top
+matches_finished values words = refl
+
 module _ (values : Choices) (words : List Text) (mode name : Text) (rest : List Row)
     (walks : Walks values (walk_from nothing_held) words (first_rows mode name ++ rest)) where
   abbrev whole : List Row
@@ -285,9 +290,5 @@ module _ (values : Choices) (words : List Text) (mode name : Text) (rest : List 
       ∙ ap (λ ks. or_else ks (fault_behind values (fold (walked (top values).rules []) (walk_from nothing_held) words))) walks.faultless
       ∙ ap (fault_behind values) walks.ends ∙ fault_at_end
 
-  matches_finished : matches_of (colregs values) (with_program_name words) ≡ finished (top values).rules (fold (walked (top values).rules []) (walk_from nothing_held) words).held
-  unfolding colregs top
-  matches_finished = refl
-
   pub walked_matches : matches_of (colregs values) (with_program_name words) ≡ whole
-  walked_matches = matches_finished ∙ ap (λ (w : Walk). finished (top values).rules w.held) walks.ends ∙ walked_finished
+  walked_matches = matches_finished values words ∙ ap (λ (w : Walk). finished (top values).rules w.held) walks.ends ∙ walked_finished

@@ -47,7 +47,7 @@ text_at text = record { ref_ptr = (0, 0); now = text }
 abbrev value_of : ModeArgument → PossibleValue
 value_of m = record { name = text_at (mode_text m); help = None; aliases = record { ref_ptr = (0, 0); now = [] }; hide = false }
 
-abbrev listed : Choices
+abbrev pub listed : Choices
 listed = record { ref_ptr = (0, 0); now = map value_of modes }
 
 or_false : (b : Bool) → (b || false) ≡ b
@@ -58,7 +58,7 @@ listed_matches : (ms : List ModeArgument) (text : Text) → list_any (possible_m
 listed_matches [] text = refl
 listed_matches (m ∷ ms) text = ap₂ (λ a b. a || b) (or_false (bytes_eq (mode_text m) text)) (listed_matches ms text)
 
-listed_modes : AreModes listed.now
+pub listed_modes : AreModes listed.now
 listed_modes text = listed_matches modes text
 
 pub plain_given : (words : List Text) (arguments : Arguments) → ArePlain words arguments → GiveArguments words arguments

@@ -64,7 +64,7 @@ row_given values mode name given s =
     ap₂ (λ (a b : Bool). cond a (Some (row (codes "mode") mode)) (cond b (Some (row (codes "scenario") name)) (find_row (label s) (map setting_row given)))) is.no_mode is.no_scenario
     ∙ sym (find-map (λ (r : Row). bytes_eq r.id (label s)) setting_row given)
 
-abbrev first_text : Option Row → Option Text
+abbrev pub first_text : Option Row → Option Text
 first_text o = option_and_then (λ (r : Row). slice_get r.values 0) o
 
 text_or_default : (name : Text) (d : Option Value) (o : Option (CommandOption × Value))
@@ -142,7 +142,7 @@ some_kind k (x ∷ xs) other among none = cc
 
 -- ---- what `clap` takes holds a mode, a name and what its options take
 
-named_mode : (ms : List ModeArgument) (text : Text) → list_any (λ m. bytes_eq (mode_text m) text) ms ≡ true → (m : ModeArgument) × (text ≡ mode_text m)
+pub named_mode : (ms : List ModeArgument) (text : Text) → list_any (λ m. bytes_eq (mode_text m) text) ms ≡ true → (m : ModeArgument) × (text ≡ mode_text m)
 named_mode [] text e = cc
 named_mode (m ∷ ms) text e = go (bytes_eq (mode_text m) text) refl (named_mode ms text)
   where

@@ -12,4 +12,6 @@ mod Parsed
 mod Plain
 mod Settings
 mod InfoTexts
+mod TakenRows
+mod SomeRequest
 mod Walking

@@ -11,6 +11,7 @@ use Rattle.clap.specs.Kinds.{Kinds, or_else}
 use Rattle.clap.specs.Walk.{Held, Step, Waiting, Walk, after_flag, after_step, at_row, has_row, idle, long_met, long_or_other, more_values, most_values, nothing_held, option}
 use Rattle.clap.specs.Walk.{option_word, plain_word, settled, settled_rows, trailing, used, used_by_id, walk_from, walked, with_values, without, word_met}
 use Rattle.clap.specs.Faults.{flag_word_fault, long_fault, settle_fault, step_fault, turn_fault, use_fault}
+use Rattle.clap.specs.declared.builder.value_parser.Reading.{Reading}
 use Rattle.clap.specs.declared.builder.value_parser.Reading.TheVariants.{AsWritten}
 use Rattle.clap.specs.declared.error.kind.ErrorKind.TheVariants.{ArgumentConflict, ValueValidation}
 use Rattle.clap.specs.declared.parser.matches.ValueSource.TheVariants.{CommandLine}
@@ -21,9 +22,12 @@ use Rattle.command_line.specs.GivenArguments.{is_plain_text}
 use Rattle.command_line.proofs.ByKind.{TakesValue, parser_of_kind}
 use Rattle.command_line.proofs.Settings.{Choices, built_rule, known, top}
 
--- a value of an argument, as the words gave it
+-- values of an argument, as the words gave them
+abbrev pub value_row : Text → Reading → List Text → Row
+value_row id how values = record { id = id; values = values; count = None; source = Some CommandLine; reading = how }
+
 abbrev pub row : Text → Text → Row
-row id value = record { id = id; values = value ∷ []; count = None; source = Some CommandLine; reading = AsWritten }
+row id value = value_row id AsWritten (value ∷ [])
 
 -- what an argument waits to be used with: its values so far
 abbrev pub Pending : Type 0
@@ -163,19 +167,19 @@ at_row_missing id change missing (r ∷ rows) none = go (bytes_eq r.id id) refl 
     go true e more = let bad : true ≡ false = rw e at none in cc
     go false e more = rw e (ap (λ rs. r ∷ rs) (more (rw e at none)))
 
-set_missing : (id value : Text) (rows : List Row) → has_row id rows ≡ false
-    → with_values id AsWritten CommandLine (value ∷ []) (without id rows) ≡ rows ++ row id value ∷ []
-set_missing id value rows none =
+pub set_missing : (id : Text) (how : Reading) (values : List Text) (rows : List Row) → has_row id rows ≡ false
+    → with_values id how CommandLine values (without id rows) ≡ rows ++ value_row id how values ∷ []
+set_missing id how values rows none =
     let same : without id rows ≡ rows = at_row_missing id (λ _. []) [] rows none ∙ append-nil rows in
-    ap (λ rs. with_values id AsWritten CommandLine (value ∷ []) rs) same ∙ at_row_missing id (more_values CommandLine (value ∷ [])) (row id value ∷ []) rows none
+    ap (λ rs. with_values id how CommandLine values rs) same ∙ at_row_missing id (more_values CommandLine values) (value_row id how values ∷ []) rows none
 
 -- ---- by kind
 
 used_value : (name value : Text) (k : Kind) (rows : List Row) → TakesValue k → has_row name rows ≡ false
     → used (filled (option_rule name k)) (value ∷ []) rows ≡ rows ++ row name value ∷ []
-used_value name value (takes_number low high default) rows takes none = set_missing name value rows none
+used_value name value (takes_number low high default) rows takes none = set_missing name AsWritten (value ∷ []) rows none
 used_value name value flag rows takes none = absurd takes
-used_value name value (takes_text default) rows takes none = set_missing name value rows none
+used_value name value (takes_text default) rows takes none = set_missing name AsWritten (value ∷ []) rows none
 
 value_fault : (name value : Text) (k : Kind) (rows : List Row) → TakesValue k → has_row name rows ≡ false → accepts false (parser_of_kind k) value ≡ true
     → use_fault false (filled (option_rule name k)) (value ∷ []) rows ≡ []
@@ -244,7 +248,7 @@ flag_used : (c : List Rule) (w : Walk) (word name : Text) (rows : List Row) → 
     ≡ record w { held = record w.held { rows = rows ++ row name (codes "true") ∷ []; pending = None }; waiting = idle }
 flag_used c w word name rows goes none is =
     ap (λ (rs : List Row). let after : Walk = record w { held = record w.held { rows = used (filled (option_rule name flag)) [] rs; pending = None }; waiting = idle } in after) is
-    ∙ ap (λ (rs : List Row). let after : Walk = record w { held = record w.held { rows = rs; pending = None }; waiting = idle } in after) (set_missing name (codes "true") rows none)
+    ∙ ap (λ (rs : List Row). let after : Walk = record w { held = record w.held { rows = rs; pending = None }; waiting = idle } in after) (set_missing name AsWritten (codes "true" ∷ []) rows none)
 
 flag_fault : (t : Shape) (w : Walk) (word name : Text) → settle_fault t.rules t.args_override_self w.held ≡ [] → t.args_override_self ≡ false
     → has_row name (settled_rows t.rules w.held.pending w.held.rows) ≡ false → turn_found t w word (Some (filled (option_rule name flag))) ≡ []

@@ -1,5 +1,5 @@
 //! Laws of words and what they ask for, which stand over the definitions alone.
-ghost use Rattle.std.specs.Prelude.{◌≡◌, ℕ, List};
+ghost use Rattle.std.specs.Prelude.{◌≡◌, ◌⊎◌, ℕ, List};
 ghost use Rattle.command_line.specs.GivenArguments.{AskForNothing};
 ghost use Rattle.command_line.specs.Requests.{AskFor, IsPlain};
 ghost use Rattle.command_line.specs.declared.request.Request.{Request};
@@ -8,6 +8,12 @@ ghost use Rattle.command_line.specs.declared.request.Request.{Request};
 pub fn one_request()
     ensures { (words : List (List ℕ)) (request other : Request) →
         AskFor words request → AskFor words other → request ≡ other }
+{}
+
+/// Words ask for a request, or for nothing.
+pub fn some_request()
+    ensures { (words : List (List ℕ)) → AskForNothing words
+        ⊎ ((request : Request) × AskFor words request) }
 {}
 
 /// Words that ask for a request do not ask for nothing.

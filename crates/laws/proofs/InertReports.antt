@@ -21,13 +21,13 @@ use Rattle.log_lines.specs.declared.outcome.LineOutcome.{LineOutcome}
 use Rattle.plan_situations.specs.PlanSituations.{own_readiness, situation_of, vessels_near}
 use Rattle.scenario_values.specs.declared.values.Scenario.{Scenario}
 use Rattle.sessions.specs.AuditReport.{IsAuditReport, rows_behind, sightings_of}
-use Rattle.report_parts.specs.AlarmRows.{alarm_rows}
-use Rattle.report_parts.specs.OutcomeRows.{count_rows}
-use Rattle.report_parts.specs.PlanRows.{manoeuvre_rows}
-use Rattle.report_parts.specs.PointRows.{point_rows, rows_of_line}
-use Rattle.report_parts.specs.StretchRows.{stretch_rows}
-use Rattle.report_parts.specs.TotalRows.{total_rows}
-use Rattle.report_parts.specs.VesselRows.{near_rows, vessel_rows}
+use Rattle.audit_report.specs.AlarmRows.{alarm_rows}
+use Rattle.audit_report.specs.OutcomeRows.{count_rows}
+use Rattle.audit_report.specs.PlanRows.{manoeuvre_rows}
+use Rattle.audit_report.specs.PointRows.{point_rows, rows_of_line}
+use Rattle.audit_report.specs.StretchRows.{stretch_rows}
+use Rattle.audit_report.specs.TotalRows.{total_rows}
+use Rattle.audit_report.specs.VesselRows.{near_rows, vessel_rows}
 use Rattle.sessions.specs.DrillReport.{IsDrillReport, drill_text}
 use Rattle.sessions.specs.Endings.{IsReport}
 use Rattle.sessions.specs.PlanReport.{AreReasons, IsManoeuvre, IsPlanReport, log_messages, plan_text}

@@ -32,6 +32,7 @@ mod SomeTotals
 mod SomeAlarms
 mod SomeSettledText
 mod SomeCanonicalList
+mod Moments
 mod RightRows
 mod SomePlanReport
 mod SomeEnding

@@ -17,7 +17,7 @@ use Rattle.tasks.specs.Modes.{needs_own, needs_rows, reads_log}
 use Rattle.tasks.specs.Tasks.{task_mode, task_rows, task_seed}
 use Rattle.sessions.specs.Refusals.{IsMet}
 use Rattle.sessions.specs.declared.session_fault.SessionFault.TheVariants as why
-use Rattle.laws.specs.Requests.{AreRead, SomeDue}
+use Rattle.laws.specs.Requests.{SomeDue}
 use Rattle.laws.proofs.SomeAnswer.{memory_not_met, some_met}
 use Rattle.colregs_program.specs.Answers.{AreRows, AreRowsWhere, AskForMigration, CanMigrate, HasScenario, IsDue, IsRefusedBy, IsScenario, LiesUnder, MeetsAnswer, greatest_scenario}
 use Rattle.colregs_program.specs.AskedScenarios.{log_of, scenario_name, task_of, with_options}
@@ -214,9 +214,9 @@ module _ (words : List (List ℕ)) (held : Files) (bytes : List ℕ) where
         | inr short ↦ short_due request asked text is none short
       ]
 
-  of_arguments : AreRead words → ¬ ((due : Status) → ¬ Due due)
+  of_arguments : AskForNothing words ⊎ ((request : Request) × AskFor words request) → ¬ ((due : Status) → ¬ Due due)
   of_arguments (inl nothing) none = none status.Usage nothing
   of_arguments (inr (request, asked)) none = of_request request asked none
 
-pub some_due : SomeDue
-some_due = of_arguments
+pub some_due : ((words : List (List ℕ)) → AskForNothing words ⊎ ((request : Request) × AskFor words request)) → SomeDue
+some_due asked words held bytes = of_arguments words held bytes (asked words)

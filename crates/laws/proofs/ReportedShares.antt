@@ -9,7 +9,7 @@ use Rattle.log_lines.specs.LineTimes.{clock_of, time_of}
 use Rattle.log_lines.specs.SentLines.{heard, heard_of, sent, sent_of}
 use Rattle.scenario_values.specs.declared.values.Scenario.{Scenario}
 use Rattle.sessions.specs.AuditReport.{IsAuditReport, rows_behind, sightings_of}
-use Rattle.report_parts.specs.StretchRows.{stretch_rows}
+use Rattle.audit_report.specs.StretchRows.{stretch_rows}
 use Rattle.settled_ticks.specs.Sightings.{sighting_by, vessel_rank}
 use Rattle.settling.specs.ScenarioAudit.{audit_numbers}
 use Rattle.traces.specs.Audited.{Sighting}

@@ -20,10 +20,10 @@ use Rattle.settling.specs.ScenarioAudit.{audit_numbers}
 use Rattle.tasks.specs.declared.mode.Mode.{Mode}
 use Rattle.tasks.specs.declared.mode.Mode.TheVariants as mode
 use Rattle.sessions.specs.AuditReport.{rows_behind, sightings_of}
-use Rattle.report_parts.specs.AlarmRows.{alarm_rows, told_alarm}
-use Rattle.report_parts.specs.OutcomeRows.{count_rows}
-use Rattle.report_parts.specs.PointRows.{point_rows, rows_of_line}
-use Rattle.report_parts.specs.StretchRows.{stretch_fields, stretch_rows}
+use Rattle.audit_report.specs.AlarmRows.{alarm_rows, told_alarm}
+use Rattle.audit_report.specs.OutcomeRows.{count_rows}
+use Rattle.audit_report.specs.PointRows.{point_rows, rows_of_line}
+use Rattle.audit_report.specs.StretchRows.{stretch_fields, stretch_rows}
 use Rattle.sessions.specs.Endings.{IsEnding, IsReport}
 use Rattle.sessions.specs.Tasks.{Task}
 use Rattle.tasks.specs.Modes.{Focus, alarms, each_line, each_tick, early_focus, nothing, own_ship, stretches}

@@ -1,12 +1,13 @@
 -- If every plan fails, that there is no canonical list of why is refuted: the walk over the prefixes finds one.
 use Rattle.std.proofs.Common.{ℕ, zero, suc, ◌≡◌, ◌∙◌, ◌+◌, ◌*◌, ◌-◌, ◌^◌, ◌≤◌, ◌<◌, inl, inr, List, [], ◌∷◌, ◌++◌, length, take, get_or, Option, None, Some, refl, sym, ap, subst, arith}
-use Rattle.std.specs.Prelude.{IsSomeAnd, slice_get, ◌↔◌}
+use Rattle.std.specs.Prelude.{IfSome, IsSomeAnd, slice_get, ◌↔◌}
 use Rattle.std.specs.List.{Contains}
 use Rattle.std.proofs.lemmas.List.{get_or_default}
 use Rattle.std.proofs.lemmas.List.Elements.{Contains-get_or}
 use Rattle.std.proofs.Math.Nat.{pow-zero}
 use Rattle.closest_approach.specs.declared.nearest.Moment.{Moment}
 use Rattle.encounters.specs.declared.pair_step.PairStep.{PairStep}
+use Rattle.hull_domains.specs.Shapes.{IsShape}
 use Rattle.lattice.specs.Grids.{choices_of, plans_of}
 use Rattle.lattice.specs.PlanNumbers.{IsPlan, plan_of}
 use Rattle.lattice.proofs.Digits.{below_plan_of, length-plan_of}
@@ -33,11 +34,11 @@ use Rattle.refutations.specs.declared.entry.Reason.{Reason}
 use Rattle.refutations.specs.declared.entry.Reason.TheVariants.{Domain, Rule}
 use Rattle.refutations.specs.declared.entry.WhyEntry.{WhyEntry}
 use Rattle.rule_set.specs.NamedTrees.{rule_at}
-use Rattle.laws.specs.Reasons.{HasMoments}
 use Rattle.laws.proofs.HaveRows.{HaveRows}
+use Rattle.laws.proofs.Moments.{has_moments}
 use Rattle.laws.proofs.Refuted.{IsLeast, LeastOrNone, holds_or_not, least_or_none}
 
-module _ (rows_of : HaveRows) (s : Situation) (sound : IsSituation s) (told : HasMoments s) where
+module _ (rows_of : HaveRows) (s : Situation) (sound : IsSituation s) (shape : IfSome s.shape IsShape) where
   reasons : (plan : List ℕ) (last : ℕ) → FailsBy s last plan ↔ Some_ (HasReason s plan last) s.targets
   reasons plan last = failing_reason s plan last (λ T start. rows_of (terms_of s) all_power_driven (steps_from (own_at s plan) (target_at s T) start (last - start)))
 
@@ -47,14 +48,14 @@ module _ (rows_of : HaveRows) (s : Situation) (sound : IsSituation s) (told : Ha
     abbrev IsEntered : ℕ → Type 0
     IsEntered step = (now_of s ≤ step) × EntersAt s plan T step
 
-    entered_by : (step : ℕ) (o : Option PairStep) → step_at (own_at s plan) (target_at s T) step ≡ o → IsSomeAnd o (Enters s T)
+    entered_by : (step : ℕ) (o : Option PairStep) → now_of s ≤ step → step_at (own_at s plan) (target_at s T) step ≡ o → IsSomeAnd o (Enters s T)
         → (moment : Moment) × IsSomeAnd o (λ pair. IsDomainEntry s T pair moment)
-    entered_by step None is h = absurd h
-    entered_by step (Some pair) is h = (moment_of s T pair, told.moments plan T step pair is_plan is_target is h)
+    entered_by step None from is h = absurd h
+    entered_by step (Some pair) from is h = (moment_of s T pair, has_moments s sound shape plan T step pair is_target from is h)
 
     entry_reason : (step : ℕ) → step < until → IsLeast IsEntered step → (reason : Reason) × IsFirstTowards s plan until T reason
     entry_reason step lt least =
-        let entry = entered_by step (step_at (own_at s plan) (target_at s T) step) refl least.here.1 in (
+        let entry = entered_by step (step_at (own_at s plan) (target_at s T) step) least.here.0 refl least.here.1 in (
           Domain step entry.0,
           entry_first s plan until T (record { step = step; moment = entry.0 }) (record {
             from_now = least.here.0;

@@ -8,9 +8,9 @@ use Rattle.log_lines.specs.LogLines.{lines_of}
 use Rattle.plan_situations.specs.PlanSituations.{greatest_targets, own_readiness, targets_near}
 use Rattle.plan_situations.specs.declared.readiness.Ready.{Ready}
 use Rattle.plan_situations.specs.declared.readiness.Unready.{Unready}
-use Rattle.report_parts.specs.AlarmRows.{alarm_rows}
-use Rattle.report_parts.specs.OutcomeRows.{count_rows}
-use Rattle.report_parts.specs.StretchRows.{stretch_rows}
+use Rattle.audit_report.specs.AlarmRows.{alarm_rows}
+use Rattle.audit_report.specs.OutcomeRows.{count_rows}
+use Rattle.audit_report.specs.StretchRows.{stretch_rows}
 use Rattle.scenario_values.specs.declared.own_part.OwnPart.{OwnPart}
 use Rattle.scenario_values.specs.declared.values.Scenario.{Scenario}
 use Rattle.sessions.specs.AuditReport.{IsAuditReport, rows_behind, sightings_of}

@@ -57,7 +57,7 @@ module _ (scenario : Scenario) (log : List ℕ) (own : OwnPart) (ready : Ready) 
 
   pub some_plan_report : HaveRows → (why : Bool) → ¬ ((text : List ℕ) → ¬ IsPlanReport why scenario log text)
   some_plan_report rows_of why none = some_manoeuvre s may.sound (λ manoeuvre is_first.
-      some_reasons s may.sound why (some_canonical_list rows_of s may.sound may.moments) manoeuvre is_first (λ text are_reasons.
+      some_reasons s may.sound why (some_canonical_list rows_of s may.sound may.shape) manoeuvre is_first (λ text are_reasons.
       none (plan_text scenario log own ready manoeuvre ++ text) (record {
         own = own;
         ready = ready;

@@ -9,9 +9,9 @@ use Rattle.early_monitor.specs.declared.alarm.Alarm.{Alarm}
 use Rattle.log_lines.specs.GrowingLog.{ended_lines}
 use Rattle.log_lines.specs.JudgedLines.{judged_lines}
 use Rattle.log_lines.specs.SentLines.{sent}
-use Rattle.report_parts.specs.AlarmRows.{alarm_rows}
-use Rattle.report_parts.specs.PointRows.{point_rows}
-use Rattle.report_parts.specs.StretchRows.{stretch_rows}
+use Rattle.audit_report.specs.AlarmRows.{alarm_rows}
+use Rattle.audit_report.specs.PointRows.{point_rows}
+use Rattle.audit_report.specs.StretchRows.{stretch_rows}
 use Rattle.scenario_values.specs.declared.values.Scenario.{Scenario}
 use Rattle.sessions.specs.SettledText.{IsDecidedBy, IsSettledText}
 use Rattle.settled_ticks.specs.Settled.{IsSettled}

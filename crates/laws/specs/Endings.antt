@@ -1,5 +1,6 @@
 -- When a log has a report, and a front of it settled bytes: that there is none is refuted.
-use Rattle.std.specs.Prelude.{ℕ, ◌≤◌, Bool, IsSome, IsTrue, List, Ok}
+use Rattle.std.specs.Prelude.{ℕ, ◌≤◌, Bool, IfSome, IsSome, IsTrue, List, Ok}
+use Rattle.hull_domains.specs.Shapes.{IsShape}
 use Rattle.lattice.specs.Grids.{choices_of}
 use Rattle.plan_situations.specs.Situations.{IsSituation}
 use Rattle.plan_situations.specs.declared.situation.Situation.{Situation}
@@ -12,7 +13,6 @@ use Rattle.sessions.specs.SettledText.{IsSettledText}
 use Rattle.sessions.specs.Tasks.{Task}
 use Rattle.tasks.specs.Modes.{needs_own}
 use Rattle.tasks.specs.declared.mode.Mode.{Mode}
-use Rattle.laws.specs.Reasons.{HasMoments}
 
 -- ---- settled bytes
 
@@ -21,13 +21,12 @@ SomeSettledText = (mode : Mode) (scenario : Scenario) (front : List ℕ) → ¬ 
 
 -- ---- a report
 
--- A plan may be sought in the situation. The types of the program's values say so of each situation that it prepares, and the contract of
--- `plan_situations::Situation::entry` that its entries have moments.
+-- A plan may be sought in the situation. The types of the program's values say so of each situation that it prepares.
 pub record IsPlannable (situation : Situation) : Type 0 where
   pub sound : IsSituation situation
   pub different : RulesHaveDifferentNames situation.rules
   pub few : choices_of situation.lattice ≤ 512
-  pub moments : HasMoments situation
+  pub shape : IfSome situation.shape IsShape
 
 -- If a mode needs own ship, the scenario has her, and a plan may be sought in the situation in which a log leaves her.
 pub record MayEnd (mode : Mode) (scenario : Scenario) (log : List ℕ) : Type 0 where

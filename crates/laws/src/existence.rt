@@ -7,8 +7,8 @@ ghost use Rattle.laws.specs.Reasons.{SomeCanonicalList};
 
 use meetings::laws::there_are_rows;
 
-/// If every plan fails, a canonical list says why. The situation is in its ranges, and entries into domains have moments. The contracts of
-/// `plan_situations::prepare` and `Situation::entry` say so of the situations that the program prepares.
+/// If every plan fails, a canonical list says why. The situation is in its ranges, as the contract of `plan_situations::prepare` says, and its
+/// shape, if it has one, is a shape, as the type says.
 pub fn some_canonical_list()
     ensures { SomeCanonicalList }
 {

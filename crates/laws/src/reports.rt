@@ -15,6 +15,7 @@ ghost use Rattle.sessions.specs.Tasks.{Task};
 ghost use Rattle.plan_situations.specs.Situations.{IsSituation};
 ghost use Rattle.laws.specs.Requests.{SomeDue};
 
+use command_line::laws::some_request;
 use log_lines::laws::ended_lines_stay;
 use plan_situations::Situation;
 use sessions::laws::one_answer;
@@ -78,7 +79,9 @@ pub fn one_due()
     one_answer();
 }
 
-/// If `clap` takes the arguments of a run or refuses them, and the contents of shelf and log are known, some answer is due: that none is is refuted.
+/// If the contents of shelf and log are known, some answer is due to a run, whatever its arguments: that none is is refuted.
 pub fn some_due()
     ensures { SomeDue }
-{}
+{
+    some_request();
+}

@@ -9,7 +9,7 @@ ghost use Rattle.log_lines.specs.LineTimes.{stamps_of};
 ghost use Rattle.log_lines.specs.SentLines.{heard_of};
 ghost use Rattle.scenario_values.specs.declared.values.Scenario.{Scenario};
 ghost use Rattle.sessions.specs.AuditReport.{IsAuditReport, sightings_of};
-ghost use Rattle.report_parts.specs.StretchRows.{stretch_rows};
+ghost use Rattle.audit_report.specs.StretchRows.{stretch_rows};
 ghost use Rattle.settling.specs.ScenarioAudit.{audit_numbers};
 ghost use Rattle.traces.specs.Audited.{AuditNumbers, Sighting};
 ghost use Rattle.laws.specs.Reported.{AreReported, IsReported, pair_of};

@@ -1,8 +1,8 @@
 -- What is kept of each target, one after the other.
-use Rattle.std.proofs.Common.{◌≡◌, ◌≢◌, ◌∙◌, ℕ, ◌+◌, ◌<◌, ◌≤◌, inl, inr, List, [], ◌∷◌, ◌++◌, length, take, drop, get_or, set, refl, sym, ap, subst, arith, Bool, true, false}
+use Rattle.std.proofs.Common.{◌≡◌, ◌≢◌, ◌∙◌, ℕ, ◌+◌, ◌<◌, ◌≤◌, ◌⊎◌, inl, inr, List, [], ◌∷◌, ◌++◌, length, take, drop, get_or, set, refl, sym, ap, subst, arith, Bool, true, false}
 use Rattle.std.specs.Prelude.{IsTrue, ◌↔◌}
 use Rattle.std.proofs.lemmas.Bool.{cases_lt}
-use Rattle.std.proofs.lemmas.List.{get_or-set_other, get_or-set_same}
+use Rattle.std.proofs.lemmas.List.{get_or_default, get_or-set_other, get_or-set_same}
 use Rattle.std.proofs.Math.Seq.{take-append_seam}
 use Rattle.mtl_formulas.specs.Traces.{Trace}
 use Rattle.plan_situations.specs.FailingPlans.{EntersDomain, FailsTowards}
@@ -24,6 +24,32 @@ done_set {X} P xs k y inside before here j w lt = elim (cases_lt j k) [
   | inl earlier ↦ (let other : j ≢ k = omega arith in subst (P j) (sym (get_or-set_other xs k j y w other)) (before j w earlier))
   | inr last ↦ (let e : k ≡ j = omega arith in
       subst (λ (i : ℕ). P i (get_or (set xs k y) i w)) e (subst (P k) (sym (get_or-set_same xs k y w inside)) here))
+]
+
+-- of those from one index on
+pub done_from : {X : Type 0} (P : ℕ → X → Type 0) (xs : List X) (first k : ℕ) (y : X) → k < length xs → ((j : ℕ) (w : X) → first ≤ j → j < k → P j (get_or xs j w)) → P k y
+    → (j : ℕ) (w : X) → first ≤ j → j < k + 1 → P j (get_or (set xs k y) j w)
+done_from {X} P xs first k y inside before here j w low lt =
+    done_set (λ (i : ℕ) (x : X). first ≤ i → P i x) xs k y inside (λ i x earlier from. before i x from earlier) (λ from. here) j w lt low
+
+-- those before and after stay
+pub others_set : {X : Type 0} (xs old : List X) (first k : ℕ) (y : X) → first ≤ k → ((j : ℕ) (w : X) → j < first ⊎ k ≤ j → get_or xs j w ≡ get_or old j w)
+    → (j : ℕ) (w : X) → j < first ⊎ k + 1 ≤ j → get_or (set xs k y) j w ≡ get_or old j w
+others_set xs old first k y low same j w (inl before) = let other : j ≢ k = omega arith in get_or-set_other xs k j y w other ∙ same j w (inl before)
+others_set xs old first k y low same j w (inr after) = let other : j ≢ k = omega arith in get_or-set_other xs k j y w other ∙ same j w (inr (omega arith))
+
+-- Those from `before` to `after` come first, then those before them, then those after them.
+pub in_turn : {X : Type 0} (P : ℕ → X → Type 0) (one two three : List X) (before after count : ℕ) → before ≤ after
+    → ((k : ℕ) (w : X) → before ≤ k → k < after → P k (get_or one k w))
+    → ((k : ℕ) (w : X) → 0 ≤ k → k < before → P k (get_or two k w)) → ((k : ℕ) (w : X) → k < 0 ⊎ before ≤ k → get_or two k w ≡ get_or one k w)
+    → ((k : ℕ) (w : X) → after ≤ k → k < count → P k (get_or three k w)) → ((k : ℕ) (w : X) → k < after ⊎ count ≤ k → get_or three k w ≡ get_or two k w)
+    → (k : ℕ) (w : X) → k < count → P k (get_or three k w)
+in_turn P one two three before after count ordered first second kept third kept_too k w lt = elim (cases_lt k before) [
+  | inl low ↦ subst (P k) (sym (kept_too k w (inl (omega arith)))) (second k w (omega arith) low)
+  | inr from ↦ elim (cases_lt k after) [
+    | inl here ↦ subst (P k) (sym (kept_too k w (inl here) ∙ kept k w (inr from))) (first k w from here)
+    | inr high ↦ third k w high lt
+  ]
 ]
 
 pub fed_step : (b : Bool) (old new k : ℕ) → (b ≡ true → new ≡ old + 1) → (b ≡ false → new ≡ old) → old ≤ k → new ≤ k + 1
@@ -74,3 +100,18 @@ rightly_told s basis is W at end from k T A w is_target is_already is_watched lt
     let now = told_here s basis is k T A is_target is_already lt in
     h now.cut now.is_cut now.tells (stands_here s basis W at from k T A w is_target is_already is_watched lt stands now.cut now.is_cut now.tells)
     (λ enters. outside (some_here (EntersDomain s W at) s.targets k T lt (subst (EntersDomain s W at) is_target enters)))
+
+-- What is kept of a target that was followed stands, whatever serves in the place of what no list has.
+pub followed_here : (s : Situation) (basis : SearchBasis) → IsBasis s basis → (plan : List ℕ) (start end : ℕ) (from : List Watched) (k : ℕ) (T : Target) (A : Already) (W next : Watched)
+    → T ≡ get_or s.targets k T → A ≡ get_or basis.already.items k A → W ≡ get_or from k W → k < length s.targets
+    → ((cut : Trace) → IsCutAtNow s T cut → Tells (formulas_of s) cut A → Stands basis.program s plan T cut start W → Stands basis.program s plan T cut end next)
+    → StandsAt s basis plan start from → (t : Target) (a : Already) (cut : Trace) → IsCutAtNow s (get_or s.targets k t) cut → Tells (formulas_of s) cut (get_or basis.already.items k a)
+    → Stands basis.program s plan (get_or s.targets k t) cut end next
+followed_here s basis is plan start end from k T A W next is_target is_already is_from inside goes stands t a cut is_cut tells =
+    let many = is.count in
+    let same_target : get_or s.targets k t ≡ T = get_or_default s.targets k t T inside ∙ sym is_target in
+    let same_already : get_or basis.already.items k a ≡ A = get_or_default basis.already.items k a A (omega arith) ∙ sym is_already in
+    let is_cut' = subst (λ (x : Target). IsCutAtNow s x cut) same_target is_cut in
+    let tells' = subst (λ (x : Already). Tells (formulas_of s) cut x) same_already tells in
+    subst (λ (x : Target). Stands basis.program s plan x cut end next) (sym same_target)
+    (goes cut is_cut' tells' (stands_here s basis plan start from k T A W is_target is_already is_from inside stands cut is_cut' tells'))

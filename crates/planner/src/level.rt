@@ -1,10 +1,10 @@
 //! What is kept after a prefix of the legs of a plan.
-ghost use Rattle.std.specs.Prelude.{ℕ, ◌≡◌, ◌+◌, ◌-◌, ◌*◌, ◌/◌, ◌<◌, ◌≤◌, ◌^◌, ◌↔◌, IfOk, IsSome, IsTrue, List, false, true, length, get_or, All};
+ghost use Rattle.std.specs.Prelude.{ℕ, ◌≡◌, ◌+◌, ◌-◌, ◌*◌, ◌/◌, ◌<◌, ◌≤◌, ◌^◌, ◌⊎◌, ◌↔◌, IfOk, IsSome, IsTrue, List, false, true, length, get_or, All};
 ghost use Rattle.lattice.specs.Grids.{choices_of};
 ghost use Rattle.mtl_monitor.specs.Following.{Fits, HasRoom};
 ghost use Rattle.plan_situations.specs.FailingPlans.{BreaksARule, FailsBy, Some_};
 ghost use Rattle.planner.specs.Inner.Legs.{lasts, legs_before, legs_through, IsPathIn, IsPlannedLeg};
-ghost use Rattle.planner.specs.Inner.Levels.{AreEarly, AreFollowed, HasPlaces, HasTargets, IsAfter, IsBasis, IsOnLeg, StandsAt, StaysOut};
+ghost use Rattle.planner.specs.Inner.Levels.{AreEarly, AreFollowed, HasPlaces, HasTargets, IsAfter, IsBasis, IsFollowedTo, IsOnLeg, StandsAt, StaysOut};
 ghost use Rattle.plan_situations.specs.Paths.{EntersAlong};
 ghost use Rattle.plan_situations.specs.Prefixes.{reached, PrefixFails};
 ghost use Rattle.plan_situations.specs.Situations.{end_of, now_of, IsSituation};
@@ -12,6 +12,7 @@ ghost use Rattle.planner.specs.declared.level.Extended.TheVariants as Extended;
 ghost use Rattle.planner.specs.declared.basis.SearchBasis.{SearchBasis};
 ghost use Rattle.planner.specs.declared.legs.PlannedLeg.{PlannedLeg};
 ghost use Rattle.plan_situations.specs.declared.situation.Target.{Target};
+ghost use Rattle.planner.specs.declared.watched.Watched.{Watched};
 
 use crate::basis::SearchBasis;
 use crate::legs::PlannedLeg;
@@ -33,6 +34,8 @@ pub struct Level {
     pub(crate) ending: TraceState,
     /// The index of the target whose domain was entered last.
     entered: usize,
+    /// The index of the target towards which a rule was broken last.
+    broken: usize,
 }
 
 /// Where a path is before it is followed.
@@ -106,9 +109,59 @@ fn enters(situation: &Situation, leg: &PlannedLeg, path: &[TickState], latest: &
     }
 }
 
+/// Follows own ship's path in a leg towards the targets from one index to before another, from what is kept of them before it. Returns whether
+/// some row decides a position as newly broken: `latest` is then the target's index, and nothing is kept of those after her.
+fn follow_some(
+    situation: &Situation,
+    basis: &SearchBasis,
+    leg: &PlannedLeg,
+    path: &[TickState],
+    from: &[Watched],
+    watched: &mut [Watched],
+    latest: &mut usize,
+    first: usize,
+    end: usize,
+) -> bool
+    requires basis { IsBasis situation.now basis.now }
+    requires leg { IsPlannedLeg situation.now leg.now }
+    requires path { IsPathIn situation.now leg.now path.now }
+    requires from { HasTargets situation.now basis.now from.now }
+    requires early { AreEarly (reached situation.now leg.now.index) from.now }
+    requires targets { HasTargets situation.now basis.now watched.old }
+    requires ordered { first ≤ end }
+    requires inside { end ≤ length watched.old }
+    ensures targets { HasTargets situation.now basis.now watched.new }
+    ensures others { (k : ℕ) (w : Watched) → k < first ⊎ end ≤ k
+        → get_or watched.new k w ≡ get_or watched.old k w }
+    ensures followed { result ≡ false → (k : ℕ) (w : Watched) → first ≤ k → k < end
+        → IsFollowedTo situation.now basis.now leg.now.plan
+        (reached situation.now leg.now.index) (reached situation.now (leg.now.index + 1)) from.now k
+        (get_or watched.new k w) }
+    ensures breaks { result ≡ true
+        → StandsAt situation.now basis.now leg.now.plan (reached situation.now leg.now.index)
+        from.now
+        → Some_ (BreaksARule situation.now leg.now.plan
+        (reached situation.now (leg.now.index + 1))) situation.now.targets }
+{
+    for k in first..end {
+        let towards = Towards {
+            situation,
+            program: &basis.program,
+            no_last: basis.no_last,
+            target: &situation.targets.as_slice()[k],
+            already: &basis.already[k],
+        };
+        if towards.follow_from(leg, path, &from[k], &mut watched[k]) {
+            *latest = k;
+            return true;
+        }
+    }
+    false
+}
+
 /// Follows own ship's path in a leg towards all targets, from what is kept of them before it. Returns whether some row decides a
-/// position
-/// as newly broken: nothing is then kept of the targets after that one.
+/// position as newly broken: something is then kept only of some targets. The target towards which one was broken last is followed
+/// first: plans that begin alike mostly fail for the same one.
 fn follow_all(
     situation: &Situation,
     basis: &SearchBasis,
@@ -116,6 +169,7 @@ fn follow_all(
     path: &[TickState],
     from: &[Watched],
     watched: &mut [Watched],
+    latest: &mut usize,
 ) -> bool
     requires basis { IsBasis situation.now basis.now }
     requires leg { IsPlannedLeg situation.now leg.now }
@@ -130,19 +184,23 @@ fn follow_all(
         (reached situation.now leg.now.index)
         (reached situation.now (leg.now.index + 1)) from.now watched.new result }
 {
-    for k in 0..watched.len() {
-        let towards = Towards {
-            situation,
-            program: &basis.program,
-            no_last: basis.no_last,
-            target: &situation.targets.as_slice()[k],
-            already: &basis.already[k],
-        };
-        if towards.follow_from(leg, path, &from[k], &mut watched[k]) {
-            return true;
-        }
+    let count = watched.len();
+    let before = (*latest).min(count);
+    let next = before + 1;
+    let after = next.min(count);
+    if follow_some(
+        situation, basis, leg, path, from, watched, latest, before, after,
+    ) {
+        return true;
     }
-    false
+    if follow_some(
+        situation, basis, leg, path, from, watched, latest, 0, before,
+    ) {
+        return true;
+    }
+    follow_some(
+        situation, basis, leg, path, from, watched, latest, after, count,
+    )
 }
 
 /// Whether some position is newly broken towards some target if the traces end here.
@@ -205,6 +263,7 @@ impl Level {
             watched,
             ending: TraceState::new(alloc, program)?,
             entered: 0,
+            broken: 0,
         })
     }
 
@@ -231,6 +290,7 @@ impl Level {
             watched,
             ending: TraceState::new(alloc, &basis.program)?,
             entered: 0,
+            broken: 0,
         })
     }
 
@@ -335,6 +395,7 @@ impl Level {
             &self.path,
             &from.watched,
             &mut self.watched,
+            &mut self.broken,
         )
     }
 

@@ -1,13 +1,14 @@
-//! The row of an entry as text.
+//! The rows of entries as text.
 ghost use Rattle.std.specs.Prelude.{◌≡◌, IfOk};
 ghost use Rattle.refutations.specs.EntryRows.{choices_text, entry_text};
 ghost use Rattle.refutations.specs.RightLists.{KnowsRule};
 
 use crate::entry::{Reason, WhyEntry};
+use csv::{Writer, WriterBuilder};
 use itoa::Buffer;
 use out_of_memory::Memory;
 use plan_situations::Situation;
-use report_csv::{digits, fields_bytes};
+use report_csv::digits;
 use std::alloc::Global;
 
 /// The choices with a point between each two.
@@ -25,8 +26,89 @@ fn choices_text(alloc: Global, choices: &[u16]) -> Result<Vec<u8>, Memory>
     Ok(text)
 }
 
-/// The text of an entry's row, as CSV with a line feed: `why`, the choices of its prefix, its target, the reason and the step, and the moment of a
-/// domain.
+/// The text of the rows of entries that were written so far. One writer takes all rows of a list.
+#[derive(Drop)]
+pub struct EntryRows {
+    writer: Writer<Vec<u8>>,
+}
+
+impl EntryRows {
+    ghost use Rattle.std.specs.Prelude.{◌++◌, List, [], ℕ, OnOk, map};
+    ghost use Rattle.report_csv.specs.CsvRows.{row_of};
+    ghost use Rattle.refutations.specs.EntryTexts.{HasRows};
+
+    /// The text of no rows. This takes no memory.
+    pub fn new(alloc: Global) -> EntryRows
+        ensures { HasRows result [] }
+    {
+        EntryRows {
+            writer: WriterBuilder::new().from_writer(Vec::new(alloc)),
+        }
+    }
+
+    #[tactic(auto, unfolding(report_csv::specs::CsvRows::row_of))]
+    fn write_fields(&mut self, fields: &[&[u8]]) -> Result<(), Memory>
+        ensures { OnOk result ((text : List ℕ) → HasRows self.old text
+            → HasRows self.new (text ++ row_of (map (λ field. field.now) fields.now))) }
+    {
+        match self.writer.write_fields(fields) {
+            Ok(()) => Ok(()),
+            Err(_) => Err(Memory),
+        }
+    }
+
+    /// Writes an entry's row, as CSV with a line feed: `why`, the choices of its prefix, its target, the reason and the step, and the moment of a
+    /// domain. If memory runs out, the text may only be dropped.
+    pub fn write(
+        &mut self,
+        alloc: Global,
+        situation: &Situation,
+        entry: &WhyEntry,
+    ) -> Result<(), Memory>
+        requires { KnowsRule situation.now entry.now.reason }
+        ensures { OnOk result ((text : List ℕ) → HasRows self.old text
+            → HasRows self.new (text ++ entry_text situation.now entry.now)) }
+    {
+        let choices = choices_text(alloc, entry.prefix.choices())?;
+        let mut mmsi = Buffer::new();
+        let target = digits(&mut mmsi, u64::from(entry.target));
+        let mut tick = Buffer::new();
+        let mut a = Buffer::new();
+        let mut b = Buffer::new();
+        match entry.reason {
+            Reason::Domain { step, moment } => self.write_fields(&[
+                b"why",
+                &choices,
+                target,
+                b"domain",
+                digits(&mut tick, u64::from(step)),
+                digits(&mut a, moment.a),
+                digits(&mut b, moment.b),
+            ]),
+            Reason::Rule { index, step } => self.write_fields(&[
+                b"why",
+                &choices,
+                target,
+                situation.rules.name(index as usize),
+                digits(&mut tick, u64::from(step)),
+                b"",
+                b"",
+            ]),
+        }
+    }
+
+    /// The text of all rows.
+    pub fn into_bytes(self) -> Result<Vec<u8>, Memory>
+        ensures { IfOk result (λ bytes. (text : List ℕ) → HasRows self text → bytes.items ≡ text) }
+    {
+        match self.writer.into_inner() {
+            Ok(text) => Ok(text),
+            Err(_) => Err(Memory),
+        }
+    }
+}
+
+/// The text of one entry's row.
 pub fn entry_bytes(
     alloc: Global,
     situation: &Situation,
@@ -35,36 +117,7 @@ pub fn entry_bytes(
     requires { KnowsRule situation.now entry.now.reason }
     ensures { IfOk result (λ bytes. bytes.items ≡ entry_text situation.now entry.now) }
 {
-    let choices = choices_text(alloc, entry.prefix.choices())?;
-    let mut mmsi = Buffer::new();
-    let target = digits(&mut mmsi, u64::from(entry.target));
-    let mut tick = Buffer::new();
-    let mut a = Buffer::new();
-    let mut b = Buffer::new();
-    match entry.reason {
-        Reason::Domain { step, moment } => fields_bytes(
-            alloc,
-            &[
-                b"why",
-                &choices,
-                target,
-                b"domain",
-                digits(&mut tick, u64::from(step)),
-                digits(&mut a, moment.a),
-                digits(&mut b, moment.b),
-            ],
-        ),
-        Reason::Rule { index, step } => fields_bytes(
-            alloc,
-            &[
-                b"why",
-                &choices,
-                target,
-                situation.rules.name(index as usize),
-                digits(&mut tick, u64::from(step)),
-                b"",
-                b"",
-            ],
-        ),
-    }
+    let mut rows = EntryRows::new(alloc);
+    rows.write(alloc, situation, entry)?;
+    rows.into_bytes()
 }

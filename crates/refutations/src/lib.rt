@@ -3,7 +3,7 @@
 //! A list of entries says for every plan of own ship why it fails. An entry is a prefix of plans, the choices of their first legs, with a target and a
 //! reason: own ship is inside the target's domain at an instant of a step, or a rule is newly broken at a step. It is good if its reason holds in the
 //! part of the trace that the prefix determines, and then every plan that extends the prefix fails for that reason. [`check`] judges any list without a
-//! search. [`entry_bytes`] writes an entry as a row, and [`read_entry`] reads it.
+//! search. [`EntryRows`] writes entries as rows, and [`read_entry`] reads one.
 //!
 //! With ten choices in each of two legs an entry of the prefix (3) is about the plans 30 to 39, and one of the prefix (3, 4) about plan 34. A list that
 //! goes from the prefix (3) to the prefix (5) leaves ten plans out, and is refused at the second of these entries.
@@ -25,6 +25,6 @@ mod trace_so_far;
 pub use check_list::check;
 pub use entry::{Checked, Reason, WhyEntry};
 pub use entry_reading::read_entry;
-pub use entry_row::entry_bytes;
+pub use entry_row::{EntryRows, entry_bytes};
 pub use goodness::horizon;
 pub use prefix::Prefix;

@@ -19,7 +19,7 @@ use Rattle.settling.specs.ScenarioAudit.{audit_numbers}
 use Rattle.settling.specs.Standing.{AreOfOneLog}
 use Rattle.settling.specs.declared.settled_audit.SettledAudit.{SettledAudit}
 use Rattle.sessions.specs.AuditReport.{IsAuditReport, rows_behind, sightings_of}
-use Rattle.report_parts.specs.StretchRows.{stretch_fields, stretch_rows}
+use Rattle.audit_report.specs.StretchRows.{stretch_fields, stretch_rows}
 use Rattle.sessions.specs.Inner.AtEnd.{HasGiven, IsAuditAtEnd}
 
 module _ {Item : Type 0} {Stands : List (List ℕ) → List Item → Type 0} (judge : Judge) (scenario : Scenario) (log : List ℕ) (given : List Item) (of : HasGiven Stands judge scenario log given) where

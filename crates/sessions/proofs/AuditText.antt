@@ -8,9 +8,9 @@ use Rattle.log_lines.specs.LogLines.{lines_of}
 use Rattle.scenario_values.specs.declared.values.Scenario.{Scenario}
 use Rattle.tracks.specs.VesselsHeld.{Sent}
 use Rattle.sessions.specs.AuditReport.{sightings_of}
-use Rattle.report_parts.specs.StretchRows.{stretch_rows}
-use Rattle.report_parts.specs.TotalRows.{total_rows}
-use Rattle.report_parts.specs.VesselRows.{vessel_rows}
+use Rattle.audit_report.specs.StretchRows.{stretch_rows}
+use Rattle.audit_report.specs.TotalRows.{total_rows}
+use Rattle.audit_report.specs.VesselRows.{vessel_rows}
 use Rattle.traces.specs.declared.all_traces.TheConstants.{MOST_TRACES}
 use Rattle.traces.specs.declared.fault.TickFault.{TickFault as AuditFault}
 use Rattle.traces.specs.declared.fault.TickFault.TheVariants as audit

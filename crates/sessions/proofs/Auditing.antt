@@ -19,7 +19,7 @@ use Rattle.scenario_values.specs.declared.values.Scenario.{Scenario}
 use Rattle.settling.specs.DecidedRows.{AreDecided}
 use Rattle.settled_ticks.specs.Sightings.{sighted}
 use Rattle.settling.specs.ScenarioAudit.{audit_numbers}
-use Rattle.report_parts.specs.StretchRows.{AreOfRules, IsOfRules, stretch_fields, stretch_rows}
+use Rattle.audit_report.specs.StretchRows.{AreOfRules, IsOfRules, stretch_fields, stretch_rows}
 
 -- ---- rows name rules that exist
 

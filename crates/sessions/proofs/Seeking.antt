@@ -24,8 +24,8 @@ use Rattle.refutation_search.specs.CanonicalLists.{IsCanonical}
 use Rattle.refutations.specs.EntryRows.{entry_text}
 use Rattle.refutations.specs.declared.entry.WhyEntry.{WhyEntry}
 use Rattle.sessions.specs.PlanReport.{AreReasons, IsManoeuvre, IsOwn, log_messages, situation_on}
-use Rattle.report_parts.specs.PlanRows.{manoeuvre_rows}
-use Rattle.report_parts.specs.VesselRows.{near_rows}
+use Rattle.audit_report.specs.PlanRows.{manoeuvre_rows}
+use Rattle.audit_report.specs.VesselRows.{near_rows}
 use Rattle.sessions.specs.Inner.Faults.{EndCause, preparing_fault}
 use Rattle.sessions.specs.Inner.PlanWriting.{AreReasonsWhere, IsSought, SoughtCause}
 use Rattle.tasks.specs.declared.mode.Mode.{Mode}

@@ -2,7 +2,7 @@
 use Rattle.std.proofs.Common.{◌≡◌, ℕ, List, [], ◌∷◌, ◌++◌, append-nil, append_assoc, sym, ap, ◌∙◌}
 use Rattle.std.proofs.lemmas.Grind.{flat_map-append}
 use Rattle.log_lines.specs.declared.judged.Judged.{Judged}
-use Rattle.report_parts.specs.PointRows.{point_rows, rows_of_line}
+use Rattle.audit_report.specs.PointRows.{point_rows, rows_of_line}
 
 -- of one line
 pub one_line : (judged : Judged) → point_rows (judged ∷ []) ≡ rows_of_line judged

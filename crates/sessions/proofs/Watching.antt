@@ -22,8 +22,8 @@ use Rattle.settling.specs.ScenarioAudit.{audit_numbers}
 use Rattle.settling.specs.WatchStanding.{AreOfOneLog}
 use Rattle.settling.specs.declared.settled_watch.SettledWatch.{SettledWatch}
 use Rattle.sessions.specs.AuditReport.{sightings_of}
-use Rattle.report_parts.specs.AlarmRows.{alarm_rows, told_alarm}
-use Rattle.report_parts.specs.OutcomeRows.{count_rows}
+use Rattle.audit_report.specs.AlarmRows.{alarm_rows, told_alarm}
+use Rattle.audit_report.specs.OutcomeRows.{count_rows}
 use Rattle.sessions.specs.WatchReport.{IsWatchReport}
 use Rattle.sessions.specs.Inner.AtEnd.{IsWatchAtEnd}
 use Rattle.sessions.specs.Inner.Faults.{EndCause, auditing_fault}

@@ -25,9 +25,9 @@ use Rattle.settling.specs.declared.settled_watch.SettledWatch.{SettledWatch}
 use Rattle.settling.proofs.ForCallers.{few_settled, few_watched, none_decided, no_alarms_decided, none_many}
 use Rattle.tasks.specs.declared.mode.Mode.{Mode}
 use Rattle.tasks.specs.Modes.{Focus, OfTicks, alarms, each_line, each_tick, early_focus, focus_of, nothing, own_ship, stretches}
-use Rattle.report_parts.specs.AlarmRows.{alarm_rows, told_alarm}
-use Rattle.report_parts.specs.PointRows.{point_rows, rows_of_line}
-use Rattle.report_parts.specs.StretchRows.{stretch_fields, stretch_rows}
+use Rattle.audit_report.specs.AlarmRows.{alarm_rows, told_alarm}
+use Rattle.audit_report.specs.PointRows.{point_rows, rows_of_line}
+use Rattle.audit_report.specs.StretchRows.{stretch_fields, stretch_rows}
 use Rattle.sessions.specs.Refusals.{HasManySettled, IsUnrefused}
 use Rattle.sessions.specs.SettledText.{IsDecidedBy, IsDecidedText, IsSettledText}
 use Rattle.tracks.proofs.ForCallers.{remembers_forgetting}

@@ -12,10 +12,10 @@ use Rattle.log_lines.specs.SentLines.{sent}
 use Rattle.scenario_values.specs.declared.values.Scenario.{Scenario}
 use Rattle.settled_ticks.specs.Sightings.{sighted}
 use Rattle.settling.specs.ScenarioAudit.{audit_numbers}
-use Rattle.report_parts.specs.OutcomeRows.{count_rows}
-use Rattle.report_parts.specs.StretchRows.{stretch_rows}
-use Rattle.report_parts.specs.TotalRows.{total_rows}
-use Rattle.report_parts.specs.VesselRows.{vessel_rows}
+use Rattle.audit_report.specs.OutcomeRows.{count_rows}
+use Rattle.audit_report.specs.StretchRows.{stretch_rows}
+use Rattle.audit_report.specs.TotalRows.{total_rows}
+use Rattle.audit_report.specs.VesselRows.{vessel_rows}
 
 -- ---- what is audited
 

@@ -7,8 +7,8 @@ use Rattle.auditor.specs.AuditTotals.{AreTotals}
 use Rattle.log_lines.specs.JudgedLines.{judged_lines}
 use Rattle.log_lines.specs.LogLines.{lines_of}
 use Rattle.scenario_values.specs.declared.values.Scenario.{Scenario}
-use Rattle.report_parts.specs.OutcomeRows.{count_rows}
-use Rattle.report_parts.specs.TotalRows.{total_rows}
+use Rattle.audit_report.specs.OutcomeRows.{count_rows}
+use Rattle.audit_report.specs.TotalRows.{total_rows}
 use Rattle.sessions.specs.AuditReport.{sightings_of}
 use Rattle.settling.specs.ScenarioAudit.{audit_numbers}
 

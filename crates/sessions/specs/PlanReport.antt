@@ -14,9 +14,9 @@ use Rattle.plan_situations.specs.declared.situation.Situation.{Situation}
 use Rattle.scenario_values.specs.declared.own_part.OwnPart.{OwnPart}
 use Rattle.scenario_values.specs.declared.values.Scenario.{Scenario}
 use Rattle.tracks.specs.VesselsHeld.{Sent}
-use Rattle.report_parts.specs.OutcomeRows.{count_rows}
-use Rattle.report_parts.specs.PlanRows.{manoeuvre_rows}
-use Rattle.report_parts.specs.VesselRows.{near_rows}
+use Rattle.audit_report.specs.OutcomeRows.{count_rows}
+use Rattle.audit_report.specs.PlanRows.{manoeuvre_rows}
+use Rattle.audit_report.specs.VesselRows.{near_rows}
 
 -- ---- own ship
 

@@ -2,8 +2,8 @@
 use Rattle.std.specs.Prelude.{ℕ, List, ◌++◌}
 use Rattle.log_lines.specs.JudgedLines.{judged_lines}
 use Rattle.log_lines.specs.LogLines.{lines_of}
-use Rattle.report_parts.specs.OutcomeRows.{count_rows}
-use Rattle.report_parts.specs.PointRows.{point_rows}
+use Rattle.audit_report.specs.OutcomeRows.{count_rows}
+use Rattle.audit_report.specs.PointRows.{point_rows}
 use Rattle.scenario_values.specs.declared.values.Scenario.{Scenario}
 
 -- the report on a log

@@ -8,9 +8,9 @@ use Rattle.scenario_values.specs.declared.values.Scenario.{Scenario}
 use Rattle.settling.specs.DecidedAlarms.{AreDecidedAlarms}
 use Rattle.settling.specs.DecidedRows.{AreDecided}
 use Rattle.tasks.specs.declared.mode.Mode.{Mode}
-use Rattle.report_parts.specs.AlarmRows.{alarm_rows}
-use Rattle.report_parts.specs.PointRows.{point_rows}
-use Rattle.report_parts.specs.StretchRows.{stretch_rows}
+use Rattle.audit_report.specs.AlarmRows.{alarm_rows}
+use Rattle.audit_report.specs.PointRows.{point_rows}
+use Rattle.audit_report.specs.StretchRows.{stretch_rows}
 use Rattle.tasks.specs.Modes.{Focus, alarms, each_line, each_tick, early_focus, stretches}
 
 -- The text that lines decide, whatever follows them: of lines by themselves the rows of their accepted reports, of ticks those of the stretches that

@@ -6,8 +6,8 @@ use Rattle.log_lines.specs.JudgedLines.{judged_lines}
 use Rattle.log_lines.specs.LogLines.{lines_of}
 use Rattle.scenario_values.specs.declared.values.Scenario.{Scenario}
 use Rattle.sessions.specs.AuditReport.{sightings_of}
-use Rattle.report_parts.specs.AlarmRows.{alarm_rows}
-use Rattle.report_parts.specs.OutcomeRows.{count_rows}
+use Rattle.audit_report.specs.AlarmRows.{alarm_rows}
+use Rattle.audit_report.specs.OutcomeRows.{count_rows}
 use Rattle.settling.specs.ScenarioAudit.{audit_numbers}
 
 -- The text is the report on a log.

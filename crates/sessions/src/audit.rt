@@ -6,7 +6,7 @@ ghost use Rattle.log_lines.specs.LogLines.{lines_of};
 ghost use Rattle.log_lines.specs.Standing.{StandsFor as JudgeStandsFor, keeping_of};
 ghost use Rattle.scenario_values.specs.ValueRanges.{IsInRange};
 ghost use Rattle.sessions.specs.AuditReport.{IsAuditReport, rows_behind};
-ghost use Rattle.report_parts.specs.StretchRows.{AreOfRules, stretch_rows};
+ghost use Rattle.audit_report.specs.StretchRows.{AreOfRules, stretch_rows};
 ghost use Rattle.settled_ticks.specs.Standing.{RemembersTicks};
 ghost use Rattle.settling.specs.Standing.{audited_ticks};
 ghost use Rattle.sessions.specs.Endings.{IsAnswerOf};
@@ -17,11 +17,10 @@ ghost use Rattle.tracks.specs.declared.keeping.Keeping.TheVariants.{Latest};
 
 use crate::ending::Ending;
 use crate::session_fault::SessionFault;
-use audit_report::ReportText;
+use audit_report::{ReportText, write_counts, write_stretches, write_totals, write_vessels};
 use auditor::AuditEnd;
 use log_lines::Judge;
 use out_of_memory::Memory;
-use report_parts::{write_counts, write_stretches, write_totals, write_vessels};
 use scenario_values::Scenario;
 use settling::SettledAudit;
 

@@ -14,11 +14,10 @@ ghost use Rattle.tasks.specs.declared.mode.Mode.TheVariants.{Drill};
 
 use crate::ending::Ending;
 use crate::session_fault::SessionFault;
-use audit_report::ReportText;
+use audit_report::{ReportText, write_counts, write_totals};
 use auditor::AuditEnd;
 use log_lines::Judge;
 use out_of_memory::Memory;
-use report_parts::{write_counts, write_totals};
 use scenario_values::Scenario;
 use settling::SettledAudit;
 use std::alloc::Global;

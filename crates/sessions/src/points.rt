@@ -4,15 +4,14 @@ ghost use Rattle.audit_report.specs.ReportTexts.{HasText};
 ghost use Rattle.log_lines.specs.JudgedLines.{judged_lines};
 ghost use Rattle.log_lines.specs.LogLines.{lines_of};
 ghost use Rattle.log_lines.specs.Standing.{StandsFor as JudgeStandsFor};
-ghost use Rattle.report_parts.specs.OutcomeRows.{count_rows};
+ghost use Rattle.audit_report.specs.OutcomeRows.{count_rows};
 ghost use Rattle.scenario_values.specs.declared.values.Scenario.{Scenario};
 ghost use Rattle.sessions.specs.declared.session_fault.SessionFault.TheVariants as fault;
 
 use crate::ending::Ending;
 use crate::session_fault::SessionFault;
-use audit_report::ReportText;
+use audit_report::{ReportText, write_counts};
 use log_lines::Judge;
-use report_parts::write_counts;
 
 /// Returns the rest of the report after the rows of the last lines, which are in the text.
 pub(crate) fn end_points(mut text: ReportText, judge: &Judge) -> Result<Ending, SessionFault>

@@ -10,7 +10,7 @@ ghost use Rattle.std.specs.List.{All};
 use out_of_memory::Memory;
 use plan_situations::Situation;
 use refutation_search::explain;
-use refutations::{WhyEntry, entry_bytes};
+use refutations::{EntryRows, WhyEntry};
 use std::alloc::Global;
 
 /// Appends the rows of entries to the bytes of a report.
@@ -24,10 +24,12 @@ fn add_entries(
     ensures { OnOk result
         (bytes.new.items ≡ bytes.old.items ++ flat_map (entry_text situation.now) entries.now) }
 {
+    let mut rows = EntryRows::new(alloc);
     for entry in entries {
-        let row = entry_bytes(alloc, situation, entry)?;
-        bytes.extend_from_slice(row.as_slice())?;
+        rows.write(alloc, situation, entry)?;
     }
+    let text = rows.into_bytes()?;
+    bytes.extend_from_slice(text.as_slice())?;
     Ok(())
 }
 

@@ -5,7 +5,7 @@ ghost use Rattle.early_monitor.specs.declared.alarm.Alarm.{Alarm};
 ghost use Rattle.log_lines.specs.Standing.{keeping_of};
 ghost use Rattle.scenario_values.specs.ValueRanges.{IsInRange};
 ghost use Rattle.sessions.specs.WatchReport.{IsWatchReport};
-ghost use Rattle.report_parts.specs.AlarmRows.{alarm_rows};
+ghost use Rattle.audit_report.specs.AlarmRows.{alarm_rows};
 ghost use Rattle.settled_ticks.specs.Standing.{RemembersTicks};
 ghost use Rattle.settling.specs.WatchStanding.{watched_ticks};
 ghost use Rattle.sessions.specs.Endings.{IsAnswerOf};
@@ -15,9 +15,8 @@ ghost use Rattle.tasks.specs.declared.mode.Mode.TheVariants.{Watch};
 
 use crate::ending::Ending;
 use crate::session_fault::SessionFault;
-use audit_report::ReportText;
+use audit_report::{ReportText, write_alarms, write_counts};
 use log_lines::Judge;
-use report_parts::{write_alarms, write_counts};
 use scenario_values::Scenario;
 use settling::SettledWatch;
 

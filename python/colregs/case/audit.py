@@ -8,7 +8,7 @@ import concurrent.futures
 import json
 import os
 import tempfile
-from collections.abc import Iterable
+from collections.abc import Iterable, Iterator
 from dataclasses import dataclass, field
 from typing import Any
 
@@ -21,6 +21,7 @@ from colregs.run.limits import STATUS, next_step
 from colregs.run.program import Run, window_options
 from colregs.shares import join, plans, runs
 from colregs.shares.jobs import Job, Kept, job_of
+from colregs.words import count
 
 JOBS, SCENARIO = "shares.jobs", "shares.toml"       # the files of a case that was audited by shares
 MOST_PAIRS, MOST_VESSELS = 4096, 4000               # ordered pairs of a run; vessels of a tile, for a run takes 4096
@@ -58,6 +59,18 @@ class Audited:
     left_out: int = 0
     marked: int = 0
     doubts: list[str] = field(default_factory=list)
+
+    def words(self) -> Iterator[str]:
+        """Yields what was audited by shares, and what was left out because vessels lie still."""
+        if self.left_out:
+            yield (f"Left out: {count(self.left_out, 'pair')} of the {count(self.still, 'vessel')} that never make "
+                   "half a knot in the window. --all audits them too.")
+        if self.shares:
+            yield (f"The audit was made by {count(self.shares, 'run')} over shares of the pairs, and joined to one "
+                   f"report ({JOBS}); it has no totals of positions.")
+        if self.marked:
+            yield (f"{count(self.marked, 'row')} of the report may differ from those of one run, because no window "
+                   "has them whole: they are marked `cut` or `doubt` in report.csv.")
 
 
 @dataclass
@@ -138,7 +151,9 @@ def write(path: str, text: str) -> None:
 def planned(place: Place, case: Case, subjects: list[int] | None, near: set[pairs.Pair]) -> Iterable[dict[str, Any]]:
     """Yields the shares: windows if there are too many ticks, tiles if there are too many vessels, and groups of
     subjects if there are too many pairs."""
-    for told in windows(place, case):
+    with tempfile.TemporaryDirectory(dir=place.folder, prefix=".index-") as index:
+        every = windows(place, case, index)
+    for told in every:
         told["files"], told["scenario"] = [place.log], SCENARIO
         told.pop("subjects", None)
         of = set(told["vessels"]) if told.get("vessels") is not None else set(case.tracks)
@@ -150,16 +165,17 @@ def planned(place: Place, case: Case, subjects: list[int] | None, near: set[pair
             yield {**told, "subjects": group}
 
 
-def windows(place: Place, case: Case) -> list[dict[str, Any]]:
-    """Returns the windows of the whole, each perhaps in tiles. The plan reads points, so its scenario is that of the
-    case, without the many subjects."""
+def windows(place: Place, case: Case, index: str) -> list[dict[str, Any]]:
+    """Returns the windows of the whole, each perhaps in tiles; the folder `index` stores what was read of the log. The
+    plan reads points, so its scenario is that of the case, without the many subjects."""
     log, scenario = [place.path(place.log)], Scenario(place.path(place.scenario))
     if len(case.tracks) <= MOST_VESSELS:
-        return list(plans.plan(log, plans.Wanted(case.start, case.steps), scenario, None))
-    for count in TILES:
+        return list(plans.plan(log, plans.Wanted(case.start, case.steps, index=index), scenario, None))
+    for across in TILES:
         found = list(
-            plans.plan(log, plans.Wanted(case.start, case.steps, group=MOST_SUBJECTS, tiles=(count, count)), scenario,
-                       place.program))
+            plans.plan(
+                log, plans.Wanted(case.start, case.steps, group=MOST_SUBJECTS, tiles=(across, across), index=index),
+                scenario, place.program))
         tiles = {json.dumps([told["start"], told["tile"]]): told for told in found}
         if max(len(told["vessels"]) for told in tiles.values()) <= MOST_VESSELS:
             return list(tiles.values())

@@ -9,17 +9,19 @@ import io
 import os
 import re
 import tempfile
-from collections.abc import Sequence
+from collections.abc import Iterator, Sequence
 from dataclasses import dataclass, replace
 from typing import Any
 
 from colregs.case import audit
+from colregs.case.folder import SWEEP
 from colregs.case.progress import Bar
 from colregs.errors import Fault
 from colregs.model import keys
 from colregs.model.reports import Case
 from colregs.model.rows import Verdict, row_of
 from colregs.model.scenario import Scenario, values_of
+from colregs.words import count
 
 TABLES = ("detect", "act", "rules")             # a number elsewhere changes what is read
 SPEC = re.compile(r"([a-z0-9_.]+)=(?:(-?\d+)\.\.(-?\d+):(\d+)|(-?\d+(?:,-?\d+)*))")
@@ -33,6 +35,13 @@ class Sweep:
 
     key: str
     values: tuple[int, ...]
+
+    def words(self, lines: Sequence["Line"]) -> Iterator[str]:
+        """Yields how many verdicts depend on the number."""
+        changing, every = sum(line.changes for line in lines), count(len(lines), "verdict")
+        yield (f"With {self.key} from {self.values[0]} to {self.values[-1]}, {changing:,} of {every} "
+               f"{'depends' if changing == 1 else 'depend'} on the number ({SWEEP}, and the page's table of the "
+               "sweep).")
 
 
 @dataclass(frozen=True)

@@ -32,7 +32,7 @@ def add_program(parser: argparse.ArgumentParser) -> None:
     """Adds --program."""
     parser.add_argument(
         "--program", metavar="PROGRAM",
-        help="the built program (default: COLREGS_PROGRAM, or that of this clone, beside the tool, or on PATH)")
+        help="the program to run (default: COLREGS_PROGRAM, or that of this clone, beside the tool, or on PATH)")
 
 
 def add_window(parser: argparse.ArgumentParser, why: str) -> None:

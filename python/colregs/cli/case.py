@@ -14,8 +14,9 @@ from collections.abc import Sequence
 from typing import NoReturn
 
 from colregs.cli.arguments import add_program, add_reading, add_window, at_least, parser_of, reading_of
+from colregs.case.folder import PAGE
 from colregs.errors import DONE, end
-from colregs.page import folder
+from colregs.page import making
 from colregs.run.program import found
 
 
@@ -62,11 +63,11 @@ def main(arguments: Sequence[str] | None = None) -> int:
     given = words.parse_args(arguments)
     if (given.begin or given.end) and (given.start is not None or given.ticks is not None):
         words.error("--from and --to go without --start and --ticks")
-    summary, doubts = folder.make(given, reading_of(given), found(given.program))
+    summary, doubts = making.make(given, reading_of(given), found(given.program))
     print("\n".join(summary))
     if doubts:
         print("\nWhat is doubtful:\n" + "\n".join("- " + line for line in doubts))
-    print(f"\n{given.out.rstrip('/')}/{folder.PAGE} is the page to open.")
+    print(f"\n{given.out.rstrip('/')}/{PAGE} is the page to open.")
     return DONE
 
 

@@ -1,8 +1,8 @@
-"""Says what looks amiss with a scenario, a log and a report.
+"""Finds mistakes in a scenario, a log and a report that the program accepts silently.
 
-Each finding is a line with its name and words; docs/SOURCES.md lists the names.
+Each finding is one line, which begins with its name; docs/SOURCES.md describes them.
 
-Exit status: 1 if something looks amiss, 0 if nothing does, 2 if the files cannot be examined.
+Exit status: 0 if it finds nothing, 1 if it finds something, 2 if the files cannot be examined.
 """
 import argparse
 from collections.abc import Sequence

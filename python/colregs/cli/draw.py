@@ -1,9 +1,9 @@
 """Draws an audit, or a plan, as pictures in SVG.
 
-    draw SCENARIO OUT --log LOG [--program PROGRAM] [--plan]
-    draw SCENARIO OUT --points POINTS --audit AUDIT
-    draw SCENARIO OUT --points POINTS --plan PLAN
-    draw CASE OUT
+    colregs-draw SCENARIO OUT --log LOG [--program PROGRAM] [--plan]
+    colregs-draw SCENARIO OUT --points POINTS --audit AUDIT
+    colregs-draw SCENARIO OUT --points POINTS --plan PLAN
+    colregs-draw CASE OUT
 
 For an audit, OUT.svg shows the tracks on the plane of the scenario: each vessel's name and a mark every few minutes,
 the moment at which two vessels that met were nearest, and, along the track of the vessel that a rule binds, the
@@ -23,12 +23,12 @@ import os
 from collections.abc import Sequence
 from typing import NoReturn
 
+from colregs.case.folder import reports_in
 from colregs.cli.arguments import add_program, add_window, parser_of
 from colregs.errors import DONE, end
 from colregs.io.files import read_text
 from colregs.model.reports import Case
 from colregs.model.rules import moment
-from colregs.page import folder
 from colregs.page.planned import Planned, planned
 from colregs.page.times import times
 from colregs.page.tracks import tracks
@@ -68,7 +68,7 @@ def parsed(arguments: Sequence[str] | None) -> argparse.Namespace:
 def reports_of(given: argparse.Namespace, mode: str) -> tuple[str, str, str]:
     """Returns the scenario, and the texts of the two reports."""
     if os.path.isdir(given.scenario):
-        return folder.reports_in(given.scenario)
+        return reports_in(given.scenario)
     if not given.log:
         return given.scenario, read_text(given.points), read_text(given.audit or given.plan)
     program, options = found(given.program), window_options(given.start, given.ticks)

@@ -3,7 +3,8 @@
 The stream is standard input, a file that grows, or what a command writes, as `socat -u UDP-RECV:10110 STDOUT` or
 `gpspipe -r` with --now, which gives bare sentences their times. Its lines are stored in DIR, one file per day, and the
 rows beside them; a restart continues from these. Windows are the scenario's except for start and ticks. A window with
-more than 4096 pairs is split by subjects. docs/TRAFFIC_SERVICE.md describes the whole.
+more than 4096 pairs is split by subjects, one with more than 4096 vessels by area. docs/TRAFFIC_SERVICE.md describes
+the whole.
 
 Exit status: 0 if the stream ended, or a signal arrived; 1 if something failed; 2 if the command line is wrong.
 """
@@ -18,13 +19,14 @@ from colregs.cli.arguments import add_program, parser_of
 from colregs.errors import Fault, end
 from colregs.model.scenario import MOST_TICKS, Scenario
 from colregs.run.program import found
+from colregs.shares.plans import overlap_needed
 from colregs.stream import rows, sources
-from colregs.stream.follow import Follow
-from colregs.stream.stretches import StretchSink
+from colregs.stream.follow import Follow, sights_of
+from colregs.stream.stretches import PATIENCE, StretchSink
 
 
 def modes(word: str) -> list[str]:
-    """Returns the modes of words as audit,watch."""
+    """Parses modes such as audit,watch."""
     names = word.split(",")
     if not set(names) <= {"audit", "watch"} or len(set(names)) < len(names):
         raise argparse.ArgumentTypeError("modes are audit, watch, or audit,watch")
@@ -62,6 +64,9 @@ def parser() -> argparse.ArgumentParser:
                        help="alarms as stretches, with names, place and marks: a line when one begins and one when it "
                             "is over; pairs at rest are counted")
     words.add_argument("--at-rest", action="store_true", help="with --stretches, write those of pairs at rest too")
+    words.add_argument("--patience", type=int, default=PATIENCE, metavar="SECONDS",
+                       help="with --stretches, how long an alarm waits for positions that come late, as on a busy "
+                            f"machine (default: {PATIENCE})")
     words.add_argument("--out", metavar="FILE", help="a file that rows are added to, instead of standard output")
     words.add_argument("--to", metavar="COMMAND", help="a command that reads the rows")
     return words
@@ -70,7 +75,7 @@ def parser() -> argparse.ArgumentParser:
 def check_windows(given: argparse.Namespace, scenario: Scenario) -> None:
     """Refuses windows that are too short or too long for a scenario."""
     overlap = -(-given.overlap // scenario.tick)
-    least = scenario.reach + 2 + -(-scenario.gap // scenario.tick)
+    least = overlap_needed(scenario) + max((sight.back for sight in sights_of(scenario).values()), default=0)
     if not (0 < given.every and least <= overlap and given.every + overlap <= MOST_TICKS and 0 < given.group):
         raise Fault(f"a window of {given.every} ticks and an overlap of {overlap}: "
                     f"the overlap is {least} ticks or more, and both together at most {MOST_TICKS}")
@@ -106,7 +111,7 @@ def main(arguments: Sequence[str] | None = None) -> int:
         raise Fault("--stretches joins the alarms of `watch`: give --modes watch, or --modes audit,watch")
     check_windows(given, scenario)
     source, sink = source_of(given), sink_of(given)
-    stretches = StretchSink(sink, scenario, given.days, given.at_rest) if given.stretches else None
+    stretches = StretchSink(sink, scenario, given.days, given.at_rest, given.patience) if given.stretches else None
     with Follow(given, scenario, found(given.program), stretches or sink, stretches) as follow:
         for number in (signal.SIGTERM, signal.SIGINT):
             signal.signal(number, lambda *_: stop.set())

@@ -1,14 +1,15 @@
 """Writes GeoJSON (RFC 7946) of the reports of a log to standard output.
 
-    geojson SCENARIO POINTS [AUDIT] > OUT.geojson
-    geojson SCENARIO --log LOG [--program PROGRAM] > OUT.geojson
-    geojson CASE > OUT.geojson
+    colregs-geojson SCENARIO POINTS [AUDIT] > OUT.geojson
+    colregs-geojson SCENARIO --log LOG [--program PROGRAM] > OUT.geojson
+    colregs-geojson CASE > OUT.geojson
 
 Each report is a point, with MMSI, name, time, speed in knots and course in degrees; each track is a line, broken where
 two reports lie more than the scenario's gap apart, with its two ends. With a report of `audit` each meeting and each
 stretch of a verdict is a line too, along the track of its subject, and the nearest place of each meeting is a point,
-with a line to the other vessel. Rows have both MMSIs and names, steps, times, and who lies still in them. Places are
-those of the log, in degrees of latitude and longitude. If a log crosses the date line, longitudes continue past 180.
+with a line to the other vessel. Rows have both MMSIs and names, steps, times, and which vessel is at rest. Positions
+are those of the log, in degrees of latitude and longitude. If a log crosses the date line, longitudes continue past
+180.
 
 Exit status: 0 if all is written, 1 if it is not, 2 if the command line is wrong.
 """
@@ -18,11 +19,11 @@ import sys
 from collections.abc import Sequence
 from typing import NoReturn
 
+from colregs.case.folder import reports_in
 from colregs.cli.arguments import add_program, add_window, parser_of
 from colregs.errors import DONE, end
 from colregs.io.files import read_text
 from colregs.model.reports import Case
-from colregs.page import folder
 from colregs.page.maps import geojson
 from colregs.run.program import found, report_of, window_options
 
@@ -41,7 +42,7 @@ def parser() -> argparse.ArgumentParser:
 def case_of(given: argparse.Namespace) -> Case:
     """Returns the case of a folder, of a run, or of reports."""
     if os.path.isdir(given.scenario):
-        return Case(*folder.reports_in(given.scenario))
+        return Case(*reports_in(given.scenario))
     if given.log:
         program, options = found(given.program), window_options(given.start, given.ticks)
         texts = [report_of(program, mode, given.scenario, given.log, options=options) for mode in ("points", "audit")]

@@ -133,7 +133,7 @@ def main(arguments: Sequence[str] | None = None) -> int:
     """Serves the page."""
     given = parser().parse_args(arguments)
     if not has_aiohttp():
-        raise Fault("aiohttp is not here: install Debian's package python3-aiohttp")
+        raise Fault("aiohttp is not installed: install Debian's package python3-aiohttp")
     scenario = Scenario(given.scenario)
     check_windows(given, scenario)
     return asyncio.run(serve(given, scenario, found(given.program), stream_of(given)))

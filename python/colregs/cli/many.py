@@ -30,6 +30,7 @@ from colregs.model.scenario import Scenario
 from colregs.run.program import found
 from colregs.shares import engines, join, plans, runs
 from colregs.shares.jobs import Job, Kept, read_job, read_jobs
+from colregs.words import count
 
 
 def write_plan(given: argparse.Namespace) -> int:
@@ -58,8 +59,8 @@ def run_jobs(given: argparse.Namespace) -> int:
         ran, faults = runs.run_all(jobs, kept, program, given.jobs)
     for words in faults:
         report("many", words)
-    report("many", f"{len(jobs)} jobs: {len(jobs) - ran - len(faults)} were kept before, {ran} ran, {len(faults)} "
-                   "failed")
+    before = len(jobs) - ran - len(faults)
+    report("many", f"{count(len(jobs), 'job')}: {before} were cached, {ran} ran, {len(faults)} failed")
     return FAILED if faults else DONE
 
 
@@ -131,20 +132,20 @@ def write_joined(given: argparse.Namespace) -> int:
 def tell(summary: join.Summary, folder: str) -> None:
     """Says what a reader of the joined rows has to know."""
     if summary.marked:
-        marks = ", ".join(f"{count} `{mark}`" for mark, count in sorted(summary.marked.items()))
+        marks = ", ".join(f"{rows} `{mark}`" for mark, rows in sorted(summary.marked.items()))
         report("many", f"{sum(summary.marked.values())} of {summary.rows} rows are marked ({marks}), of those of "
                        "vessels under way"
                f" {summary.marked_under_way} of {summary.under_way}")
     if summary.doubts:
-        report("many", f"{len(summary.doubts)} doubts: {os.path.join(folder, 'doubts.csv')} says where rows may be "
-                       "wrong or missing, and why")
+        report("many", f"{count(len(summary.doubts), 'doubt')}: {os.path.join(folder, 'doubts.csv')} says where rows "
+                       "may be wrong or missing, and why")
     if summary.moored:
-        report("many", f"{len(summary.moored)} meetings are of vessels that both lie still: "
+        report("many", f"{count(len(summary.moored), 'meeting is', 'meetings are')} of vessels that both lie still: "
                        f"{os.path.join(folder, 'moored.csv')} lists them")
 
 
 def tiles(word: str) -> tuple[int, int]:
-    """Returns columns and rows of words as 4x3."""
+    """Parses columns and rows such as 4x3."""
     sides = re.fullmatch(r"([1-9]\d?)x([1-9]\d?)", word)
     if not sides:
         raise argparse.ArgumentTypeError("tiles are columns x rows, as 4x3")

@@ -1,8 +1,8 @@
-"""Plans again and again for own ship over a stream of sentences, and writes what to steer as lines of JSON.
+"""Plans for own ship at regular times over a stream of sentences, and writes what to steer as lines of JSON.
 
-The stream is standard input, a file that grows, or what a command writes. Own ship's reports (AIVDO or AIVDM) are in
-it. Her choices are the scenario's, taken as offsets from the track. A stalled input, a program that fails and a refused
-scenario are states with words; the lines go on. docs/BUILDER.md describes the states, and how to tune a scenario.
+The stream is standard input, a file that grows, or the output of a command, and includes own ship's reports (AIVDO or
+AIVDM). Her choices are the scenario's, taken as offsets from the track. If the input stalls, the program fails or
+refuses the scenario, the lines continue and say so. docs/BUILDER.md describes the states, and how to tune a scenario.
 
 Exit status: 0 if the stream ended, or a signal arrived; 1 if something failed; 2 if the command line is wrong.
 """
@@ -29,7 +29,7 @@ from colregs.stream import sources
 
 
 def offsets(word: str) -> tuple[list[int], list[int] | None]:
-    """Returns the offsets of words as 0,30,-30/0,-6: degrees, and perhaps knots; in tenths."""
+    """Parses offsets such as 0,30,-30/0,-6: degrees, and perhaps knots; returns tenths."""
     courses, slash, speeds = word.partition("/")
     try:
         found_courses = [round(float(part) * 10) for part in courses.split(",")]

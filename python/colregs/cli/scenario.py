@@ -1,8 +1,8 @@
 """Writes a scenario to start from, for a log with tag blocks, to standard output.
 
-It guesses the window, the tick and the reference from the points that the program reads in the log, and says on
-standard error how. The other numbers are those of the worked encounters, whatever the log. They are choices, and those
-of a real case are its investigator's. Without LOG it reads standard input.
+It guesses the window, the tick and the reference from the positions in the log, and says on standard error how. The
+other numbers are those of the worked encounters, whatever the log: in a real case its investigator has to choose them.
+Without LOG it reads standard input.
 
 Exit status: 0 if the scenario is written, 1 if it is not, 2 if the command line is wrong.
 """

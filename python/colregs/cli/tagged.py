@@ -1,10 +1,10 @@
-"""Makes one log of any logs: sentences with tag blocks that have their times, sorted by time, on standard output.
+"""Turns any logs into one log of sentences with tag blocks, sorted by time, on standard output.
 
-docs/SOURCES.md lists the logs and the forms of time that are read. Without LOG standard input is read. What was read,
-and what was not, is reported on standard error. With --now each sentence of standard input gets the time at which it
-arrives, and is written at once:
+Without LOG it reads standard input. docs/SOURCES.md lists the kinds of logs and the forms of time that it reads. It
+reports on standard error how it read each line, and which lines it could not read. With --now each sentence of standard
+input gets the time at which it arrives, and is written at once:
 
-    tagged --now < LOG >> TAGGED
+    colregs-tagged --now < LOG >> TAGGED
 
 Exit status: 0 if sentences with times are written, 1 if no sentence is found or a log cannot be read, 2 if the command
 line is wrong.

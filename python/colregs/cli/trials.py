@@ -1,6 +1,6 @@
-"""Makes sea trials: own ship follows her pilot in simulated meetings, and the program audits each whole run.
+"""Makes sea trials: own ship follows her pilot in simulated encounters, and the program audits each whole run.
 
-A run is defined by its seed and the options: the same ones make the same run again. The table goes to standard output
+The same seed and options make the same run again. The table goes to standard output
 as CSV; --json has every run, and --page is one file with pictures of the worst runs. docs/BUILDER.md describes the
 figures and how to tune a scenario by them.
 
@@ -33,7 +33,7 @@ FIXED = "crossing ", "geometry "      # how the kinds of fixed meetings begin
 
 
 def kinds(word: str) -> tuple[str, ...]:
-    """Returns the kinds of words as head_on,any."""
+    """Parses kinds of encounters such as head_on,any."""
     names = tuple(word.split(","))
     if not set(names) <= {*KINDS, ANY}:
         raise argparse.ArgumentTypeError(f"kinds are {', '.join(KINDS)} and {ANY}, with commas between them")
@@ -41,7 +41,7 @@ def kinds(word: str) -> tuple[str, ...]:
 
 
 def targets(word: str) -> tuple[int, int]:
-    """Returns the least and the greatest number of others of words as 1..4 or 2."""
+    """Parses the least and the greatest number of others, such as 1..4 or 2."""
     low, dots, high = word.partition("..")
     if not (low.isdecimal() and (high.isdecimal() if dots else True)):
         raise argparse.ArgumentTypeError("a number of others, or two as 1..4")
@@ -52,7 +52,7 @@ def targets(word: str) -> tuple[int, int]:
 
 
 def track(word: str) -> Track:
-    """Returns the track of words as 000,14."""
+    """Parses a track such as 000,14."""
     try:
         return track_of_words(word)
     except Fault as fault:

@@ -22,7 +22,7 @@ Packet = tuple[int, int, bytes]                                         # second
 
 
 def packets(source: IO[bytes], name: str) -> Iterator[Packet]:
-    """Yields the packets of a capture. One that is cut off ends with its last whole packet."""
+    """Yields the packets of a capture; after the last whole packet of one that is cut off, raises EOFError."""
     magic = source.read(4)
     if magic in PCAP:
         yield from pcap(source, *PCAP[magic])
@@ -34,33 +34,32 @@ def packets(source: IO[bytes], name: str) -> Iterator[Packet]:
 
 def pcap(source: IO[bytes], order: str, parts: int) -> Iterator[Packet]:
     """Yields the packets of a pcap whose magic was read."""
-    head = source.read(20)
-    if len(head) < 20:
-        return
-    link = struct.unpack(order + "I", head[16:20])[0] & 0xFFFF
-    while len(head := source.read(16)) == 16:
-        seconds, _, length, _ = struct.unpack(order + "4I", head)
-        data = source.read(length) if length <= LARGEST else b""
-        if len(data) < length:
-            return
-        yield seconds, link, data
+    link = struct.unpack(order + "I", whole(source, 20)[16:20])[0] & 0xFFFF
+    while head := source.read(16):
+        seconds, _, length, _ = struct.unpack(order + "4I", head + whole(source, 16 - len(head)))
+        yield seconds, link, whole(source, length)
+
+
+def whole(source: IO[bytes], length: int) -> bytes:
+    """Returns so many bytes; raises EOFError if they are not there, or too many for a packet."""
+    data = source.read(length) if length <= LARGEST else b""
+    if len(data) < length:
+        raise EOFError
+    return data
 
 
 def pcapng(source: IO[bytes]) -> Iterator[Packet]:
     """Yields the packets of a pcapng whose first four bytes were read."""
     kind, order = PCAPNG, "<"
     interfaces: list[tuple[int, int]] = []          # link type, and parts of a second
-    while len(kind) == 4:
-        head = source.read(4)
+    while kind:
+        head = whole(source, 4)
         if kind == PCAPNG:
-            start = source.read(4)
+            start = whole(source, 4)
             order = ">" if start == BIG else "<"
             interfaces = []
-        length = struct.unpack(order + "I", head)[0] if len(head) == 4 else 0
-        done = 12 if kind == PCAPNG else 8
-        body = source.read(length - done) if 12 <= length <= LARGEST else b""
-        if len(body) < length - done or not body:
-            return
+        length, done = struct.unpack(order + "I", head)[0], 12 if kind == PCAPNG else 8
+        body = whole(source, length - done if length > done else LARGEST + 1)
         number = struct.unpack(order + "I", kind)[0]
         if number == INTERFACE:
             interfaces.append((struct.unpack(order + "H", body[:2])[0], resolution(body[8:-4], order)))
@@ -69,6 +68,7 @@ def pcapng(source: IO[bytes]) -> Iterator[Packet]:
             if which < len(interfaces):
                 yield ((high << 32 | low) // interfaces[which][1]), interfaces[which][0], body[20:20 + size]
         kind = source.read(4)
+        kind += whole(source, 4 - len(kind)) if kind else b""
 
 
 def resolution(options: bytes, order: str) -> int:

@@ -11,9 +11,11 @@ from collections.abc import Iterator, Mapping
 from dataclasses import dataclass
 
 from colregs.io.sentences import block
+from colregs.io.tag_blocks import stamp
 
 LINE = re.compile(rb"\\c:(\d{10}),([^*\\]*)\*..\\(!..VD[MO],1,1,[^,]*,[^,]*,([^,]+),[^\n]*)")
 SOURCE = re.compile(rb"(?:^|,)s:([^,*\\]+)")
+LONGEST = 1 << 20               # bytes of a line
 # s between the two times of a message, messages that both heard, and lines that are compared
 WINDOW, LEAST, COUNTED = 600, 20, 400000
 
@@ -64,6 +66,15 @@ def ahead(log: str) -> list[Ahead]:
         if abs(seconds) > 1 and like >= LEAST and 2 * like > sum(differences.values()):
             found.append(Ahead(name, main, seconds, like))
     return found
+
+
+def ends(log: str) -> tuple[int | None, int | None]:
+    """Returns the first and last time of a sorted log."""
+    with open(log, "rb") as lines:
+        first = lines.readline()
+        lines.seek(max(0, os.path.getsize(log) - LONGEST))
+        last = lines.read().splitlines()[-1]
+    return stamp(first), stamp(last)
 
 
 def words(found: Ahead) -> str:

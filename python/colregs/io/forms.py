@@ -48,23 +48,27 @@ TWELVE = [
          r"(?P<day>\d{1,2})[- ]" + MONTH + r"[- ](?P<year>\d{4})[ _,;\t]+" + HALF),
 ]
 DAY_FIRST = [
-    form("date with the day first and time of twelve hours", r"(?P<day>\d\d?)([/-])(?P<month>\d\d?)\2(?P<year>\d{4})[T "
-                                                             r",;_\t]+" + HALF),
-    form("date with the day first", r"(?P<day>\d\d?)([/-])(?P<month>\d\d?)\2(?P<year>\d{4})[T ,;_\t]+" + CLOCK + ZONE),
+    form("date with the day first and time of twelve hours",
+         r"(?P<day>\d\d?)([/-])(?P<month>\d\d?)\2(?P<year>\d{4}|\d\d)[T ,;_\t]+" + HALF),
+    form("date with the day first",
+         r"(?P<day>\d\d?)([/-])(?P<month>\d\d?)\2(?P<year>\d{4}|\d\d)[T ,;_\t]+" + CLOCK + ZONE),
 ]
 WITHOUT_YEAR = form("date of syslog, with the year of --date", MONTH + r" +(?P<day>\d{1,2}) " + CLOCK)
 OF_DAY = [form("time of day of twelve hours, with --date", HALF), form("time of day, with --date", CLOCK + ZONE)]
-HALF_DAY = 43200
+HALF_DAY, HALF_YEAR = 43200, 183 * 86400        # s
 DIGIT = re.compile(rb"\d")
 NAMED = re.compile(rb" ?(?:%s|[AaPp]\.[Mm]\.?)(?!\w)" % LOCAL.replace(" ", "|").encode())
 PER_SECOND = {"seconds": 1, "milliseconds": 10 ** 3, "microseconds": 10 ** 6, "nanoseconds": 10 ** 9}
+UNSURE_DATES = [
+    form("a date whose day and month may be exchanged", r"\d\d?([/-])\d\d?\1(?:\d{4}|\d\d)[T ,;_\t]*\d\d?:\d\d"),
+    form("a date that is none", r"\d{4}[-/.]\d\d[-/.]\d\d(?:T|[ _,;\t]+)\d\d:\d\d:\d\d\S*"),
+    form("a date and time without seconds", r"\d{4}[-/.]\d\d[-/.]\d\d(?:T|[ _,;\t]+)\d\d:\d\d"),
+]
 UNSURE = [
     form("a time with a zone in letters, or of twelve hours", rf"\d\d?:\d\d(?::\d\d(?:[.,]\d+)?)?(?: \d{{4}})? "
                                                               rf"?(?:{'|'.join(LOCAL.split())})", 0),
     form("a ctime date with a zone in letters", MONTH + r" +\d{1,2} \d\d:\d\d:\d\d [A-Z]{3,4} \d{4}", 0),
-    form("a date whose day and month may be exchanged", r"\d\d?[/-]\d\d?[/-]\d{4}[T ,;_\t]*\d\d?:\d\d"),
-    form("a date that is none", r"\d{4}[-/.]\d\d[-/.]\d\d(?:T|[ _,;\t]+)\d\d:\d\d:\d\d\S*"),
-    form("a date and time without seconds", r"\d{4}[-/.]\d\d[-/.]\d\d(?:T|[ _,;\t]+)\d\d:\d\d"),
+    *UNSURE_DATES,
     form("a date without a year", MONTH + r" +\d{1,2} \d\d:\d\d:\d\d"),
     form("a time of day without a date", r"\d\d:\d\d(?::\d\d)?(?:[.,]\d+)?"),
     form("a date without a time of day", r"\d{4}-\d\d-\d\d"),
@@ -85,7 +89,7 @@ class Reading:
 
 
 class Unsure(Exception):
-    """A time that stands there, and is not to be read; its words say what it is."""
+    """A time that must not be guessed; the text says what it is."""
 
 
 def seconds_of(year: int, month: int, day: int, hour: int, minute: int, second: int, zone: int = 0) -> int:
@@ -126,19 +130,21 @@ def moment(name: str, found: re.Match[bytes], offset: int) -> tuple[int, str]:
     shift = offset if zone is None else zone_seconds(zone)
     named = name + (" with its offset" if zone and zone[0] in "+-" else "")
     day, hour, minute, second = int(parts["day"]), hour_of(parts), int(parts["minute"]), int(parts.get("second", 0))
-    return seconds_of(int(parts["year"]), month, day, hour, minute, second, shift), named
+    year = int(parts["year"]) + (2000 if len(parts["year"]) == 2 else 0)
+    return seconds_of(year, month, day, hour, minute, second, shift), named
 
 
 class Times:
     """Reads the times of a log's lines; the form that was read last is tried first.
 
-    With a date, times of day have it, and the next one after each midnight; dates without a year have its year. With
-    `day_first`, 3/4/2023 is in April.
+    With a date, times of day have it, and the next one after each midnight; dates without a year have its year, and the
+    next one after each new year. With `day_first`, 3/4/2023 is in April.
     """
 
     def __init__(self, offset: int = 0, date: datetime.date | None = None, day_first: bool = False) -> None:
         self.offset, self.order = offset, DATED + COUNTED + TWELVE + (DAY_FIRST if day_first else [])
         self.date, self.rollover = date, None if date is None else (date, 0)
+        self.dated: int | None = None           # the latest time whose date had no year
         self.latest: tuple[bytes | None, tuple[int, str] | None] = None, None
 
     def tried(self, text: bytes, last: bool) -> tuple[int, str] | None:
@@ -161,14 +167,12 @@ class Times:
     def without_date(self, text: bytes) -> tuple[int, str] | None:
         """Returns the time of a text that has a date without a year, or a time of day alone; None if it has none or no
         date was given."""
-        if self.date is None or self.rollover is None:
+        if self.date is None or self.rollover is None or any(pattern.search(text) for _, pattern in UNSURE_DATES):
             return None
         name, pattern = WITHOUT_YEAR
         found = pattern.search(text)
         if found:
-            month = MONTHS[found["month"][:3].decode().lower()]
-            hour, minute, second = (int(found[key]) for key in ("hour", "minute", "second"))
-            return seconds_of(self.date.year, month, int(found["day"]), hour, minute, second, self.offset), name
+            return self.of_year({key: value.decode() for key, value in found.groupdict().items()}, self.date.year), name
         for name, pattern in OF_DAY:
             found = pattern.search(text)
             if found:
@@ -178,13 +182,27 @@ class Times:
                      if value is not None}, self.rollover), name
         return None
 
+    def of_year(self, parts: dict[str, str], year: int) -> int:
+        """Returns the time of a date without a year: in the year that puts it nearest to the one before, if there is
+        one."""
+        month = MONTHS[parts["month"][:3].lower()]
+        rest = [int(parts[key]) for key in ("day", "hour", "minute", "second")]
+        at = seconds_of(year, month, rest[0], rest[1], rest[2], rest[3], self.offset)
+        while self.dated is not None and at < self.dated - HALF_YEAR:
+            year += 1
+            at = seconds_of(year, month, rest[0], rest[1], rest[2], rest[3], self.offset)
+        self.dated = at
+        return at
+
     def of_day(self, parts: dict[str, str], rollover: Rollover) -> int:
-        """Returns the time of a time of day: on the date of the one before, or on the next one if it is more than half
-        a day earlier."""
+        """Returns the time of a time of day: on the date that puts it within half a day of the one before, and never
+        before the date that was given."""
         date, before = rollover
         second = hour_of(parts) * 3600 + int(parts["minute"]) * 60 + int(parts.get("second", 0))
         if second < before - HALF_DAY:
             date += datetime.timedelta(1)
+        elif second > before + HALF_DAY and date != self.date:
+            date -= datetime.timedelta(1)
         self.rollover = date, second
         shift = zone_seconds(parts["zone"]) if "zone" in parts else self.offset
         return seconds_of(date.year, date.month, date.day, 0, 0, 0, shift) + second

@@ -1,8 +1,8 @@
 """Logs whose lines are JSON: AIS-catcher, gpsd (`gpspipe -w`), SignalK's deltas, and others that hold a sentence and a
 time.
 
-An object that holds sentences gives them as they are. One that holds a ship's values alone becomes a position report,
-message 18 of class B and else message 1, and message 24.
+Sentences in an object are taken as they are. An object with only a ship's values becomes a position report, message 18
+for class B and otherwise message 1, and message 24.
 """
 import json
 import math
@@ -23,8 +23,8 @@ HELD = re.compile(r"![A-Z0-9]{2}VD[MO],")
 
 
 class Held:
-    """What an object holds: a time or nothing, sentences as they are, or sentences made; or the name of what it is,
-    where it holds neither."""
+    """What an object holds: a time or nothing, sentences as they are, or sentences made; or the name of what it is
+    if it holds neither."""
 
     def __init__(self, form: str, time: int | None = None, raw: Sequence[bytes] = (), made: Sequence[bytes] = (),
                  fix: Report | None = None, aside: bool = False) -> None:
@@ -97,6 +97,10 @@ class Objects:
                 return self.aisstream(held)
             if "MMSI" in held and "LATITUDE" in held:
                 return self.hub(held)
+            if "ERROR" in held and "FORMAT" in held:
+                if held["ERROR"] is False:
+                    return Held("AISHub's answer", aside=True)
+                return Held(f"AISHub's error: {held.get('ERROR_MESSAGE', '')}")
         except (ValueError, TypeError, KeyError, AttributeError, OverflowError, Unsure, RowFault):
             return Held("JSON with a field that is not what it should be")
         return Held("JSON of gpsd that is no report" if "class" in held else "JSON without a sentence", aside="class"

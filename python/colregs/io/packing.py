@@ -1,7 +1,7 @@
-"""Opens a log as it was given, packed or not, in bytes or in UTF-16, and gives its lines one by one.
+"""Opens a log, compressed or not, in bytes or in UTF-16, and yields its lines.
 
-A file that is not there, is damaged or is cut off ends in a Fault with words for its reader, and never in anything
-else. Python unpacks gzip, xz, bzip2 and zip by itself; for zstd the command `zstd` is needed (tools/PACKAGES).
+A file that does not exist, is damaged or is cut off raises a Fault, and nothing else. Python decompresses gzip, xz,
+bzip2 and zip by itself; zstd needs the command `zstd` (tools/PACKAGES).
 """
 import bz2
 import contextlib
@@ -26,6 +26,7 @@ LONGEST = 1 << 20          # bytes: a longer line is no sentence and no row
 MAGIC = ((b"\x1f\x8b", "gzip"), (b"\xfd7zXZ\x00", "xz"), (b"\x28\xb5\x2f\xfd", "zstd"), (b"BZh", "bzip2"),
          (b"PK\x03\x04", "zip"))
 CAPTURES = (b"\xd4\xc3\xb2\xa1", b"\xa1\xb2\xc3\xd4", b"\x4d\x3c\xb2\xa1", b"\xa1\xb2\x3c\x4d", b"\x0a\x0d\x0d\x0a")
+CAPTURE = "a capture"
 MARKS = ((b"\xff\xfe", "utf-16-le"), (b"\xfe\xff", "utf-16-be"))
 DAMAGE = (EOFError, zlib.error, lzma.LZMAError, zipfile.BadZipFile, gzip.BadGzipFile, RuntimeError, NotImplementedError)
 TOO_LONG = b"\xff too long"       # stands for such a line; no line of a log begins so
@@ -36,6 +37,10 @@ class Part:
 
     def __init__(self, name: str, packed: str) -> None:
         self.name, self.packed, self.encoding, self.lines, self.is_cut = name, packed, "bytes", 0, False
+
+    def is_read_as_far_as_it_goes(self) -> bool:
+        """Returns whether the lines before a damaged place are read: of a capture, and of gzip if there are some."""
+        return CAPTURE in self.packed or self.packed == "gzip" and self.lines > 0
 
 
 def packing(path: str) -> str:
@@ -48,7 +53,7 @@ def packing(path: str) -> str:
     except OSError as error:
         raise Fault(f"{path} cannot be read: {reason(error)}") from None
     if head.startswith(CAPTURES):
-        return "a capture"
+        return CAPTURE
     return next((name for magic, name in MAGIC if head.startswith(magic)), "plain")
 
 
@@ -56,7 +61,7 @@ def packing(path: str) -> str:
 def zstd(path: str) -> Iterator[IO[bytes]]:
     """Opens a file that is packed by zstd."""
     if not shutil.which("zstd"):
-        raise Fault(f"{path} is packed by zstd, and the command zstd is not here (Debian package zstd)")
+        raise Fault(f"{path} is compressed by zstd: install the command zstd (Debian package zstd)")
     with subprocess.Popen(["zstd", "-dcq", "--", path], stdout=subprocess.PIPE, stderr=subprocess.DEVNULL) as child:
         assert child.stdout is not None
         try:
@@ -65,15 +70,6 @@ def zstd(path: str) -> Iterator[IO[bytes]]:
                 raise EOFError
         finally:
             child.kill()
-
-
-@contextlib.contextmanager
-def captured(path: str) -> Iterator[IO[bytes]]:
-    """Opens a capture of a network as the lines of its UDP payloads with their times."""
-    with open(path, "rb") as source, tempfile.TemporaryFile() as out:
-        out.writelines(captures.lines(source, os.path.basename(path)))
-        out.seek(0)
-        yield out
 
 
 def members(path: str, packed: str) -> Iterator[tuple[str, Callable[[], Any]]]:
@@ -86,7 +82,7 @@ def members(path: str, packed: str) -> Iterator[tuple[str, Callable[[], Any]]]:
         return
     openers: dict[str, Callable[[], Any]] = {
         "plain": lambda: open(path, "rb"), "gzip": lambda: gzip.open(path, "rb"), "xz": lambda: lzma.open(path, "rb"),
-        "bzip2": lambda: bz2.open(path, "rb"), "zstd": lambda: zstd(path), "a capture": lambda: captured(path)}
+        "bzip2": lambda: bz2.open(path, "rb"), "zstd": lambda: zstd(path), CAPTURE: lambda: open(path, "rb")}
     yield os.path.basename(path), openers[packed]
 
 
@@ -133,8 +129,12 @@ def cleaned(lines: Iterable[bytes], part: Part) -> Iterator[bytes]:
 
 
 def stream_lines(stream: Any, part: Part) -> Iterator[bytes]:
-    """Yields the lines of an open log."""
+    """Yields the lines of an open log, or of the UDP payloads of a capture of a network, which may be packed too."""
     buffered = stream if hasattr(stream, "peek") else io.BufferedReader(stream)
+    if buffered.peek(4)[:4] in CAPTURES:
+        part.packed = CAPTURE if part.packed in ("plain", CAPTURE) else f"{part.packed}, as {CAPTURE}"
+        yield from cleaned(captures.lines(buffered, part.name), part)
+        return
     part.encoding = encoding(buffered.peek(4)[:4])
     wide = part.encoding.startswith("utf-16")
     yield from cleaned(wide_lines(buffered, part.encoding) if wide else raw_lines(buffered), part)
@@ -146,18 +146,18 @@ def told(path: str, packed: str) -> Iterator[None]:
     try:
         yield
     except DAMAGE:
-        raise Fault(f"{path} is packed by {packed}, and damaged or cut off") from None
+        raise Fault(f"{path} is compressed by {packed}, and damaged or cut off") from None
     except OSError as error:
         raise Fault(f"{path} cannot be read: {reason(error)}") from None
 
 
 def whole_lines(path: str, stream: Any, part: Part) -> Iterator[bytes]:
-    """Yields the lines of a part of a file; of a gzip that is cut off those that are there."""
+    """Yields the lines of a part of a file; of a gzip or a capture that is cut off those that are there."""
     with told(path, part.packed):
         try:
             yield from stream_lines(stream, part)
         except EOFError:
-            if part.packed != "gzip" or not part.lines:
+            if not part.is_read_as_far_as_it_goes():
                 raise
             part.is_cut = True
 

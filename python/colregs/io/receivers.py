@@ -13,7 +13,7 @@ PLAIN = re.compile(rb"\$([A-Z]{2}(?:RMC|ZDA|HDT),[^*$!\\]*|PGHP,1,[^*$!\\]*)\*([
 DAY, WEEKS = 86400, 1024 * 7 * 86400
 # s: between two times of the receiver farther apart than this, nobody knows the time
 LONGEST_GAP = 60
-DAMAGED = "a sentence of the receiver with a wrong sum", "RMC with too few fields"
+DAMAGED = "a sentence of the receiver with a wrong checksum", "RMC with too few fields"
 HEADING = "own ship's heading (HDT)"
 BASE_STATION = 4 << 2                    # type 4, not repeated, in the first 8 bits
 OLDEST = 852076800                       # 1 January 1997, before there was AIS: an earlier clock is not set

@@ -1,10 +1,10 @@
 """Makes one log of any logs: `gather` writes sentences with tag blocks, sorted by time, and counts each line by the
 form in which it was read.
 
-A sentence takes its time from its tag block, else from behind its sum, else from before it. A line without a time has
-that of the receiver's own clock (RMC, ZDA) or of the line before, whichever came last, and if there is neither, that of
-base stations (message 4). A line that gives nothing is counted too: `aside` where it is known and of no use here,
-`unread` with an example where it is not understood.
+A sentence takes its time from its tag block, otherwise from after its checksum, otherwise from before it. A line
+without a time has that of the receiver's own clock (RMC, ZDA) or of the line before, whichever came last, and if there
+is neither, that of base stations (message 4). A line that gives nothing is counted too: `aside` if it is known and not
+needed, `unread` with an example if it is not understood.
 """
 import collections
 import os
@@ -25,6 +25,7 @@ from colregs.io.packing import TOO_LONG, Part, parts
 from colregs.io.receivers import DAMAGED, HEADING, LONGEST_GAP, Receiver, base_time
 from colregs.io.sentences import block
 from colregs.io.tag_blocks import blocks
+from colregs.words import count
 
 SENTENCE = re.compile(rb"![A-Z0-9]{2}VD[MO],[^*!\\]*\*[0-9A-Fa-f]{2}")
 TAGGED = re.compile(rb"(\\c:(\d{10})\*[0-9A-F]{2}\\)(![A-Z0-9]{2}VD[MO],[^*!\\]*\*[0-9A-Fa-f]{2})")
@@ -32,6 +33,7 @@ LATER_PART = re.compile(rb"![A-Z0-9]{2}VD[MO],[2-9],[2-9],")
 CUT = re.compile(rb"![A-Z0-9]{2}VD[MO],")
 HEAD = re.compile(rb"\w[\w \"]*(?:[,;\t]\w[\w \"]*)+")
 PROSE = re.compile(rb"\s*(?:#|//|--)")
+SPREAD = re.compile(rb"\s*(?:[\[\]{}]+,?|\"[^\"]*\"\s*:.*)\s*")
 NMEA = re.compile(rb"[$!]([A-Z0-9]{2,6}),")
 # of two channels in a minute: more sentences were never heard between two times of a receiver
 SLOTS = 4500
@@ -55,8 +57,8 @@ class Unread:
 
 
 class Gathered:
-    """What came of the logs: counts by form, files, first and last time, how many sentences were written, and words for
-    the reader."""
+    """How the logs were read: counts by form, files, first and last time, how many sentences were written, and notes
+    for the reader."""
 
     def __init__(self) -> None:
         self.files: list[Part] = []
@@ -121,15 +123,15 @@ class Gathered:
         return sum(part.lines for part in self.files)
 
     def words(self) -> Iterator[str]:
-        """Yields what came of the logs, line by line."""
+        """Yields how the logs were read, as lines of text."""
         for part in self.files:
-            packed = "" if part.packed == "plain" else ", packed by " + part.packed
+            packed = "" if part.packed == "plain" else ", compressed by " + part.packed
             encoding = "" if part.encoding == "bytes" else ", in " + part.encoding
-            yield f"{part.name}: {part.lines} lines{packed}{encoding}"
-        for name, count in sorted(self.forms.items(), key=lambda entry: (-entry[1], entry[0])):
-            yield f"read: {count} x {name}"
-        for name, count in sorted(self.aside.items(), key=lambda entry: (-entry[1], entry[0])):
-            yield f"of no use here: {count} x {name}"
+            yield f"{part.name}: {count(part.lines, 'line')}{packed}{encoding}"
+        for name, number in sorted(self.forms.items(), key=lambda entry: (-entry[1], entry[0])):
+            yield f"read: {number} x {name}"
+        for name, number in sorted(self.aside.items(), key=lambda entry: (-entry[1], entry[0])):
+            yield f"not needed: {number} x {name}"
         for name, told in sorted(self.unread.items(), key=lambda entry: (-entry[1].count, entry[0])):
             yield f"not understood: {told.count} x {name}, as {told.example}"
         yield from self.notes
@@ -141,12 +143,18 @@ class Log:
 
     def __init__(self, out: IO[bytes], gathered: Gathered) -> None:
         self.out, self.gathered, self.latest = out, gathered, 0
+        self.of_file, self.back = 0, 0          # the latest time of the file that is read; sentences before theirs
         self.days: collections.Counter[int] = collections.Counter()
+
+    def begin_file(self) -> None:
+        """Begins another file, whose times need not follow those before."""
+        self.of_file = 0
 
     def put(self, time: int, words: bytes, stamp: bytes | None = None) -> None:
         """Writes a sentence with its time."""
         self.gathered.count(time, time < self.latest)
-        self.latest = max(time, self.latest)
+        self.back += time < self.of_file
+        self.latest, self.of_file = max(time, self.latest), max(time, self.of_file)
         self.days[time // DAY] += 1
         self.out.write(b"%s%s\n" % (stamp or block(time), words))
 
@@ -205,6 +213,7 @@ class Reader:
         self.times, self.receiver, self.reading = Times(reading.offset, reading.date,
                                                         reading.day_first), Receiver(mmsi), reading
         self.unknown: str | None = None         # what a head lacks that is none of a table of positions
+        self.skipped = 0                        # empty lines and comments
         self.track = Gpx(self.times)
         self.json, self.waiting = jsons.Objects(self.times), Waiting(self.clocked, gathered.cannot)
         self.table: tables.Table | None = None
@@ -241,6 +250,7 @@ class Reader:
             self.gathered.cannot("a line of more than a million bytes", b"")
         elif not line.strip(b" \t\0"):
             self.gathered.aside["empty line"] += 1
+            self.skipped += 1
         elif self.table and not CUT.search(line):
             self.row(self.table, line)
         elif line.lstrip()[:1] in (b"{", b"[") and self.value(line, None):
@@ -280,11 +290,14 @@ class Reader:
             self.gathered.aside[f"other sentence ({nmea[1].decode()[-3:]})"] += 1
         elif PROSE.match(line):
             self.gathered.aside["comment"] += 1
-        elif self.part.lines == 1 and (HEAD.fullmatch(line) or tables.unknown_head(line)):
-            self.unknown = tables.unknown_head(line)
+            self.skipped += 1
+        elif self.part.lines == self.skipped + 1 and (HEAD.fullmatch(line) or tables.unknown_head(line)):
+            self.unknown = tables.unknown_head(line, self.reading.columns)
             self.gathered.aside["head of a table of sentences"] += 1
         elif self.unknown and not self.gathered.sentences:
             self.gathered.cannot(f"a row of a table whose head is not known: {self.unknown}", line)
+        elif SPREAD.fullmatch(line):
+            self.gathered.cannot("a line of JSON that is spread over several lines: `jq -c .` joins it", line)
         else:
             self.gathered.cannot("a line with no sentence and no row", line)
         return None
@@ -340,13 +353,13 @@ class Reader:
                 return time, "tag block", more
         behind = self.times.read(line[end:], True)
         found = behind or self.times.read(before)
-        return found and (found[0], f"{found[1]} {'behind the sum' if behind else 'before the sentence'}", more)
+        return found and (found[0], f"{found[1]} {'after the checksum' if behind else 'before the sentence'}", more)
 
     def sentences(self, line: bytes) -> None:
         """Reads each sentence of a line; what follows the first has the time of the first."""
         found = list(SENTENCE.finditer(line))
         if not found:
-            self.gathered.cannot("a sentence without its sum, or cut off", line)
+            self.gathered.cannot("a sentence without its checksum, or cut off", line)
             return
         try:
             own = self.own_time(line, found[0].start(), found[-1].end())
@@ -442,11 +455,12 @@ def stamped(line: bytes, at: int) -> bytes:
 def told_apart(reader: Reader, name: str, gathered: Gathered) -> None:
     """Notes if the times of a log and those of its receiver lie apart, as with a clock in local time."""
     if reader.receiver.rolled:
-        gathered.notes.append(f"{name}: the receiver's date lagged {reader.receiver.rolled} times, and was set forward")
+        lags = count(reader.receiver.rolled, "time")
+        gathered.notes.append(f"{name}: the receiver's date lagged {lags}, and was set forward")
     if not reader.apart:
         return
-    apart, count = reader.apart.most_common(1)[0]
-    if apart and 2 * count > sum(reader.apart.values()):
+    apart, lines = reader.apart.most_common(1)[0]
+    if apart and 2 * lines > sum(reader.apart.values()):
         hours, minutes = divmod(abs(apart) // 60, 60)
         side, sign = ("ahead of", "+") if apart > 0 else ("behind", "-")
         gathered.notes.append(f"{name}: the lines' times are {side} the receiver's UTC by {hours}:{minutes:02d} hours; "
@@ -503,6 +517,7 @@ def compare_clocks(out: str, gathered: Gathered, is_aligned: bool) -> None:
     if found and is_aligned:
         clocks.align(out, {each.name: each.seconds for each in found})
         sort(out)
+        gathered.first, gathered.last = clocks.ends(out)
     gathered.notes += [
         f"{clocks.words(each)}{', and was set right' if is_aligned else ': --align sets it right'}" for each in found
     ]
@@ -512,10 +527,12 @@ def read_file(path: str, log: Log, untimed: IO[bytes], mmsi: int | None, reading
     """Reads each log in a file."""
     for part, lines in parts(path):
         log.gathered.files.append(part)
+        log.begin_file()
         reader = Reader(part, log, log.gathered, untimed, mmsi, reading)
         reader.read(lines)
         if part.is_cut:
-            log.gathered.notes.append(f"{part.name} is cut off: it was read as far as it goes, {part.lines:,} lines")
+            log.gathered.notes.append(f"{part.name} is cut off: it was read as far as it goes, "
+                                      f"{count(part.lines, 'line')}")
         told_apart(reader, part.name, log.gathered)
 
 
@@ -532,19 +549,22 @@ def leave_untimed(gathered: Gathered, untimed: IO[bytes], made: IO[bytes]) -> No
 def ended(out: str, gathered: Gathered, log: Log, mmsi: int | None) -> None:
     """Sorts the log if necessary, and notes what a user needs to know of the whole."""
     gathered.end(log.latest)
-    count, day = far_off(log.days) if gathered.sentences else (0, None)
-    if count:
+    off, day = far_off(log.days) if gathered.sentences else (0, None)
+    if off:
         date = time.strftime("%Y-%m-%d", time.gmtime((day or 0) * DAY))
-        gathered.notes.append(f"{count} sentences have times more than a day off nearly all others, as {date}: was a "
-                              "clock not set")
+        gathered.notes.append(f"{count(off, 'sentence has a time', 'sentences have times')} more than a day off nearly "
+                              f"all others, as {date}: was a clock not set")
     if gathered.back:
         sort(out)
-        gathered.notes.append(f"{gathered.back} sentences were out of order: the log is sorted by time")
+    if log.back:
+        gathered.notes.append(f"{count(log.back, 'sentence was', 'sentences were')} out of order: the log is sorted by "
+                              "time")
     if gathered.untimed and gathered.first is None:
         gathered.forms["sentence without a time"] = gathered.untimed
         gathered.notes.append("no line has a time: the log is left without times")
     fixes = gathered.forms["RMC"] + gathered.forms[jsons.FIX]
     if mmsi is None and fixes:
-        gathered.notes.append(f"own ship's places stand in {fixes} lines (RMC or TPV): with her MMSI they become hers")
+        gathered.notes.append(f"own ship's places stand in {count(fixes, 'line')} (RMC or TPV): with her MMSI they "
+                              "become hers")
     if not gathered.sentences and not gathered.untimed:
         gathered.notes.append("no sentence and no row was read")

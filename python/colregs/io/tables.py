@@ -40,7 +40,8 @@ UNUSED = {
 MOVING = ("latitude", "longitude", "speed", "course", "heading")
 STATIC = ("name", "kind", "call", "length", "width", "a", "b", "c", "d")
 PLACE = ("latitude", "longitude")
-TENTHS = re.compile(r"(?i)\bx ?10\b")           # in the head of a column: its numbers are ten times the unit
+TENTHS = re.compile(r"(?i)\bx ?10\b|knotsx10")  # in the head of a column: its numbers are ten times the unit
+IN_TENTHS = {"speedx10": "speed", "coursex10": "course"}        # names for --columns of columns in tenths
 GREATEST = {"speed": 102.3, "course": 360.0}    # knots and degrees, in columns whose heads say no unit
 Columns = Sequence[tuple[str, str]]             # a name of this module, and the head of its column
 NEEDED = ("mmsi", "time", "latitude", "longitude")
@@ -49,7 +50,7 @@ NO_SHIPS = ("base", "aton", "aid", "sar", "search", "man over")
 
 
 class RowFault(Exception):
-    """Why a row gives nothing; its words name the form."""
+    """Why a row gives nothing; the text names the form."""
 
 
 def plain(head: str) -> str:
@@ -69,8 +70,8 @@ def cells(line: bytes, delimiter: str) -> list[str]:
 
 
 def table_of(line: bytes, columns: Columns = ()) -> "Table | None":
-    """Returns the table whose head a line is, or None. `columns` are names of this module with the heads that a user
-    gives them."""
+    """Returns the table whose head a line is, or None. `columns` are names of this module, or of IN_TENTHS, with the
+    heads that a user gives them."""
     for delimiter in ",;\t|":
         heads = cells(line, delimiter)
         if len(heads) >= len(NEEDED):
@@ -80,31 +81,39 @@ def table_of(line: bytes, columns: Columns = ()) -> "Table | None":
     return None
 
 
-def unknown_head(line: bytes) -> str | None:
-    """Returns the heads of a line that looks like the head of a table, and what of a table of positions they lack; or
-    None if it looks like none."""
+def unknown_head(line: bytes, columns: Columns = ()) -> str | None:
+    """Returns the heads of a line that looks like the head of a table, and what of a table of positions they lack, or
+    which heads of --columns; or None if it looks like none."""
     for delimiter in ",;\t|":
         heads = [head.strip() for head in cells(line, delimiter)]
         if len(heads) >= len(NEEDED) and all(
                 re.search("[A-Za-z]", head) and not re.search(r"\d{4}", head) for head in heads):
-            lacking = [name for name in NEEDED if name not in Table(heads, delimiter).at]
-            return (f"no column is known as {', '.join(lacking)} among {', '.join(heads)}; "
-                    "name them by --columns, as --columns mmsi=ID,time=WHEN")
+            lacking = [name for name in NEEDED if name not in Table(heads, delimiter, columns).at]
+            there = {head.lower() for head in heads}
+            absent = [f"`{head}`" for _, head in columns if head.strip().lower() not in there]
+            step = f"--columns names {', '.join(absent)}, which is not there" if absent else (
+                "name them by --columns, as --columns mmsi=ID,time=WHEN")
+            return f"no column is known as {', '.join(lacking)} among {', '.join(heads)}; {step}"
     return None
 
 
 def columns_of(word: str) -> Columns:
     """Returns the columns of words as mmsi=ID,time=WHEN; raises a Fault if a name is no column."""
     found = [tuple(part.split("=", 1)) for part in word.split(",")]
-    wrong = [part[0] for part in found if len(part) != 2 or part[0] not in COLUMNS]
+    known = [*COLUMNS, *IN_TENTHS]
+    wrong = [part[0] for part in found if len(part) != 2 or part[0] not in known or not part[1].strip()]
     if wrong:
-        raise Fault(f"--columns: `{wrong[0]}` is no column; they are {', '.join(COLUMNS)}, each with a head, as "
-                    "mmsi=ID")
+        raise Fault(f"--columns: `{wrong[0]}` is no column with a head; columns are {', '.join(known)}, each with a "
+                    "head, as mmsi=ID")
+    names = [IN_TENTHS.get(part[0], part[0]) for part in found]
+    twice = next((name for name in names if names.count(name) > 1), None)
+    if twice:
+        raise Fault(f"--columns: `{twice}` has two heads")
     return tuple((part[0], part[1]) for part in found)
 
 
 class Table:
-    """A head, and what its rows come to."""
+    """A header, and the sentences that its rows become."""
 
     def __init__(self, heads: Sequence[str], delimiter: str, columns: Columns = ()) -> None:
         self.width, self.delimiter, self.ship = len(heads), delimiter, units.Ship()
@@ -117,10 +126,12 @@ class Table:
             name: found.index(word) for name, words in COLUMNS.items() for word in reversed(words) if word in found
         }
         plain_heads = [head.strip().lower() for head in heads]
-        self.at.update({name: plain_heads.index(head.strip().lower()) for name, head in columns
-                        if head.strip().lower() in plain_heads})
+        there = {name: plain_heads.index(head.strip().lower()) for name, head in columns
+                 if head.strip().lower() in plain_heads}
+        self.at.update({IN_TENTHS.get(name, name): at for name, at in there.items()})
         moving = [name for name in ("speed", "course") if name in self.at]
         self.tenths = {name for name in moving if TENTHS.search(heads[self.at[name]])}
+        self.tenths |= {IN_TENTHS[name] for name in there if name in IN_TENTHS}
         self.bare = {name for name in moving if found[self.at[name]] == name} - self.tenths
         used = set(self.at.values())
         self.unknown = [heads[k].strip() for k, word in enumerate(found) if k not in used and word not in UNUSED]
@@ -178,8 +189,8 @@ class Table:
             raise RowFault("a row with a field that is no number") from None
         for name in self.bare:
             if (values[name] or 0) > GREATEST[name]:
-                raise RowFault(f"a row whose {name} is over {GREATEST[name]:g}: if it is in tenths, its head says so "
-                               f"as `{name} x10`")
+                raise RowFault(f"a row whose {name} is over {GREATEST[name]:g}: if it is in tenths, say so by "
+                               f"--columns {name}x10=HEAD")
         if self.name == "AISHub" and counted and "." not in told["latitude"] + told["longitude"]:
             raw_units(values)
         report = (units.latitude(values["latitude"]), units.longitude(values["longitude"]), units.speed(

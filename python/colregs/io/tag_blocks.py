@@ -31,7 +31,7 @@ def blocks(text: bytes) -> tuple[int | None, bytes, bytes]:
     time, more = None, []
     for found in BLOCK.finditer(text):
         if not has_sum(found[1], found[2]):
-            raise Unsure("a tag block with a wrong sum")
+            raise Unsure("a tag block with a wrong checksum")
         for field in found[1].split(b","):
             counted = FIELD.fullmatch(field)
             if counted and time is None:

@@ -39,7 +39,10 @@ def number(text: str | float | None) -> float | None:
 
 SEXAGESIMAL = re.compile(r"([NSEWnsew])?\s*(-?\d{1,3})(?:\s*[\u00b0\u00ba]\s*|\s+)(\d{1,2}(?:[.,]\d+)?)\s*['\u2032]?\s*"
                          r"(?:(\d{1,2}(?:[.,]\d+)?)\s*[\"\u2033]?\s*)?([NSEWnsew])?")
+# with a side a hyphen may follow the degrees, or nothing, as in NMEA: 55-06.0N, 5506.0N
+SIDED = re.compile(r"()(\d{1,3})(?:-|(?=\d\d[.,]))(\d{1,2}(?:[.,]\d+)?)\s*'?\s*()([NSEWnsew])")
 DECIMAL = re.compile(r"([NSEWnsew])?\s*(-?\d+(?:[.,]\d+)?)\s*[\u00b0\u00ba]?\s*([NSEWnsew])?")
+FARTHEST = 181          # degrees, which stand for no longitude: a greater number with a point is in another unit
 
 
 def decimal(text: str) -> float | None:
@@ -51,14 +54,16 @@ def degrees(text: str) -> float | None:
     """Returns degrees of a field with degrees, or degrees and minutes, or seconds too, and perhaps N, S, E or W."""
     plain = text.strip()
     found = DECIMAL.fullmatch(plain)
-    if found:
-        value, sides = float(found[2].replace(",", ".")), (found[1], found[3])
-    elif found := SEXAGESIMAL.fullmatch(plain):
+    if found and (abs(value := float(found[2].replace(",", "."))) <= FARTHEST or found[2].lstrip("-").isdigit()):
+        sides = found[1], found[3]
+    elif found := SIDED.fullmatch(plain) or SEXAGESIMAL.fullmatch(plain):
         minutes, seconds = (float((part or "0").replace(",", ".")) for part in (found[3], found[4]))
         if minutes >= 60 or seconds >= 60:
             raise ValueError(text)
         size = abs(int(found[2])) + minutes / 60 + seconds / 3600
         value, sides = -size if found[2].startswith("-") else size, (found[1], found[5])
+    elif re.fullmatch(r"-?\d+[.,]\d+", plain):
+        raise ValueError(text)
     else:
         return number(text)
     side = (sides[0] or sides[1] or "").upper()

@@ -10,7 +10,7 @@ from dataclasses import dataclass, field
 from typing import Any
 
 from colregs.live.notes import Notes
-from colregs.stream.stretches import BOTH, OVER, AlarmStretch, Key, Stretches
+from colregs.stream.stretches import AGAIN, BOTH, OVER, AlarmStretch, Key, Stretches
 
 PRELIMINARY, SETTLED, WITHDRAWN = "preliminary", "settled", "withdrawn"
 DAY = 86400                     # s of the clock after its last step for which an item is listed
@@ -31,10 +31,13 @@ class Item:
     settled: AlarmStretch | None = None
     expected: Span | None = None            # as the last answer has it
     expected_at: int | None = None          # when an answer had it first
+    confirmed_at: int = 0                   # when an answer had it last
     settled_at: int | None = None
     withdrawn_at: int | None = None
     over: bool = False
     about: About = field(default_factory=dict)
+    looked_at: int = 0                      # when names, types, place and marks were noted
+    sent_at: int = 0
 
     @property
     def state(self) -> str:
@@ -62,7 +65,8 @@ class Item:
 class Alarms:
     """All items, in the order in which they came."""
 
-    def __init__(self, stretches: Stretches, notes: Notes, about: Callable[[Key, int, int], About]) -> None:
+    def __init__(self, stretches: Stretches, notes: Notes, about: Callable[[Key, int, int, About], About]) -> None:
+        """Takes what returns names, types, place and marks of a stretch, given what it returned before."""
         self.stretches, self.notes, self.about = stretches, notes, about
         self.items: dict[str, Item] = {}
         self.by_key: dict[Key, list[Item]] = {}
@@ -85,14 +89,18 @@ class Alarms:
                                                               lambda item: item.settled is None)
         if item is None:
             item = self.new(one.key, one.first, one.last)
-        if item.settled is None:
+        is_new = item.settled is None
+        if is_new:
             item.settled, item.settled_at, item.withdrawn_at = one, self.clock or None, None
             self.by_number[one.number] = item
             if self.clock:                      # otherwise an earlier run wrote it, and counted it
                 self.count(SETTLED, self.clock - one.first - self.stretches.tick)
         item.over = False
         item.fit()
-        self.touch(item)
+        for other in [other for other in self.by_key[item.key] if other.settled is None]:
+            if other is not item and other.touches(item.first, item.last):
+                self.join(item, other)
+        self.grow(item, is_new)
 
     def absorb(self, number: int, one: AlarmStretch) -> None:
         """Takes a stretch that turned out to be a part of another one."""
@@ -100,7 +108,16 @@ class Alarms:
         if item and one.number not in self.by_number:
             self.by_number[one.number], item.settled = item, one
         elif item:
-            self.drop(item)
+            self.join(self.by_number[one.number], item)
+
+    def join(self, item: Item, other: Item) -> None:
+        """Makes one item of two."""
+        if other.expected:
+            first, last = item.expected or other.expected
+            item.expected = min(first, other.expected[0]), max(last, other.expected[1])
+            item.expected_at = item.expected_at or other.expected_at
+        self.drop(other)
+        item.fit()
 
     def told(self, told: Mapping[str, Any]) -> None:
         """Takes a line about a stretch: its names, place and marks, and perhaps that it is over."""
@@ -123,15 +140,15 @@ class Alarms:
 
     # what is preliminary
 
-    def answer(self, spans: Mapping[Key, list[Span]], settled_to: int) -> None:
+    def answer(self, spans: Mapping[Key, list[Span]], settled_to: int, is_whole: bool = True) -> None:
         """Takes the broken stretches of an answer. Alarms before `settled_to` are settled: there the answer adds no
-        item."""
+        item. Only an answer about all pairs withdraws the items that it does not have."""
         confirmed: set[str] = set()
         for key, own in spans.items():
             for first, last in own:
                 if last > settled_to or self.matched(key, first, last, lambda item: item.id in self.lasting):
                     confirmed.add(self.expect(key, first, last).id)
-        for item in [self.items[name] for name in self.lasting if name not in confirmed]:
+        for item in [self.items[name] for name in self.lasting if is_whole and name not in confirmed]:
             self.doubt(item)
 
     def expect(self, key: Key, first: int, last: int) -> Item:
@@ -139,17 +156,24 @@ class Alarms:
         item = self.matched(key, first, last, lambda item: item.id in self.lasting or item.state == WITHDRAWN)
         if item is None:
             item = self.new(key, first, last)
+        item.confirmed_at = self.clock
         if item.expected_at is None:
             item.expected_at = self.clock
             if item.settled is None:
                 self.count(PRELIMINARY, self.clock - first - self.stretches.tick)
         if item.expected != (first, last) or item.withdrawn_at is not None:
+            is_new = item.expected is None or item.withdrawn_at is not None
             item.expected, item.withdrawn_at = (first, last), None
+            begins = item.first
             item.fit()
-            if item.settled is None:
-                item.about = self.about(key, item.first, item.last)
-            self.touch(item)
+            if item.settled is None and (item.first != begins or self.clock >= item.looked_at + AGAIN):
+                self.look(item)
+            self.grow(item, is_new)
         return item
+
+    def look(self, item: Item) -> None:
+        """Notes names, types, place and marks of an item."""
+        item.about, item.looked_at = self.about(item.key, item.first, item.last, item.about), self.clock
 
     def doubt(self, item: Item) -> None:
         """Takes that the last answer does not have an item, or no longer what goes beyond its settled steps."""
@@ -170,7 +194,8 @@ class Alarms:
         while name in self.items:
             more += 1
             name = "-".join(map(str, (*key, first, more)))
-        item = Item(name, key, first, last, about=self.about(key, first, last))
+        item = Item(name, key, first, last)
+        self.look(item)
         self.items[name] = item
         self.by_key.setdefault(key, []).append(item)
         return item
@@ -180,9 +205,17 @@ class Alarms:
         return next((item for item in reversed(self.by_key.get(key, [])) if item.touches(first, last) and fits(item)),
                     None)
 
+    def grow(self, item: Item, is_new: bool) -> None:
+        """Notes that an item has another step. Of two vessels at rest, which are many and hidden, that is sent once a
+        minute."""
+        self.lasting.add(item.id)
+        if is_new or not item.is_at_rest or self.clock >= item.sent_at + AGAIN:
+            self.touch(item)
+
     def touch(self, item: Item) -> None:
         """Notes that an item changed."""
         self.changed.add(item.id)
+        item.sent_at = self.clock
         if item.over or item.state == WITHDRAWN:
             self.lasting.discard(item.id)
         else:
@@ -208,13 +241,19 @@ class Alarms:
             self.delays[state][1] += 1
 
     def pass_time(self, clock: int) -> None:
-        """Ends the items that can no longer grow, and removes old ones."""
+        """Ends the items that can no longer grow, withdraws those that can no longer settle, and removes old ones."""
         self.clock = clock
         for item in [self.items[name] for name in self.lasting]:
-            if item.settled and self.stretches.is_over(item.settled, clock):
+            if item.settled and not self.stretches.is_open(item.settled):
                 item.over, item.expected = True, None
                 item.fit()
                 self.touch(item)
+            elif item.settled is None and clock > max(item.last, item.confirmed_at) + self.stretches.wait:
+                self.doubt(item)
+            elif item.settled is None and not item.about.get("position"):
+                self.look(item)                         # the answer was there before the points
+                if item.about.get("position"):
+                    self.touch(item)
         for item in list(self.old(clock)):
             self.drop(item)
 

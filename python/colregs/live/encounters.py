@@ -15,6 +15,7 @@ from colregs.model.rules import ENCOUNTERS
 from colregs.model.tracks import Track
 from colregs.stream.fleet import Fleet
 from colregs.stream.lately import rest_of
+from colregs.stream.stretches import AGAIN, BOTH
 
 DUTIES = {
     "overtaking": "Rule 13: keeps out of the way",
@@ -39,6 +40,11 @@ class Encounter:
     last: int
     least: float
     kinds: dict[int, str] = field(default_factory=dict)
+
+
+def name_of(pair: Pair) -> str:
+    """Returns the name of an encounter."""
+    return f"{pair[0]}-{pair[1]}"
 
 
 def lasts(fleet: Fleet, pair: Pair, end: int, tick: int) -> bool:
@@ -80,6 +86,7 @@ class Encounters:
         self.fleet, self.tick, self.ranks = fleet, tick, ranks
         self.known: dict[Pair, Encounter] = {}
         self.sent: dict[str, dict[str, Any]] = {}
+        self.looked_at = 0              # the clock when those of vessels at rest were computed last
 
     def answer(self, meetings: Iterable[Meeting], start: int) -> None:
         """Takes the meetings of an answer."""
@@ -95,7 +102,7 @@ class Encounters:
             distance = distance_now(tracks[0], tracks[1], clock, self.fleet.gap)
         kinds = [one.kinds.get(mmsi, "") for mmsi in one.pair]
         return {
-            "id": f"{one.pair[0]}-{one.pair[1]}", "pair": list(one.pair), "names": [
+            "id": name_of(one.pair), "pair": list(one.pair), "names": [
                 self.fleet.name(mmsi) for mmsi in one.pair
             ], "kinds": [ENCOUNTERS.get(kind, kind) for kind in kinds], "duties": [
                 DUTIES[kind] + (RANKS if self.ranks else "") if kind in DUTIES else "" for kind in kinds
@@ -103,6 +110,13 @@ class Encounters:
             "closest": round(near.least) if near else None, "closest_at": round(near.at) if near else None,
             "at_rest": rest_of(self.fleet, one.pair, one.first, one.last)
         }
+
+    def rested(self, one: Encounter, clock: int) -> dict[str, Any] | None:
+        """Returns what was sent last of an encounter of two vessels at rest, which are many and hidden, if that was
+        lately; otherwise None."""
+        sent = self.sent.get(name_of(one.pair))
+        is_lately = self.looked_at <= clock < self.looked_at + AGAIN
+        return sent if sent and sent["at_rest"] == BOTH and is_lately else None
 
     def settled(self, pair: Pair, rows: Iterable[dict[str, Any]], clock: int) -> dict[str, Any]:
         """Returns an encounter of settled rows of the stream as it was at a time."""
@@ -121,7 +135,9 @@ class Encounters:
 
     def changes(self, clock: int) -> tuple[list[dict[str, Any]], list[str]]:
         """Returns the encounters that are not as they were sent last, and the names of those that are over."""
-        now = {value["id"]: value for value in self.all_values(clock)}
+        now = {name_of(one.pair): self.rested(one, clock) or self.values(one, clock) for one in self.known.values()}
+        if not self.looked_at <= clock < self.looked_at + AGAIN:
+            self.looked_at = clock
         changed = [value for name, value in now.items() if self.sent.get(name) != value]
         gone = [name for name in self.sent if name not in now]
         self.sent = now

@@ -14,6 +14,7 @@ from colregs.stream.follow import Follow
 from colregs.stream.sources import Lines, Mark, Source
 
 LONGEST_WAIT = 5                # s that a line of a replayed log waits at most after the one before
+EACH = 1.0                      # s between two times that the place in a replayed log is stored
 
 
 class Paced:
@@ -23,6 +24,9 @@ class Paced:
         self.source, self.speed = source, speed
         self.due, self.latest = time.monotonic(), 0     # when the line with the latest time was due
         self.stopped = threading.Event()
+        # the place after the lines taken, until it is stored, and when one was stored last
+        self.mark: Mark = None
+        self.stored = 0.0
 
     def lines(self) -> Iterator[Lines]:
         """Yields lists of lines, each when it is due."""
@@ -57,12 +61,25 @@ class Paced:
             self.due = max(self.due, time.monotonic() - 1)          # what the stream lost in a stop is not made up for
 
     def done(self, mark: Mark) -> None:
-        """Notes that the lines up to a mark are taken."""
-        self.source.done(mark)
+        """Notes that the lines up to a mark are taken.
+
+        It is stored once a second, because a fast replay has many marks and the disk takes its time for each. A restart
+        may repeat the lines of that second, which changes no row.
+        """
+        self.mark = mark
+        if time.monotonic() >= self.stored + EACH:
+            self.store()
+
+    def store(self) -> None:
+        """Stores the mark."""
+        if self.mark is not None:
+            self.source.done(self.mark)
+            self.mark, self.stored = None, time.monotonic()
 
     def stop(self) -> None:
         """Stops what writes the stream."""
         self.stopped.set()
+        self.store()
         self.source.stop()
 
 
@@ -84,7 +101,7 @@ class LiveFollow(Follow):
     def look(self) -> None:
         """Notes where the stream is."""
         if self.clock.time is not None and self.files.out is not None:
-            vessels = tuple(sorted(self.scenario.subjects or self.heard)) if self.grouped else ()
+            vessels = tuple(sorted(self.scenario.subjects or self.heard))
             self.view = View(self.clock.time, self.files.place(), tuple(self.windows.values()), vessels)
 
     def say(self, words: str) -> None:

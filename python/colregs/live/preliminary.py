@@ -17,7 +17,7 @@ from colregs.model.scenario import MOST_SUBJECTS, Scenario
 from colregs.run.limits import STATUS, next_step
 from colregs.stream.day_files import DayFiles, Mark
 from colregs.stream.follow import Numbers
-from colregs.stream.runs import Window
+from colregs.stream.runs import Window, is_of
 
 PAUSES = 4                      # times the length of an answer until the next one
 LEAST_PAUSE = 0.2               # s
@@ -30,7 +30,7 @@ class View:
     clock: int
     place: Mark
     windows: tuple[Window, ...]
-    vessels: tuple[int, ...] = ()       # who was heard, if windows are split by subjects
+    vessels: tuple[int, ...] = ()       # who can be a subject
 
 
 def window_of(view: View, numbers: Numbers) -> Window | None:
@@ -41,6 +41,11 @@ def window_of(view: View, numbers: Numbers) -> Window | None:
 
     windows = sorted(view.windows, key=lambda window: window.start)
     return next((window for window in windows if is_own(window)), windows[0] if windows else None)
+
+
+def groups_of(vessels: tuple[int, ...], size: int) -> list[tuple[int, ...]]:
+    """Returns vessels in groups of a size."""
+    return [vessels[k:k + size] for k in range(0, len(vessels), size)]
 
 
 @dataclass
@@ -62,7 +67,8 @@ class Preliminary:
 
     def __init__(self, program: str, scenario: Scenario, numbers: Numbers, files: DayFiles) -> None:
         self.program, self.scenario, self.numbers, self.files = program, scenario, numbers, files
-        self.size = MOST_SUBJECTS                       # of a group, if windows are split
+        # subjects of a group, once a window had more pairs than a run takes
+        self.size: int | None = None
 
     def lines(self, view: View, window: Window) -> Iterator[bytes]:
         """Yields the lines of a window so far."""
@@ -75,21 +81,22 @@ class Preliminary:
         if window is None:
             return None
         begun, found = time.monotonic(), Answer(window.start, view.clock)
-        if view.vessels:
-            for k in range(0, len(view.vessels), self.size):
-                self.ask_group(view, window, view.vessels[k:k + self.size], found)
+        if self.size is None:
+            self.ask_group(view, window, None, found)
         else:
-            self.take(self.ask(view, window, None), None, found)
+            for group in groups_of(view.vessels, self.size):
+                self.ask_group(view, window, group, found)
         found.seconds = time.monotonic() - begun
         return found
 
-    def ask_group(self, view: View, window: Window, group: tuple[int, ...], found: Answer) -> None:
-        """Asks about the subjects of a group; if it has too many pairs, about either half."""
+    def ask_group(self, view: View, window: Window, group: tuple[int, ...] | None, found: Answer) -> None:
+        """Asks about the subjects of a group, or about all pairs; if they are too many, about smaller groups."""
         said = self.ask(view, window, group)
-        if said.is_crowded and len(group) > 1:
-            self.size = max(1, min(self.size, len(group) // 2))
-            for half in (group[:len(group) // 2], group[len(group) // 2:]):
-                self.ask_group(view, window, half, found)
+        vessels = view.vessels if group is None else group
+        if said.is_crowded and len(vessels) > 1:
+            self.size = max(1, min(MOST_SUBJECTS, self.size or len(vessels), len(vessels) // 2))
+            for smaller in groups_of(vessels, self.size):
+                self.ask_group(view, window, smaller, found)
         else:
             self.take(said, group, found)
 
@@ -125,12 +132,12 @@ class Preliminary:
 
     def read(self, text: str, group: tuple[int, ...] | None, found: Answer) -> None:
         """Takes the rows of a run whose subjects are in its group."""
-        tick, own = self.scenario.tick, None if group is None else set(group)
+        tick, own = self.scenario.tick, None if group is None else frozenset(group)
         for line in text.splitlines():
             if not line.startswith(("meeting,", "verdict,", "lines,")):
                 continue
             row = row_of(line.split(","))
-            if isinstance(row, (Meeting, Verdict)) and own is not None and row.subject not in own:
+            if isinstance(row, (Meeting, Verdict)) and not is_of(own, *row.pair, self.scenario.subjects):
                 continue
             if isinstance(row, Meeting):
                 found.meetings.append(row)
@@ -149,8 +156,8 @@ class Preliminary:
             now, pause = view(), LEAST_PAUSE
             if now is None or now.clock // self.scenario.tick == asked:
                 continue
-            asked = now.clock // self.scenario.tick
+            asked, begun = now.clock // self.scenario.tick, time.monotonic()
             found = self.answer(now)
             if found:
                 take(found)
-                pause = max(LEAST_PAUSE, PAUSES * found.seconds)
+                pause = max(LEAST_PAUSE, PAUSES * (time.monotonic() - begun))

@@ -24,7 +24,8 @@ WEB = os.path.join(os.path.dirname(os.path.abspath(__file__)), "web")
 TYPES = {".js": "text/javascript", ".css": "text/css", ".html": "text/html", ".svg": "image/svg+xml"}
 TICK = 0.1                      # s between two changes
 BEHIND = 50                     # changes by which a browser may be behind before it gets a snapshot instead
-SENDING = 30                    # s that a browser may take for one message
+SENDING, CLOSING = 30, 5        # s that a browser may take for one message, and to say goodbye
+IDLE = 15                       # s between two looks for connections that have made no request
 MOST_BODY, MOST_MESSAGE = 8192, 1024
 CONNECTIONS = 100               # beside those of browsers
 OPEN = ("/login", "/web/login.css", "/web/login.js")
@@ -61,7 +62,9 @@ class Server:
         self.most_browsers, self.quiet = most_browsers, quiet
         self.changes, self.news, self.snapshot = Changes(), asyncio.Event(), (-1, "")
         self.epoch = f"{time.time_ns():x}"
-        self.browsers, self.peers = 0, {"": Bucket(50, 200)}
+        # the rates of addresses; that of a proxy on a socket, which has none, is the rate of all its users
+        self.browsers, self.peers = 0, {"": Bucket(500, 2000)}
+        self.asked_once: set[asyncio.BaseProtocol] = set()      # connections that have made a request
         self.heavy, self.heavy_rate = asyncio.Semaphore(1), Bucket(1, 8)
         self.restarts: Callable[[], int] = lambda: 0
         self.fault = ""
@@ -99,12 +102,17 @@ class Server:
     @web.middleware
     async def guard(self, request: web.Request, handler: Handler) -> web.StreamResponse:
         """Refuses requests to another host, from another page, without the token, or too many of them."""
+        self.asked_once.add(request.protocol)
         refusal = self.refusal(request)
         if refusal:
             self.access.refused += 1
             raise refusal
         try:
+            if request.can_read_body:
+                await asyncio.wait_for(request.read(), SENDING)
             return await handler(request)
+        except asyncio.TimeoutError:
+            raise web.HTTPRequestTimeout(text="the rest of the request did not come\n") from None
         except Fault as fault:
             return web.json_response({"fault": str(fault)}, status=500)
 
@@ -236,8 +244,18 @@ class Server:
         finally:
             self.browsers -= 1
             listener.cancel()
-            await answer.close()
+            await self.leave(request, answer)
         return answer
+
+    @staticmethod
+    async def leave(request: web.Request, answer: web.WebSocketResponse) -> None:
+        """Ends the connection of a browser, also if it takes nothing more."""
+        try:
+            await asyncio.wait_for(answer.close(), CLOSING)
+        except (ConnectionError, asyncio.TimeoutError, RuntimeError):
+            pass
+        if request.transport:
+            request.transport.abort()
 
     def asked(self, request: web.Request) -> int | None:
         """Returns the number of the last change that a browser has, or None."""
@@ -265,6 +283,19 @@ class Server:
                 await asyncio.wait_for(answer.send_str(f'{{"kind":"changes","changes":[{",".join(texts)}]}}'), SENDING)
             else:
                 await self.news.wait()
+
+    async def end_idle(self, connections: Callable[[], list[web.RequestHandler]]) -> None:
+        """Ends connections that are there at two looks and have made no request."""
+        before: set[asyncio.BaseProtocol] = set()
+        while True:
+            await asyncio.sleep(IDLE)
+            there = connections()
+            now: set[asyncio.BaseProtocol] = set(there)
+            self.asked_once &= now
+            for one in there:
+                if one in before and one not in self.asked_once and isinstance(one.transport, asyncio.Transport):
+                    one.transport.abort()
+            before = now
 
     # lists and numbers
 
@@ -387,12 +418,16 @@ async def serve(server: Server, stop: asyncio.Event) -> None:
         for place in places
     ]
     report("live", f"listening on {', '.join(urls)}")
-    publisher = asyncio.create_task(server.publish())
-    waiter = asyncio.create_task(stop.wait())
-    await asyncio.wait([publisher, waiter], return_when=asyncio.FIRST_COMPLETED)
-    if publisher.done():
-        publisher.result()                              # a defect of ours ends the server with its traceback
-    for task in (publisher, waiter):
+    assert runner.server is not None
+    handlers: web.Server = runner.server
+    tasks = [
+        asyncio.create_task(work)
+        for work in (server.publish(), server.end_idle(lambda: handlers.connections), stop.wait())
+    ]
+    done, _ = await asyncio.wait(tasks, return_when=asyncio.FIRST_COMPLETED)
+    for task in done:
+        task.result()                                   # a defect of ours ends the server with its traceback
+    for task in tasks:
         task.cancel()
     listener.close()
     await runner.cleanup()

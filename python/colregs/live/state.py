@@ -18,13 +18,16 @@ from colregs.model.earth import Earth
 from colregs.model.rows import Meeting
 from colregs.model.scenario import Scenario
 from colregs.model.tracks import NONE
-from colregs.stream.day_files import lines_of
+from colregs.stream.borders import AFTER, BEFORE, DOUBT
+from colregs.stream.day_files import days_in, lines_of
 from colregs.stream.fleet import About, Fleet, Ship
-from colregs.stream.stretches import FORGOTTEN, Key, StretchBook, about, rows_in
+from colregs.stream.lately import rest_of
+from colregs.stream.stretches import AT_REST, BOTH, FORGOTTEN, Key, StretchBook, about, rows_in
 
+ROWS, MARKS = ("meeting", "verdict"), (BEFORE, AFTER, DOUBT)
 MOST_ROWS = 500                 # settled rows of `audit` that are listed: the latest
 EACH, MOST_PLACES = 30, 60      # s between two places of a track in a snapshot, and how many it has at most
-SECOND = 1.0                    # s of this machine's clock between two looks at the encounters
+SECOND = 1.0                    # s of this machine's clock between two looks at encounters, and at what is over
 Values = dict[str, Any]
 
 
@@ -56,7 +59,7 @@ class Rows:
         kept = {
             name: row[name]
             for name in ("kind", "subject", "other", "rule", "value", "encounter", "least", "begins", "ends",
-                         "begins_before")
+                         *MARKS)
             if name in row
         }
         value = {"id": self.number, "subject_name": names[0], "other_name": names[1], **kept}
@@ -93,13 +96,14 @@ class State:
     def load(self, days: list[str]) -> None:
         """Takes what an earlier run wrote on these days."""
         with self.lock:
-            self.first = first_time(line for day in days for line in lines_of(f"{self.folder}/{day}.log"))
+            every = (lines_of(f"{self.folder}/{day}.log") for day in days_in(self.folder))
+            self.first = first_time(line for lines in every for line in lines)
             self.book.load(days)
             for told in self.book.restored:
                 self.alarms.told(told)
             for day in days:
                 for row in rows_in(f"{self.folder}/{day}.rows"):
-                    if row["mode"] == "audit":
+                    if row["kind"] in ROWS:
                         self.rows.add(row, (str(row["subject"]), str(row["other"])))
 
     def lines(self, lines: list[bytes], clock: int) -> None:
@@ -144,7 +148,7 @@ class State:
             self.rows_taken += 1
             if row["kind"] == "alarm":
                 self.book.take(row)
-            else:
+            elif row["kind"] in ROWS:
                 self.rows.add(row, (self.fleet.name(row["subject"]), self.fleet.name(row["other"])))
 
     def close(self) -> None:
@@ -162,9 +166,13 @@ class State:
         """Takes a line about a stretch."""
         self.alarms.told(told)
 
-    def about_of(self, key: Key, first: int, last: int) -> Values:
-        """Returns names, types, place and marks of a stretch."""
-        return about(self.fleet, self.earth, self.scenario.tick, key, first, last)
+    def about_of(self, key: Key, first: int, last: int, before: Values) -> Values:
+        """Returns names, types, place and marks of a stretch. Marks take a while to compute: until it settles, it has
+        those of before, and one of two vessels at rest, which are many and hidden, has that mark alone."""
+        still = rest_of(self.fleet, key[:2], first, last)
+        marks = [AT_REST] if still == BOTH else before.get("marks") if before.get("at_rest") == still else None
+        known = None if marks is None else (still, marks)
+        return about(self.fleet, self.earth, self.scenario.tick, key, first, last, known)
 
     # the answers and the browsers
 
@@ -173,8 +181,8 @@ class State:
         with self.lock:
             self.answered = answer
             self.encounters.answer(answer.meetings, answer.start)
-            self.alarms.answer(answer.broken,
-                               answer.clock - self.scenario.gap - self.scenario.slack - self.scenario.tick)
+            # a step is decided as late as the rules look ahead, and settles after that
+            self.alarms.answer(answer.broken, answer.clock - self.book.stretches.wait, not answer.fault)
             self.looked = 0.0
 
     def acknowledge(self, name: str, acknowledged: bool, words: str, at: int) -> Values | None:
@@ -248,15 +256,13 @@ class State:
         """Returns what changed since the last call; an empty dictionary if nothing did."""
         with self.lock:
             fleet, alarms, clock = self.fleet, self.alarms, self.clock
-            if clock is not None:
-                fleet.forget(clock - FORGOTTEN)
-                alarms.pass_time(clock)
+            encounters = self.pass_time(clock)
             parts: Values = {
                 "vessels": [self.vessel(fleet.ships[mmsi]) for mmsi in fleet.moved if mmsi in fleet.ships], "about": [
                     self.said_of(mmsi, fleet.about.get(mmsi, About())) for mmsi in fleet.told if mmsi in fleet.ships
                 ], "gone": list(fleet.gone),
                 "alarms": [alarms.values(alarms.items[name]) for name in alarms.changed if name in alarms.items],
-                "dropped": list(alarms.dropped), "rows": self.rows.new, **self.encounter_changes(clock)
+                "dropped": list(alarms.dropped), "rows": self.rows.new, **encounters
             }
             if self.health != self.said:
                 parts["health"] = self.said = self.health
@@ -268,11 +274,13 @@ class State:
             self.rows.new = []
             return {"clock": clock, **found} if found else {}
 
-    def encounter_changes(self, clock: int | None) -> Values:
-        """Returns the encounters that changed, at most once a second."""
+    def pass_time(self, clock: int | None) -> Values:
+        """Ends what is over by now, at most once a second; returns the encounters that changed."""
         now = time.monotonic()
         if clock is None or now < self.looked + SECOND:
             return {}
         self.looked = now
+        self.fleet.forget(clock - FORGOTTEN)
+        self.alarms.pass_time(clock)
         changed, over = self.encounters.changes(clock)
         return {"encounters": changed, "over": over}

@@ -1,5 +1,5 @@
-"""Looks for what is amiss with a scenario, a log and a report, and says it: `findings`. It judges no meeting itself; it
-counts rows of the program."""
+"""Finds mistakes in a scenario, a log and a report: `findings`. It judges no encounter itself; it counts rows of the
+program."""
 import collections
 import csv
 import functools
@@ -141,11 +141,11 @@ def no_times(patient: Patient) -> Iterator[Finding]:
     dropped = sum(patient.counts.get(name, 0) for name in ("back", "repeat", "jump"))
     if looked and not told:
         yield Finding("no times", "no tag block has a time, so only the first report of each vessel counts. Give times "
-                                  "by tools/tagged")
+                                  "by tools/colregs-tagged")
     elif looked > 2 * len(told) and dropped > patient.counts.get("point", 0):
         yield Finding("no times", f"{looked - len(told)} of {looked} lines have no time of their own, and count at the "
                                   "time of a line before. "
-                      "Give times by tools/tagged")
+                      "Give times by tools/colregs-tagged")
 
 
 def future(patient: Patient) -> Iterator[Finding]:
@@ -192,7 +192,7 @@ def region_misses(patient: Patient) -> Iterator[Finding]:
     if close(reference, (longitude, latitude)):
         hint = ". Latitude and longitude look exchanged"
     elif any(close(reference, (one * latitude, two * longitude)) for one, two in ((-1, 1), (1, -1), (-1, -1))):
-        hint = ". South and west are below nought"
+        hint = ". South and west are negative"
     yield Finding("region misses the log", f"{far} reports lie too far from the reference {reference[0]}, "
                                            f"{reference[1]}; "
                   f"most lie about {latitude}, {longitude}{hint}")
@@ -218,7 +218,7 @@ def no_reports(patient: Patient) -> Iterator[Finding]:
         most = sorted((name for name, count in patient.counts.items() if count), key=lambda name: patient.counts[name],
                       reverse=True)
         told = ", ".join(f"{patient.counts[name]} `{name}`" for name in most[:3])
-        hint = ": tools/tagged reads lines that do not begin with a sentence" if most[:1] == ["other"] else ""
+        hint = ": tools/colregs-tagged reads lines that do not begin with a sentence" if most[:1] == ["other"] else ""
         yield Finding("no reports", f"no position report is accepted; the lines count as {told}{hint}")
 
 
@@ -232,16 +232,16 @@ def unsorted(patient: Patient) -> Iterator[Finding]:
     late = patient.counts.get("late", 0)
     if 100 * late > patient.sentences:
         yield Finding("unsorted lines", f"{late} of {patient.sentences} sentences are out of order by more than "
-                                        "`log.slack`: sort them by tools/tagged")
+                                        "`log.slack`: sort them by tools/colregs-tagged")
 
 
 def damaged(patient: Patient) -> Iterator[Finding]:
-    """Yields lines that are lost in numbers that no good log has."""
+    """Yields a finding for each outcome that is far more frequent than in a good log."""
     lines = sum(patient.counts.values())
     for names, part, name, words in (
             (("form", "sum", "armour"), 10, "damaged sentences", "a receiver, or what copied the log, damages "
                                                                  "sentences"),
-            (("tag",), 100, "damaged tag blocks", "they have another sum or form, and their lines are lost"),
+            (("tag",), 100, "damaged tag blocks", "their form or checksum is wrong, and their lines are lost"),
             (("jump",), 20, "many jumps", "to come there a vessel would be faster than `log.max_speed`"),
             (("nopos",), 2, "reports without a place", "their receivers have none")):
         count = sum(patient.counts.get(name, 0) for name in names)
@@ -284,7 +284,7 @@ def unseen(patient: Patient) -> Iterator[Finding]:
 
 
 def senders(patient: Patient) -> Iterator[Finding]:
-    """Yields what is amiss with who sent what."""
+    """Yields findings about vessels and the messages that they sent."""
     found = log_checks.Senders(patient.log)
     yield from found.clock()
     shared = list(found.shared())
@@ -347,8 +347,8 @@ def shortened(found: Iterable[Finding]) -> Iterator[Finding]:
 
 def findings(scenario: str, log: str, report: str | None, program: str, options: Sequence[str] = (),
              known: tuple[Run, Run] | None = None) -> list[Finding]:
-    """Returns what is amiss, each with a name and words. The report may be None; options are those of the program, as
-    `--ticks=60`.
+    """Returns the mistakes, each with a name and a description. The report may be None; options are those of the
+    program, such as `--ticks=60`.
 
     `known` are the runs of `audit` and `points`, if they need not be made again.
     """

@@ -15,6 +15,7 @@ from colregs.io.tag_blocks import stamp
 from colregs.model.earth import iso
 from colregs.model.rules import moment
 from colregs.run.program import Run, run_text
+from colregs.words import count
 
 TICKS = [1, 2, 3, 5, 6, 10, 15, 30, 60]
 LONGEST = 20000                                              # ticks of a window at most
@@ -31,7 +32,7 @@ detect = {{ watch = 1, risk = 1, clear = 1, horizon = 60, doubt = 0, ahead = 0, 
 act = {{ steady_turn = 0, apparent_turn = 1, steady_speed = 0, apparent_speed = 1 }}
 rules = {{ safe = 1, overtake = 1, close = 1, t8 = 0, ta = 0, tl = 0, tw = 0, te = 0 }}
 """
-TEXT = """# A scenario to start from, by tools/scenario. \
+TEXT = """# A scenario to start from, by colregs-scenario. \
 The window, the tick and the reference are guessed from the log; every other number is
 # that of the worked encounters, whatever the log: go through them. docs/SCENARIO.md describes each key.
 version = 1
@@ -163,8 +164,8 @@ class Found:
         cosine = round(math.cos(math.radians((2 * abs(self.first[0]) + 60000) // 120000 / 10)) * 1000000)
         middles = []
         for values, unit in ((sorted(self.norths), 1852), (sorted(self.easts), 1852 * cosine / 1000000)):
-            count = len(values)
-            middles.append([round(values[k] / unit) for k in ((count - 1) // 2, count // 2)])
+            size = len(values)
+            middles.append([round(values[k] / unit) for k in ((size - 1) // 2, size // 2)])
         latitude, longitude = (math.floor(sum(first + more
                                               for more in pair) / 2)
                                for first, pair in zip(self.first, middles))
@@ -207,7 +208,8 @@ def reference(found: Found, reasons: list[str]) -> tuple[int, int]:
     if held != latitude:
         reasons.append("the middle of the places lies beyond 75 degrees; a reference may not")
     if found.counts.get("far"):
-        reasons.append(f"{found.counts['far']} reports lie too far from most others for one plane, and will be `far`")
+        reasons.append(f"{count(found.counts['far'], 'report lies', 'reports lie')} too far from most others for one "
+                       "plane, and will be `far`")
     return held, longitude
 
 
@@ -274,7 +276,7 @@ def guessed(log: str, program: str, reasons: list[str], asked: Asked = Asked()) 
         raise Fault("the program accepts no position report of the log")
     start, tick, ticks, interval = window(found, latest, reasons, asked)
     latitude, longitude = reference(found, reasons)
-    reasons.append(f"{len(found.times)} position reports of {found.vessels} vessels")
+    reasons.append(f"{count(len(found.times), 'position report')} of {count(found.vessels, 'vessel')}")
     return Guess(start, tick, ticks, interval, latitude, longitude), found.vessels
 
 

@@ -31,18 +31,18 @@ def form_of(log: str) -> Iterator[Finding]:
     """Yields what keeps the log from being read as it is."""
     packed = packing(log)
     if packed != "plain":
-        yield Finding("packed log", f"the log is packed by {packed}: tools/tagged unpacks it")
+        yield Finding("compressed log", f"the log is compressed by {packed}: tools/colregs-tagged reads it")
         return
     with open(log, "rb") as source:
         head = source.read(65536)
     if not head.strip():
         yield Finding("empty log", "the log has nothing in it")
     elif encoding(head).startswith("utf-16"):
-        yield Finding("log in UTF-16", "the log is a text in UTF-16: tools/tagged reads it")
+        yield Finding("log in UTF-16", "the log is a text in UTF-16: tools/colregs-tagged reads it")
     elif not any(CUT.search(line) for line in sampled(log)):
         table = next((table for table in map(table_of, head.split(b"\n")[:5]) if table), None)
         words = (
-            f"is a table ({table.name}): tools/tagged makes sentences of it"
+            f"is a table ({table.name}): tools/colregs-tagged makes sentences of it"
             if table
             else "has no AIVDM or AIVDO sentence"
         )
@@ -56,7 +56,7 @@ def times_of(log: str) -> tuple[int, list[int]]:
 
 
 class Track:
-    """The reports of one MMSI: the latest, and the latest that does not fit to it. Where both go on side by side, two
+    """The reports of one MMSI: the latest, and the latest that does not fit to it. If both continue side by side, two
     ships send them."""
 
     def __init__(self, report: Report) -> None:

@@ -155,12 +155,15 @@ class Case:
         if len(self.lines) != OUTCOMES and not self.joined:
             raise Fault(f"{name}: it is not whole: the counts of lines at its end are missing")
 
+    def take_vessel(self, vessel: Vessel) -> None:
+        """Takes what is known of a vessel instead of what was known before."""
+        self.names[vessel.mmsi], self.vessels[vessel.mmsi] = vessel.name or str(vessel.mmsi), vessel
+
     def take(self, row: Row) -> None:
         """Takes one row."""
         if isinstance(row, Vessel):
-            self.names[row.mmsi] = row.name or str(row.mmsi)
             self.joined |= row.reports is None        # as a join of windows has it
-            self.vessels[row.mmsi] = row
+            self.take_vessel(row)
         elif isinstance(row, Total):
             self.rules.append(row.rule)
             self.totals[row.rule] = row

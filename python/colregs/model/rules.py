@@ -53,10 +53,10 @@ BOUND = {
 OUTCOMES = {
     "empty": "no byte",
     "long": "more than 1024 bytes",
-    "tag": "a tag block of another form, or with another sum",
+    "tag": "a tag block of another form, or with a wrong checksum",
     "other": "no sentence of AIS",
     "form": "a sentence of another form",
-    "sum": "a sentence whose sum is wrong: damaged on the way",
+    "sum": "a sentence with a wrong checksum: damaged on the way",
     "armour": "a byte that no payload has",
     "outside": "a time outside the window",
     "late": "a time that lies further than log.slack behind the latest: lines out of order",

@@ -6,7 +6,7 @@ from colregs.model import keys
 
 
 class Finding(NamedTuple):
-    """What is amiss: its name, which docs/SOURCES.md lists, and words."""
+    """A mistake: its name, and a description."""
 
     name: str
     words: str

@@ -10,6 +10,7 @@ from colregs.model.reports import Case
 from colregs.model.rows import Meeting
 from colregs.model.rules import OUTCOMES
 from colregs.model.scenario_checks import Finding
+from colregs.words import count
 
 LOST = "contact lost"                   # the doctor's finding; the summary has the meetings themselves
 SHOWN = 5                               # of more such meetings than this the number is given
@@ -18,15 +19,11 @@ HEAVY = 2000000                         # reports, beyond which a page is slow
 USED = ("point", "static", "part")      # the outcomes of lines that are used
 
 
-def count(number: int, one: str, many: str | None = None) -> str:
-    """Returns a number of things in words."""
-    return f"{'no' if number == 0 else format(number, ',')} {one if number == 1 else many or one + 's'}"
-
-
 def lengths(metres: float) -> str:
-    """Returns a length in metres and nautical miles."""
-    miles = format(metres / 1852, ".3f" if metres < 92 else ".2f")
-    return f"{format(metres, '.1f' if metres < 10 else ',.0f')} m ({miles} nautical miles)"
+    """Returns a length in metres, and from ten metres on in nautical miles too."""
+    if metres < 10:
+        return f"{metres:.1f} m"
+    return f"{metres:,.0f} m ({format(metres / 1852, '.3f' if metres < 92 else '.2f')} nautical miles)"
 
 
 def capital(words: str) -> str:
@@ -40,7 +37,7 @@ def plain(moment: float) -> str:
 
 
 def read_words(case: Case, gathered: Gathered) -> Iterator[str]:
-    """Yields what was read of the logs."""
+    """Yields how the logs were read."""
     files = count(len(gathered.files), "file")
     if gathered.first is None:
         yield f"Read: {files} with {count(gathered.lines(), 'line')}, and none of the lines has a time."

@@ -92,7 +92,7 @@ class Picture:
         """Adds a circle."""
         self.add("circle", cx=float(at[0]), cy=float(at[1]), r=float(radius), fill=fill, **more)
 
-    def words(self, x: float, y: float, words: str | Coloured, size: int = 11, fill: str = "#222222",
+    def words(self, x: float, y: float, words: str | Coloured, size: float = 11, fill: str = "#222222",
               anchor: str = "start", weight: str = "normal", halo: bool = False) -> None:
         """Adds words of one colour, or a list of words, each with its colour."""
         around = ' stroke="#ffffff" stroke-width="3" paint-order="stroke" stroke-linejoin="round"' if halo else ""

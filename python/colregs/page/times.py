@@ -101,7 +101,8 @@ def draw_block(picture: Picture, case: Case, y: float, pair: tuple[int, int], me
                verdicts: list[tuple[str, list[Verdict]]]) -> None:
     """Draws the rows of one ordered pair."""
     names = " to ".join(case.name(mmsi) for mmsi in pair)
-    picture.words(12, y + ROW - 5, names, 12, weight="bold")
+    size = min(12, round(12 * (LEFT - 20) / (1.1 * width_of(names, 12)), 1))       # long names stay left of the bars
+    picture.words(12, y + ROW - 5, names, size, weight="bold")
     bars(picture, case, y,
          [(meeting, "#5b6770", f"{steps_words(meeting)}, {meeting.encounter}, {meeting.metres:.0f} m", False)
           for meeting in sorted(meetings, key=lambda row: row.first)])

@@ -1,4 +1,4 @@
-"""Pipelines of processes: the files of a log, unpacked and cut, into the program."""
+"""Pipelines of processes: the files of a log, decompressed and cut, into the program."""
 import os
 import shlex
 import subprocess
@@ -23,7 +23,7 @@ def reader(files: list[str]) -> str:
     for name in files:
         kind = packing(name)
         if kind not in READERS:
-            raise Fault(f"{name} is packed by {kind}: unpack it, or make a log of it by tools/tagged")
+            raise Fault(f"{name} is compressed by {kind}: decompress it, or make a log of it by tools/colregs-tagged")
         words.append(f"{READERS[kind]} {shlex.quote(os.path.abspath(name))}")
     return "{ " + " && ".join(words) + "; }"
 

@@ -57,12 +57,12 @@ def found(given: str | None = None) -> str:
     named = given or os.environ.get(VARIABLE)
     if named:
         if not is_program(named):
-            raise Fault(f"{named} is no program that can be run")
+            raise Fault(f"{named} cannot be run as a program")
         return built(named)
     for path in (os.path.join(TOP, "colregs"), BUILT, beside(), on_path()):
         if path and is_program(path):
             return built(path)
-    raise Fault("the program is not here: give --program, or set COLREGS_PROGRAM")
+    raise Fault("there is no program: give --program, or set COLREGS_PROGRAM")
 
 
 def programs_of(program: str) -> list[str]:

@@ -55,7 +55,8 @@ def by_parallel(lines: list[str], log: str, processes: int, hosts: str | None) -
     """Runs commands by GNU parallel, which writes a list of those that ended into the file `log`. Which jobs run is
     decided by their results alone."""
     if not shutil.which("parallel"):
-        raise Fault("GNU parallel is not here (Debian package parallel); without --parallel the jobs run by threads")
+        raise Fault("GNU parallel is not installed (Debian package parallel); without --parallel the jobs run in "
+                    "threads")
     words = ["parallel", "--joblog", log, "--jobs", str(processes), *(["--sshlogin", hosts] if hosts else [])]
     child = CHILDREN.started(words, stdin=subprocess.PIPE)
     try:
@@ -80,7 +81,7 @@ def by_dask(commands: Commands, numbers: list[int], address: str) -> list[str]:
     try:
         distributed: Any = importlib.import_module("distributed")
     except ImportError:
-        raise Fault("Dask is not here (Debian package python3-distributed)") from None
+        raise Fault("Dask is not installed (Debian package python3-distributed)") from None
     try:
         client = distributed.Client(address, timeout=SCHEDULER)
     except (OSError, ValueError) as error:

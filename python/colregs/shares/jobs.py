@@ -175,14 +175,14 @@ def job_of_line(path: str, number: int, line: bytes) -> Job:
     try:
         return job_of(json.loads(line), os.path.dirname(os.path.abspath(path)))
     except (ValueError, TypeError) as error:
-        raise Fault(f"{path}, line {number}: no job: {error}") from None
+        raise Fault(f"{path}, line {number}: not a job: {error}") from None
 
 
 def read_jobs(path: str) -> list[Job]:
     """Returns the jobs of a list, one per line; empty lines are skipped."""
     jobs = [job_of_line(path, number, line) for number, line in numbered_lines(path)]
     if not jobs:
-        raise Fault(f"{path}: no job in it")
+        raise Fault(f"{path}: it has no job")
     return jobs
 
 

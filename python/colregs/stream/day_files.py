@@ -7,7 +7,7 @@ import re
 import statistics
 import time
 from collections.abc import Callable, Iterator
-from typing import BinaryIO
+from typing import BinaryIO, NamedTuple
 
 from colregs.errors import Fault, reason
 from colregs.io.forms import Unsure
@@ -20,7 +20,21 @@ Mark = tuple[str, int]           # a place in the day files: a day, and bytes fr
 MARK = re.compile(r"\d+ \d+\n")
 LEAP, SURE = 3600, 10            # s: a time so far ahead counts once so many lines in a row have such
 LEAST_STATIONS, ACTIVE = 3, 100  # stations with names whose clocks are compared, and lines in which a station is heard
-RECENT, AHEAD = 21, 300          # else lines that are compared, and s that a stamp may lie ahead of their middle
+MOST_OFFSETS = 1000              # stations whose lead is known
+RECENT, AHEAD = 21, 300          # otherwise lines that are compared, and s that a stamp may lie ahead of their middle
+
+
+Timed = tuple[bytes, bytes]      # a line as it came, and as it is written
+
+
+class Held(NamedTuple):
+    """A line that waits: its stamp, and how many lines had come, how often the clock had leapt, and its time."""
+
+    line: bytes
+    at: int | None
+    number: int
+    leaps: int
+    time: int
 
 
 class Clock:
@@ -43,16 +57,28 @@ class Clock:
                 self.time, self.ahead = min(self.ahead), []
         return self.time
 
+    def released(self, line: bytes) -> list[Timed]:
+        """Returns the lines that are written after a line was taken: itself."""
+        return [(line, line)]
+
+    def last(self) -> tuple[list[Timed], int]:
+        """Returns the lines that wait at the end of the stream, and how many others are left out."""
+        return [], 0
+
 
 class MedianClock:
     """The clock of most stations, or, if fewer than three have names, of most of the last lines. It can go back.
 
     Its time is the greatest stamp that is at most a tolerance ahead of the middle. So no single station, and no few
-    lines, set it.
+    lines, set it. A line ahead of it waits, with all lines after it, until the clock has followed, as it does after an
+    outage, or until so many lines have come that it will not: then the line gets the clock's time. If its station was
+    as far ahead before, it gets that at once.
     """
 
     def __init__(self, slack: int) -> None:
-        self.slack, self.lines = slack, 0
+        self.slack, self.lines, self.leaps = slack, 0, 0
+        self.held: collections.deque[Held] = collections.deque()
+        self.offsets: dict[str, int] = {}                       # of stations, how far they were ahead
         self.time: int | None = None
         self.ahead: list[int] = []                              # none: it follows most lines at once
         self.stations: dict[str, tuple[int, int]] = {}          # their last stamps, and the numbers of those lines
@@ -69,9 +95,38 @@ class MedianClock:
         if self.lines % ACTIVE == 0:
             self.stations = {name: told for name, told in self.stations.items() if told[1] > self.lines - ACTIVE}
         told = [last for last, _ in self.stations.values()] if self.has_several() else list(self.recent)
-        middle = statistics.median_low(told)
+        middle, before = statistics.median_low(told), self.time
         self.time = max(one for one in told if one <= middle + self.tolerance())
+        self.leaps += before is not None and abs(self.time - before) > self.tolerance()
         return self.time
+
+    def released(self, line: bytes) -> list[Timed]:
+        """Returns the lines that are written after a line was taken, in order, as they came and with their times."""
+        self.held.append(Held(line, stamp(line), self.lines, self.leaps, self.time or 0))
+        found: list[Timed] = []
+        while self.held and self.is_decided(self.held[0]):
+            found.append(self.timed(self.held.popleft()))
+        return found
+
+    def last(self) -> tuple[list[Timed], int]:
+        """Returns the lines that wait at the end of the stream, and how many others are left out: those ahead of the
+        clock."""
+        held, self.held = self.held, collections.deque()
+        kept = [one for one in held if not self.is_ahead(one)]
+        return [(one.line, one.line) for one in kept], len(held) - len(kept)
+
+    def is_ahead(self, one: Held) -> bool:
+        """Returns whether a line is ahead of the clock by more than the tolerance."""
+        return one.at is not None and self.time is not None and one.at > self.time + self.tolerance()
+
+    def is_decided(self, one: Held) -> bool:
+        """Returns whether a line need not wait for the clock any longer."""
+        if one.at is None or self.time is None or not self.is_ahead(one):
+            return True
+        known = self.offsets.get(station_of(one.line))
+        patience = 2 * ACTIVE if self.has_several() else RECENT
+        return self.lines >= one.number + patience or known is not None and abs(one.at - self.time -
+                                                                                known) <= self.tolerance()
 
     def has_several(self) -> bool:
         """Returns whether enough stations have names for their clocks to be compared."""
@@ -81,17 +136,20 @@ class MedianClock:
         """Returns how many seconds a stamp may lie ahead of the middle."""
         return self.slack if self.has_several() else AHEAD
 
-    def timed(self, line: bytes) -> bytes:
-        """Returns a line with the clock's time if its own is ahead of that by more than the tolerance; else as it
-        is."""
-        at = stamp(line)
-        if at is None or self.time is None or at <= self.time + self.tolerance():
-            return line
+    def timed(self, one: Held) -> Timed:
+        """Returns a line as it came, and with the clock's time when it came if its own is ahead of that; a leap since
+        then counts."""
+        if one.at is None or self.time is None or not self.is_ahead(one):
+            return one.line, one.line
+        at = one.time if one.leaps == self.leaps else self.time
+        self.offsets[station_of(one.line)] = one.at - at
+        if len(self.offsets) > MOST_OFFSETS:
+            del self.offsets[next(iter(self.offsets))]
         try:
-            _, more, rest = blocks(line)
+            _, more, rest = blocks(one.line)
         except Unsure:
-            return line
-        return block(self.time, more) + rest
+            return one.line, one.line
+        return one.line, block(at, more) + rest
 
 
 def day_of(at: int) -> str:
@@ -104,6 +162,11 @@ def begin_of(day: str) -> int:
     return calendar.timegm(time.strptime(day, "%Y-%m-%d"))
 
 
+def days_in(folder: str) -> list[str]:
+    """Returns the days that have a file in a folder, in order."""
+    return sorted(name[:-4] for name in os.listdir(folder) if name.endswith(".log") and len(name) == 14)
+
+
 class DayFiles:
     """A folder with a file of lines for each day; the last file grows."""
 
@@ -111,6 +174,7 @@ class DayFiles:
         self.folder = folder
         self.day: str | None = None
         self.out: BinaryIO | None = None
+        self.length = 0                         # of the last file, with what is buffered
         os.makedirs(folder, exist_ok=True)
         days = self.days()
         if days:
@@ -118,7 +182,7 @@ class DayFiles:
 
     def days(self) -> list[str]:
         """Returns the days that have a file, in order."""
-        return sorted(name[:-4] for name in os.listdir(self.folder) if name.endswith(".log") and len(name) == 14)
+        return days_in(self.folder)
 
     def path(self, day: str) -> str:
         """Returns the file of a day."""
@@ -130,8 +194,7 @@ class DayFiles:
             self.out.close()
         out = open(self.path(day), "ab")
         out.truncate(whole_length(self.path(day)))
-        out.seek(0, os.SEEK_END)
-        self.day, self.out = day, out
+        self.day, self.out, self.length = day, out, out.seek(0, os.SEEK_END)
 
     def write(self, line: bytes, at: int) -> None:
         """Writes a line at a time of the clock; the days never go back."""
@@ -140,6 +203,7 @@ class DayFiles:
             self.open(day)
         assert self.out is not None
         self.out.write(line)
+        self.length += len(line)
 
     def flush(self) -> None:
         """Writes what is buffered."""
@@ -149,7 +213,7 @@ class DayFiles:
     def place(self) -> Mark:
         """Returns the place after all that is written."""
         assert self.day is not None and self.out is not None        # a line was written
-        return self.day, self.out.tell()
+        return self.day, self.length
 
     def place_for(self, at: int) -> Mark:
         """Returns where a line would be written at a time of the clock."""

@@ -5,6 +5,7 @@ Positions are the program's rows `point`. Names, types, lengths and navigational
 the program reads them.
 """
 import bisect
+import time
 from array import array
 from collections.abc import Iterator
 from dataclasses import dataclass, field
@@ -74,6 +75,7 @@ class Fleet:
         self.told: set[int] = set()
         self.gone: set[int] = set()
         self.clock = 0                      # the time of the latest point
+        self.arrived = time.monotonic()     # when the last point came, by this machine's clock
 
     # what the lines say
 
@@ -139,6 +141,7 @@ class Fleet:
     def take_point(self, row: str) -> None:
         """Takes a row `point`. Two windows report the same points: one that is not newer than the last of its vessel is
         ignored."""
+        self.arrived = time.monotonic()
         fields = row.split(",")
         mmsi, at = int(fields[1]), int(fields[2])
         ship = self.ships.get(mmsi)

@@ -5,6 +5,7 @@ the overlap. A row is of the window in whose own steps it ends; docs/TRAFFIC_SER
 and what it needs.
 """
 import argparse
+import dataclasses
 import itertools
 import json
 import os
@@ -20,14 +21,16 @@ from colregs.errors import DONE, FAILED, Fault, report
 from colregs.io.files import replace
 from colregs.io.sieve import Senders
 from colregs.io.sources import stamped
+from colregs.model.formulas import Sight, sight_of
 from colregs.model.scenario import MOST_SUBJECTS, Scenario
-from colregs.run.limits import next_step
+from colregs.run.limits import STATUS, limit_of, next_step
 from colregs.shares.heads import STRADDLE
-from colregs.stream.beginnings import Beginnings
-from colregs.stream.day_files import Clock, DayFiles, Mark, MedianClock, lines_of
+from colregs.stream.areas import AreaRun
+from colregs.stream.borders import AFTER, Border, Borders, Marks
+from colregs.stream.day_files import Clock, DayFiles, Mark, MedianClock, Timed, lines_of
 from colregs.stream.health import Health
 from colregs.stream.rows import Sink, Written, steps_of
-from colregs.stream.runs import StreamRun, Window
+from colregs.stream.runs import StreamRun, Window, WindowRun
 from colregs.stream.sources import Source
 from colregs.stream.types import StreamTypes
 
@@ -44,17 +47,17 @@ class Numbers:
     def __init__(self, scenario: Scenario, every: int, overlap: int) -> None:
         self.tick, self.every, self.ticks = scenario.tick, every, every + overlap
         self.gap, self.more = scenario.gap, scenario.gap + scenario.slack
-        self.warm = -(-scenario.gap // scenario.tick)
+        self.length = every * scenario.tick
+        self.warm = scenario.steps(max(scenario.gap, STRADDLE)) + 1     # until it agrees with the window before
         self.reach, self.last = scenario.reach, scenario.settled(self.ticks)
         self.behind = self.last - every                # the last step that is the window's before
 
     def starts(self, clock: int) -> Iterator[int]:
         """Yields the starts of the windows that are open at a time of the clock."""
-        length = self.every * self.tick
-        k = max(0, (clock - self.ticks * self.tick - self.more) // length)
-        while k * length - self.gap <= clock:
-            if not self.is_over(k * length, clock):
-                yield k * length
+        k = max(0, (clock - self.ticks * self.tick - self.more) // self.length)
+        while k * self.length - self.gap <= clock:
+            if not self.is_over(k * self.length, clock):
+                yield k * self.length
             k += 1
 
     def is_over(self, start: int, clock: int) -> bool:
@@ -102,15 +105,17 @@ class Follow:
         self.clock: Clock | MedianClock = MedianClock(scenario.slack) if given.clock == "median" else Clock()
         self.health = Health(given.days, scenario.slack, self.say)
         self.written, self.types = Written(given.days, sink), StreamTypes(given.days, scenario.slack, scenario.ranks)
-        self.beginnings = Beginnings(self.numbers.last, given.every + scenario.steps(max(scenario.gap, STRADDLE)) + 1,
-                                     given.every)
+        self.borders = Borders(self.numbers.last, given.every + self.numbers.warm, given.every, self.numbers.length,
+                               sights_of(scenario), self.say)
         self.restarts: dict[tuple[int, str, frozenset[int] | None], int] = {}     # of runs that were killed
         self.windows: dict[int, Window] = {}            # those that are open, by their starts
         self.over: set[int] = set()                     # the starts of those that are closed
-        self.runs: set[StreamRun] = set()
+        self.runs: set[WindowRun] = set()
+        self.earliest: dict[str, int] = {}              # the first start of a window with a run in a mode, if known
         self.heard: dict[int, int] = {}                 # when the clock last heard each vessel
         self.events: queue.Queue[tuple[Any, ...]] = queue.Queue()
-        self.held: list[tuple[StreamRun, str]] = []     # rows that wait for those of windows before them
+        self.held: list[tuple[WindowRun, str]] = []     # rows that wait for those of windows before them
+        self.ending: dict[int, WindowRun] = {}          # by their starts, windows without a run that wait likewise
         self.room = tempfile.TemporaryDirectory()
         self.grouped, self.cut, self.faults = False, False, 0
         self.looked: int | None = None                  # when the clock was at the last look for new vessels
@@ -135,6 +140,7 @@ class Follow:
         for run in self.runs:
             run.stop()
         self.sink.close()
+        self.written.close()
         self.files.close()
         self.room.cleanup()
 
@@ -160,11 +166,13 @@ class Follow:
             if day >= begin[0]:
                 self.read_again(day, begin[1] if day == begin[0] else 0)
         if self.clock.time is not None:
-            for start in range(self.now() if first is None else first, self.now(),
-                               self.numbers.every * self.numbers.tick):
+            for start in range(self.now() if first is None else first, self.now(), self.numbers.length):
                 if self.has_lines(start):               # a run that was killed may have been behind the clock
                     self.begin_window(start, True)
             self.open(again=True)
+            if first is None and self.windows:
+                # which of its rows began before it is not known
+                self.borders.borders[min(self.windows)] = Border(known=True, comparable=False)
             self.close_those_over()
 
     def known_place(self, first: int | None) -> Mark:
@@ -199,7 +207,7 @@ class Follow:
         try:
             with open(self.state, encoding="utf-8") as source:
                 stored = json.load(source)
-            self.beginnings.load(stored.get("open", {}))
+            self.borders.load(stored)
             return int(stored["first"])
         except (OSError, ValueError, KeyError, TypeError, AttributeError, IndexError):
             return None
@@ -209,7 +217,7 @@ class Follow:
         starts = [run.window.start for run in self.runs] + list(self.windows)
         if starts and min(starts) != self.first:
             self.first = min(starts)
-            replace(self.state, json.dumps({"first": self.first, "open": self.beginnings.stored()}).encode())
+            replace(self.state, json.dumps({"first": self.first, **self.borders.stored()}).encode())
 
     def hear(self, line: bytes) -> None:
         """Notes which vessel a line is of."""
@@ -224,13 +232,19 @@ class Follow:
             line = stamped(line.rstrip(b"\r\n"), int(time.time())) + b"\n" if self.given.now else line
             before = self.clock.time
             now = self.clock.take(line)
-            came, line = line, self.clock.timed(line) if isinstance(self.clock, MedianClock) else line
+            if now is not None and now != before:
+                self.open(again=before is None, place=self.ahead)
+            self.write(self.clock.released(line), taken)
+        self.after(taken)
+
+    def write(self, released: list[Timed], taken: list[bytes]) -> None:
+        """Writes lines to the day files."""
+        for came, line in released:
             self.health.take(came, came != line)
+            now = self.clock.time
             if now is None:
                 continue                                # nobody knows its time yet
             place = self.files.place_for(now)
-            if now != before:
-                self.open(again=before is None, place=self.ahead)
             self.ahead = (self.ahead or place) if self.clock.ahead else None
             if now // MARK not in self.marks:
                 self.marks[now // MARK] = self.fresh[now // MARK] = place
@@ -238,6 +252,9 @@ class Follow:
             self.hear(line)
             self.types.take(line, now)
             taken.append(line)
+
+    def after(self, taken: list[bytes]) -> None:
+        """Does what follows lines that were written: ends windows, takes in new vessels, and stores where it is."""
         self.files.flush()
         self.files.add_marks(self.fresh)
         self.fresh = {}
@@ -294,8 +311,10 @@ class Follow:
         oldest = min(self.windows, default=self.now()) - 2 * self.numbers.ticks * self.numbers.tick
         self.over = {start for start in self.over if start >= oldest}
         self.heard = {mmsi: at for mmsi, at in self.heard.items() if at >= oldest}
-        self.written.forget(oldest)
-        self.beginnings.forget(oldest)
+        at_work = min([run.window.start for run in self.runs] + list(self.windows), default=self.now())
+        # the end of a window can write rows of the one before
+        self.written.forget(at_work - 2 * self.numbers.length)
+        self.borders.forget(oldest)
         self.marks = {mark: place for mark, place in self.marks.items() if mark >= oldest // MARK - 1}
 
     # the runs
@@ -306,7 +325,9 @@ class Follow:
         with open(name, "w", encoding="utf-8") as out:
             out.write(self.scenario.with_subjects(sorted(group) if group else None))
         words = [self.program, mode, name, f"--start={window.start}", f"--ticks={self.numbers.ticks}"]
-        self.runs.add(StreamRun(words, window, mode, group, self.files, self.events.put))
+        run = StreamRun(words, window, mode, group, self.files, self.events.put)
+        self.runs.add(run)
+        self.earliest = {}
 
     def vessels(self, window: Window) -> set[int]:
         """Returns who can be a subject of a window: the scenario's subjects, or who was heard since its lines began."""
@@ -334,25 +355,41 @@ class Follow:
                 if new:
                     self.split(window, sorted(new))
 
-    def ended(self, run: StreamRun, words: str) -> None:
+    def ended(self, run: WindowRun, words: str) -> None:
         """Takes the end of a run."""
         self.runs.discard(run)
-        status = run.child.returncode
-        if run.mode == "audit" and status == 0:
+        self.earliest = {}
+        status = run.status or 0
+        if run.mode == "audit" and status == 0 and run.counts:
             self.health.ended(run.window.start, run.counts)
         if status == 7 and "pairs" in words:
             self.split_at_limit(run)
+        elif status == STATUS and limit_of(words) == "vessels" and run.mode == "audit":
+            self.by_areas(run)
         elif status < 0 and self.restarts.get(run.key(), 0) < MOST_RESTARTS:
             self.begin_again(run)
         elif status != 0:
             self.fault(f"a run of `{run.mode}` from {run.window.start} ended with status {status}, "
                        f"{words}{next_step(status, words)}")
+            self.written.lack(run.mode, run.window.start, self.numbers.ticks * self.numbers.tick, words)
 
-    def begin_again(self, run: StreamRun) -> None:
+    def by_areas(self, run: WindowRun) -> None:
+        """Audits a window with too many vessels by areas, once its lines are over."""
+        if any(isinstance(other, AreaRun) and other.window is run.window for other in self.runs):
+            return
+        self.say(f"more than 4096 vessels in the window from {run.window.start}: it is audited by areas when it is "
+                 "over")
+        new = AreaRun(run.window, self.scenario, self.numbers.ticks, self.program, self.files, self.events.put)
+        self.runs.add(new)
+        self.earliest = {}
+        if run.limit and run.closed is not None:
+            new.end_at(run.limit, run.closed, run.cut)
+
+    def begin_again(self, run: WindowRun) -> None:
         """Begins a run again that was killed, from the day files; the rows that it wrote are not written again."""
         self.restarts[run.key()] = self.restarts.get(run.key(), 0) + 1
         self.health.restarts += 1
-        self.say(f"a run of `{run.mode}` from {run.window.start} was killed by signal {-run.child.returncode}, and "
+        self.say(f"a run of `{run.mode}` from {run.window.start} was killed by signal {-(run.status or 0)}, and "
                  "begins again from the day files")
         before = set(self.runs)
         self.begin(run.window, run.mode, run.group)
@@ -360,7 +397,7 @@ class Follow:
             for new in self.runs - before:
                 new.end_at(run.limit, run.closed, run.cut)
 
-    def split_at_limit(self, run: StreamRun) -> None:
+    def split_at_limit(self, run: WindowRun) -> None:
         """Splits a run with too many pairs into runs of groups, and a group into two."""
         vessels = sorted(run.group or self.vessels(run.window))
         if len(vessels) < 2:
@@ -380,66 +417,88 @@ class Follow:
 
     # the rows
 
-    def row(self, run: StreamRun, row: str) -> None:
+    def row(self, run: WindowRun, row: str) -> None:
         """Writes a row if it is of its window's own steps, and settled."""
         numbers, start = self.numbers, run.window.start
         first, last = steps_of(row)
         fields = row.split(",", 3)
         if not run.is_mine(int(fields[1]), int(fields[2]), self.scenario.subjects):
             return
-        before = self.begins_before(run, row, (int(fields[1]), int(fields[2])), first, last)
+        marks = self.borders.take(start, row) if run.mode == "audit" else ()
         if run.cut and run.closed is not None and last > numbers.settled(start, run.closed, run.mode):
             return                                      # what comes later may still change it
         if last > numbers.last and first < numbers.every + numbers.warm:
             self.tell_long(run, row)
         if numbers.behind < last <= numbers.last or last > numbers.last and self.is_last(run):
-            self.health.rows += self.written.write(row, run.mode, start, numbers.tick, before)
+            self.health.rows += self.written.write(row, run.mode, start, numbers.tick, marks)
 
-    def begins_before(self, run: StreamRun, row: str, pair: tuple[int, int], first: int, last: int) -> bool:
-        """Returns whether a row's meeting began before its window. Alarms do not say."""
-        if run.mode != "audit":
-            return False
-        following = run.window.start + self.numbers.every * self.numbers.tick
-        return self.beginnings.take(run.window.start, following, row.startswith("meeting,"), pair, first, last)
-
-    def tell_long(self, run: StreamRun, row: str) -> None:
+    def tell_long(self, run: WindowRun, row: str) -> None:
         """Reports once per run that a row is longer than the overlap."""
         if run.note_long():
             self.say(f"a row of the window from {run.window.start} is longer than the overlap, so the next window "
                      f"reports it otherwise: {row}")
 
-    def is_last(self, run: StreamRun) -> bool:
+    def is_last(self, run: WindowRun) -> bool:
         """Returns whether a run is of the last window of a stream that ended for good."""
-        following = run.window.start + self.numbers.every * self.numbers.tick - self.numbers.gap
+        following = run.window.start + self.numbers.length - self.numbers.gap
         return self.given.whole and run.closed is not None and following > run.closed
 
-    def is_early(self, run: StreamRun) -> bool:
+    def is_early(self, run: WindowRun) -> bool:
         """Returns whether a window before this run's is not done: its rows come first, and none that comes later delays
-        them."""
-        return any(other.mode == run.mode and other.window.start < run.window.start for other in self.runs)
+        them. So do its points, since a listener ignores points that are older than those that it has."""
+        if run.mode not in self.earliest:
+            starts = [other.window.start for other in self.runs if other.mode == run.mode]
+            if not starts:
+                return False
+            self.earliest[run.mode] = min(starts)
+        return self.earliest[run.mode] < run.window.start
 
     def handle(self, event: tuple[Any, ...]) -> None:
         """Takes a row or the end of a run."""
-        if event[0] == "row" and event[1].mode == POINTS:
+        if event[0] == "row" and self.is_early(event[1]):
+            self.held.append((event[1], event[2]))
+        elif event[0] == "row" and event[1].mode == POINTS:
             if self.listener:
                 self.listener.point(event[2])
-        elif event[0] == "row" and self.is_early(event[1]):
-            self.held.append((event[1], event[2]))
         elif event[0] == "row":
             self.row(*event[1:])
         elif event[0] == "ended":
             self.ended(*event[1:])
-            self.carry(event[1])
-            held, self.held = sorted(self.held, key=lambda entry: entry[0].window.start), []
-            for run, row in held:
-                self.handle(("row", run, row))
+            run = event[1]
+            if run.mode == "audit" and not self.cut and not self.has_audit(run.window.start):
+                self.ending[run.window.start] = run
+            self.hand_on()
             if not self.cut:
                 self.tell_done()
 
-    def carry(self, run: StreamRun) -> None:
-        """Ends a window once its last run has ended: meetings that it saw no end of go on in the next."""
-        if run.mode == "audit" and not any(other.mode == "audit" and other.window is run.window for other in self.runs):
-            self.beginnings.carry(run.window.start, run.window.start + self.numbers.every * self.numbers.tick)
+    def has_audit(self, start: int) -> bool:
+        """Returns whether a run of `audit` over the window that begins at a time has not ended."""
+        return any(run.mode == "audit" and run.window.start == start for run in self.runs)
+
+    def hand_on(self) -> None:
+        """Hands on the rows that waited for windows before them, and ends the windows without a run, in order."""
+        held: dict[int, list[tuple[WindowRun, str]]] = {}
+        for run, row in self.held:
+            held.setdefault(run.window.start, []).append((run, row))
+        self.held = []
+        for start in sorted({*held, *self.ending}):
+            for run, row in held.get(start, []):
+                self.handle(("row", run, row))
+            if start in self.ending and not self.is_early(self.ending[start]):
+                self.end_window(self.ending.pop(start))
+
+    def end_window(self, run: WindowRun) -> None:
+        """Ends a window whose last run has ended: rows of the one before it that continue after that one, and that this
+        window lacks, are written with a mark."""
+        start, following = run.window.start, run.window.start + self.numbers.length
+        self.write_over(start - self.numbers.length, self.borders.end(start))
+        if following not in self.ending and not self.has_audit(following) and not self.is_last(run):
+            self.write_over(start, self.borders.end(following))         # no window follows
+
+    def write_over(self, start: int, rows: list[tuple[str, Marks]]) -> None:
+        """Writes rows of the window that begins at a time that continue after it."""
+        for row, marks in rows:
+            self.health.rows += self.written.write(row, "audit", start, self.numbers.tick, (*marks, AFTER))
 
     # the whole
 
@@ -449,7 +508,7 @@ class Follow:
         self.restart()
         threading.Thread(target=self.read, args=(source, room), daemon=True).start()
         waiting: list[tuple[Any, ...]] = []
-        ended = False
+        ended, passed = False, None
         while not stop.is_set() and not (ended and not waiting):
             if waiting and not self.is_behind() and (len(self.runs) < MOST_RUNS * len(self.given.modes)
                                                      or not self.crowded()):
@@ -468,8 +527,9 @@ class Follow:
                     raise event[1]
             elif event:
                 self.handle(event)
-            if self.listener and self.clock.time is not None:
-                self.listener.passed(self.clock.time)
+            if self.listener and self.clock.time is not None and (event is None or self.clock.time != passed):
+                passed = self.clock.time                # not after each of many rows at one time
+                self.listener.passed(passed)
         source.stop()
         self.finish()
         return FAILED if self.faults else DONE
@@ -503,6 +563,13 @@ class Follow:
     def finish(self) -> None:
         """Ends all runs; if the stream continues some time, only the rows that are settled are written."""
         self.cut = not self.given.whole
+        waiting, left_out = self.clock.last()
+        taken: list[bytes] = []
+        self.write(waiting, taken)
+        if taken:
+            self.after(taken)
+        if left_out:
+            self.say(f"the last {left_out} lines are ahead of the clock of most, and are not used")
         if self.clock.time is not None:
             self.take_in_new(True)
             for run in self.runs:
@@ -524,6 +591,18 @@ class Follow:
         """Reports what failed; the stream is followed further."""
         self.faults += 1
         self.say(words)
+
+
+def sights_of(scenario: Scenario) -> dict[str, Sight]:
+    """Returns what the scenario's formulas see, looking back by ticks; those that the program will refuse have none."""
+    found = {}
+    for name, text in scenario.formulas.items():
+        try:
+            sight = sight_of(text)
+        except Fault:
+            continue
+        found[name] = dataclasses.replace(sight, back=scenario.steps(sight.back))
+    return found
 
 
 NAMES = itertools.count()

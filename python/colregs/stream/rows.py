@@ -4,7 +4,8 @@ import json
 import os
 import subprocess
 import sys
-from typing import Any, Protocol
+from collections.abc import Iterable
+from typing import Any, Protocol, TextIO
 
 from colregs.errors import Fault, reason
 from colregs.model.earth import iso
@@ -12,12 +13,11 @@ from colregs.model.rows import Alarm, Meeting, Verdict, row_of
 from colregs.stream.day_files import day_of, whole_length
 
 
-def as_values(text: str, mode: str, start: int, tick: int, begins_before: bool = False) -> dict[str, Any]:
+def as_values(text: str, mode: str, start: int, tick: int, marks: Iterable[str] = ()) -> dict[str, Any]:
     """Returns a row of the program as a dictionary, with times instead of steps; `row` and `run` are as the program has
     them.
 
-    `begins_before` says that the row's meeting began before the window, so that one run over the whole stream may have
-    another row.
+    `marks` say why one run over the whole stream may have another row (colregs/stream/borders.py).
     """
     row = row_of(text.split(","))
     if not isinstance(row, (Meeting, Verdict, Alarm)):
@@ -35,7 +35,7 @@ def as_values(text: str, mode: str, start: int, tick: int, begins_before: bool =
     else:
         made |= {"rule": row.rule, "value": row.value}
     made |= {"begins": iso(start + row.first * tick), "ends": iso(start + (row.last + 1) * tick)}
-    return made | {"begins_before": True} if begins_before else made
+    return made | {mark: True for mark in marks}
 
 
 def steps_of(text: str) -> tuple[int, int]:
@@ -44,6 +44,9 @@ def steps_of(text: str) -> tuple[int, int]:
     fields = text.split(",")
     at = 5 if fields[0] == "verdict" else 4
     return int(fields[at]), int(fields[at + 1])
+
+
+MISSING = "missing"              # the kind of a line that says that a window has no rows, or not all
 
 
 class Sink(Protocol):
@@ -128,6 +131,8 @@ class Written:
         self.folder, self.sink = folder, sink
         self.known: dict[tuple[str, int], set[str]] = {}
         self.read: set[str] = set()
+        self.out: TextIO | None = None                  # the file of the last row
+        self.out_path = ""
 
     def path(self, start: int) -> str:
         """Returns the file of the rows of the day on which a window starts."""
@@ -146,18 +151,45 @@ class Written:
                     row = json.loads(line)
                     self.known.setdefault((row["mode"], row["run"]), set()).add(row["row"])
 
-    def write(self, row: str, mode: str, start: int, tick: int, begins_before: bool = False) -> bool:
+    def write(self, row: str, mode: str, start: int, tick: int, marks: Iterable[str] = ()) -> bool:
         """Writes a row that was not written yet, and returns whether it was not."""
         self.load(start)
         known = self.known.setdefault((mode, start), set())
         if row in known:
             return False
         known.add(row)
-        line = json.dumps(as_values(row, mode, start, tick, begins_before)) + "\n"
-        self.sink.write(line)
-        with open(self.path(start), "a", encoding="utf-8") as out:
-            out.write(line)
+        self.put(as_values(row, mode, start, tick, marks), start)
         return True
+
+    def lack(self, mode: str, start: int, seconds: int, why: str) -> None:
+        """Writes once that rows of a window may be missing."""
+        self.load(start)
+        known = self.known.setdefault((mode, start), set())
+        if MISSING not in known:
+            known.add(MISSING)
+            self.put({"mode": mode, "run": start, "row": MISSING, "kind": MISSING, "begins": iso(start),
+                      "ends": iso(start + seconds), "why": why}, start)
+
+    def put(self, told: dict[str, Any], start: int) -> None:
+        """Writes a line of a window."""
+        line = json.dumps(told) + "\n"
+        self.sink.write(line)
+        out = self.file(self.path(start))
+        out.write(line)
+        out.flush()
+
+    def file(self, path: str) -> TextIO:
+        """Returns a day's file: it stays open, because a harbour can have thousands of rows a second in a replay."""
+        if self.out is None or path != self.out_path:
+            self.close()
+            self.out, self.out_path = open(path, "a", encoding="utf-8"), path
+        return self.out
+
+    def close(self) -> None:
+        """Closes the file of the last row."""
+        if self.out:
+            self.out.close()
+        self.out = None
 
     def forget(self, before: int) -> None:
         """Forgets the windows that began before a time."""

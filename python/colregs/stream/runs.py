@@ -24,24 +24,23 @@ class Window:
         self.heard |= set(vessels)
 
 
-class StreamRun:
-    """The program in one mode over one window, with all pairs or those of a group of subjects."""
+def is_of(group: Collection[int] | None, subject: int, other: int, own: Collection[int]) -> bool:
+    """Returns whether a row is for the run of a group to report, where `own` are the scenario's subjects: its subject
+    is in the group, or is no subject at all and the other is."""
+    return group is None or subject in group or bool(own) and subject not in own and other in group
 
-    def __init__(self, words: list[str], window: Window, mode: str, group: frozenset[int] | None, files: DayFiles,
-                 rows: Callable[[tuple[Any, ...]], None]) -> None:
-        self.words, self.window, self.mode, self.group = words, window, mode, group
+
+class WindowRun:
+    """A run over a window, with all pairs or those of a group of subjects."""
+
+    def __init__(self, window: Window, mode: str, group: frozenset[int] | None) -> None:
+        self.window, self.mode, self.group = window, mode, group
         self.counts: dict[str, int] = {}                # lines by their outcome, once the run has ended
+        self.status: int | None = None                  # of the program, once the run has ended
         self.limit: Mark | None = None                  # where its log ends
         self.closed: int | None = None                  # and where the clock is there
         self.cut, self.long = False, False
         self.behind = False                             # whether more lines are there than one block of them
-        self.child: subprocess.Popen[bytes] = subprocess.Popen(words, stdin=subprocess.PIPE, stdout=subprocess.PIPE,
-                                                               stderr=subprocess.PIPE)
-        self.threads = [
-            threading.Thread(target=work, args=(files, rows), daemon=True) for work in (self.feed, self.read)
-        ]
-        for thread in self.threads:
-            thread.start()
 
     def key(self) -> tuple[int, str, frozenset[int] | None]:
         """Returns what distinguishes this run from others: its window's start, its mode and its group."""
@@ -56,6 +55,30 @@ class StreamRun:
         """Notes that a row of this run is longer than the overlap; returns whether this is the first."""
         first, self.long = not self.long, True
         return first
+
+    def is_mine(self, subject: int, other: int, own: Collection[int]) -> bool:
+        """Returns whether a row is this run's to report."""
+        return is_of(self.group, subject, other, own)
+
+    def stop(self) -> None:
+        """Ends the run at once."""
+        raise NotImplementedError
+
+
+class StreamRun(WindowRun):
+    """The program in one mode over one window."""
+
+    def __init__(self, words: list[str], window: Window, mode: str, group: frozenset[int] | None, files: DayFiles,
+                 rows: Callable[[tuple[Any, ...]], None]) -> None:
+        super().__init__(window, mode, group)
+        # in a group of its own: a signal of the terminal ends the tool, which ends its runs in order
+        self.child: subprocess.Popen[bytes] = subprocess.Popen(words, stdin=subprocess.PIPE, stdout=subprocess.PIPE,
+                                                               stderr=subprocess.PIPE, process_group=0)
+        self.threads = [
+            threading.Thread(target=work, args=(files, rows), daemon=True) for work in (self.feed, self.read)
+        ]
+        for thread in self.threads:
+            thread.start()
 
     def feed(self, files: DayFiles, _: object) -> None:
         """Writes the lines of the day files to the program as they grow."""
@@ -91,15 +114,9 @@ class StreamRun:
             elif line.startswith(b"lines,"):
                 _, outcome, count, _ = line.decode().split(",", 3)
                 self.counts[outcome] = int(count)
-        self.child.wait()
-        self.behind = False
+        self.status, self.behind = self.child.wait(), False
         listener.join()
         rows(("ended", self, b"".join(error).decode("utf-8", "replace").strip()))
-
-    def is_mine(self, subject: int, other: int, own: Collection[int]) -> bool:
-        """Returns whether a row is this run's to report: its subject is in the group, or is no subject at all and the
-        other is."""
-        return self.group is None or subject in self.group or bool(own) and subject not in own and other in self.group
 
     def stop(self) -> None:
         """Kills the program."""

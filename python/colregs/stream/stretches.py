@@ -21,12 +21,15 @@ from colregs.stream.rows import Sink
 from colregs.stream.types import EVER
 
 Key = tuple[int, int, str]      # the vessel that a rule binds, the other one, and the rule
-BOTH = "both"                   # both vessels of a pair are at rest
+BOTH, AT_REST = "both", "at rest"       # both vessels of a pair are at rest, and the mark of such a stretch
 FORGOTTEN = 7200                # s after her last report that a vessel is forgotten
 AGAIN = 60                      # s of the stream's clock between two looks at who is at rest in one stretch
 COUNTED = 60                    # s of the clock between two lines that count what is hidden
-# s of this machine's clock that an alarm waits for the points up to its time, and the end of a stretch for alarms
+# s of this machine's clock. Alarms and points come from two runs, so an alarm waits until the points up to its time are
+# there. A vessel may fall silent, so it waits no longer than this after the last point ..
 PATIENCE = 5
+FOR_PLACE = 60                  # .. nor than this in all, which is how long it waits if nobody knows its place
+FOR_ALARMS = 30                 # how long the end of a stretch waits for alarms
 # what a line says of a stretch: it is one of two vessels at rest, it begins, it is over
 RESTS, BEGINS, OVER = "rests", "begins", "over"
 
@@ -80,6 +83,10 @@ class Stretches:
         """Returns whether no later alarm can make a stretch longer."""
         return clock > one.last + self.wait
 
+    def is_open(self, one: AlarmStretch) -> bool:
+        """Returns whether a stretch is not closed yet: it is not over, or alarms may be on their way."""
+        return any(other is one for other in self.open.get(one.key, ()))
+
     def close(self, one: AlarmStretch) -> None:
         """Forgets a stretch that is over."""
         self.open[one.key].remove(one)
@@ -92,12 +99,13 @@ class Stretches:
         return sorted(done, key=lambda one: (one.last, one.number))
 
 
-def about(fleet: Fleet, earth: Earth, tick: int, key: Key, first: int, last: int) -> dict[str, Any]:
+def about(fleet: Fleet, earth: Earth, tick: int, key: Key, first: int, last: int,
+          known: tuple[str, list[str]] | None = None) -> dict[str, Any]:
     """Returns the names, types, place and marks of a stretch. The place is the subject's when the first step begins, in
-    degrees."""
+    degrees. `known` says who is at rest, and the marks, if they need not be computed."""
     subject, other, _ = key
     place = fleet.place(subject, first)
-    still, marks = marks_of(fleet, tick, (subject, other), first, last)
+    still, marks = known or marks_of(fleet, tick, (subject, other), first, last)
     return {
         "subject_name": fleet.name(subject), "other_name": fleet.name(other), "subject_type": fleet.kind_words(subject),
         "other_type": fleet.kind_words(other), "position": earth.degrees(*place) if place else None, "at_rest": still,
@@ -127,15 +135,18 @@ class StretchBook:
     restart writes none twice."""
 
     def __init__(self, folder: str, scenario: Scenario, fleet: Fleet, tell: Callable[[dict[str, Any]], None],
-                 joined: Callable[[AlarmStretch], None] | None = None) -> None:
-        """Takes what to call with each line, and perhaps what to call with a stretch that an alarm has joined."""
+                 joined: Callable[[AlarmStretch], None] | None = None, patience: int = PATIENCE) -> None:
+        """Takes what to call with each line, perhaps what to call with a stretch that an alarm has joined, and how many
+        seconds to wait for points that come late."""
         self.folder, self.fleet, self.tell, self.joined = folder, fleet, tell, joined
         self.stretches, self.earth = Stretches(scenario), Earth(scenario.values["reference"])
+        self.patience = patience
         # the last state that was reported of each open stretch, and the clock then
         self.states: dict[int, tuple[str, int]] = {}
         self.restored: list[dict[str, Any]] = []                # the lines that an earlier run wrote
         # what an earlier run reported: the beginnings of stretches by state, pair and rule
         self.before: dict[tuple[str, Key], set[int]] = {}
+        # alarms, and when each came
         self.waiting: collections.deque[tuple[dict[str, Any], float]] = collections.deque()
         # when to report by this machine's clock that stretches are over that are so by the stream's
         self.due: dict[int, float] = {}
@@ -167,18 +178,27 @@ class StretchBook:
     def take(self, row: dict[str, Any]) -> None:
         """Takes a row of the stream that is an alarm. It waits until the points up to its time are there, for they come
         from another run."""
-        self.waiting.append((row, time.monotonic() + PATIENCE))
+        self.waiting.append((row, time.monotonic()))
         self.release(False)
 
     def release(self, all_of_them: bool) -> None:
         """Joins the alarms that need not wait any longer."""
         while self.waiting:
-            row, until = self.waiting[0]
-            if not all_of_them and alarm_of(row,
-                                            self.stretches.tick)[2] > self.fleet.clock and time.monotonic() < until:
+            row, came = self.waiting[0]
+            if not all_of_them and self.may_learn_more(row, came):
                 return
             self.waiting.popleft()
             self.join(row)
+
+    def may_learn_more(self, row: dict[str, Any], came: float) -> bool:
+        """Returns whether points up to the time of an alarm may still come."""
+        (subject, _, _), first, decided = alarm_of(row, self.stretches.tick)
+        if decided <= self.fleet.clock:
+            return False
+        until = came + max(FOR_PLACE, self.patience)
+        if self.fleet.place(subject, first) is not None:
+            until = min(until, max(came, self.fleet.arrived) + self.patience)
+        return time.monotonic() < until
 
     def join(self, row: dict[str, Any]) -> None:
         """Joins an alarm to its stretch."""
@@ -206,7 +226,7 @@ class StretchBook:
         if state:
             self.states[one.number] = state, 0
         else:
-            self.waiting.append((row, time.monotonic() + PATIENCE))
+            self.waiting.append((row, time.monotonic()))
 
     def look(self, one: AlarmStretch, before: str) -> None:
         """Reports that a stretch began, or that it is one of two vessels at rest."""
@@ -235,7 +255,7 @@ class StretchBook:
         self.clock, now = clock, time.monotonic()
         self.release(False)
         for one in self.stretches.over(clock):
-            if now >= self.due.setdefault(one.number, now + PATIENCE):
+            if now >= self.due.setdefault(one.number, now + max(FOR_ALARMS, self.patience)):
                 self.end(one)
 
     def end(self, one: AlarmStretch) -> None:
@@ -260,10 +280,10 @@ class StretchSink:
     Pairs at rest are only counted, unless `all_pairs` asks for them.
     """
 
-    def __init__(self, sink: Sink, scenario: Scenario, folder: str, all_pairs: bool) -> None:
+    def __init__(self, sink: Sink, scenario: Scenario, folder: str, all_pairs: bool, patience: int = PATIENCE) -> None:
         self.sink, self.all_pairs = sink, all_pairs
         self.fleet = Fleet(scenario.gap)
-        self.book = StretchBook(folder, scenario, self.fleet, self.tell)
+        self.book = StretchBook(folder, scenario, self.fleet, self.tell, patience=patience)
         self.clock = 0
         self.count = 0                                  # stretches of pairs at rest
         self.counted = 0, 0                             # how many at the last line that says so, and the clock then

@@ -61,6 +61,12 @@ StandsAt situation basis plan at watched = (k : ℕ) (t : Target) (a : Already) 
     → Tells (formulas_of situation) cut (get_or basis.already.items k a)
     → Stands basis.program situation plan (get_or situation.targets k t) cut at (get_or watched k w)
 
+-- What is kept of the target with this index is early at a tick, and stands there if what was kept at an earlier one stands.
+pub record IsFollowedTo (situation : Situation) (basis : SearchBasis) (plan : List ℕ) (from to : ℕ) (old : List Watched) (k : ℕ) (watched : Watched) : Type 0 where
+  pub early : IsEarly to watched
+  pub stands : StandsAt situation basis plan from old → (t : Target) (a : Already) (cut : Trace) → IsCutAtNow situation (get_or situation.targets k t) cut
+      → Tells (formulas_of situation) cut (get_or basis.already.items k a) → Stands basis.program situation plan (get_or situation.targets k t) cut to watched
+
 -- All targets were followed from a tick to another under a plan, with the answer whether a rule is newly
 -- broken.
 pub record AreFollowed (situation : Situation) (basis : SearchBasis) (plan : List ℕ) (from to : ℕ) (old new : List Watched) (told : Bool) : Type 0 where

@@ -16,8 +16,8 @@ use Rattle.scenario_values.specs.declared.own_part.OwnPart.{OwnPart}
 use Rattle.scenario_values.specs.declared.values.Scenario.{Scenario}
 use Rattle.tracks.specs.VesselsHeld.{Sent}
 use Rattle.sessions.specs.PlanReport.{IsManoeuvre}
-use Rattle.report_parts.specs.PlanRows.{manoeuvre_rows}
-use Rattle.report_parts.specs.VesselRows.{near_rows}
+use Rattle.audit_report.specs.PlanRows.{manoeuvre_rows}
+use Rattle.audit_report.specs.VesselRows.{near_rows}
 
 -- Own ship was ready, and had not too many targets: a plan was sought in her situation, and the rows of the vessels near her and of her manoeuvre
 -- were written behind a front.

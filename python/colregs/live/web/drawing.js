@@ -1,7 +1,8 @@
 // Draws vessels, tracks, encounters and the net of degrees on one canvas over the map.
-import { degrees } from "./words.js";
+import { degrees, mercator } from "./words.js";
 
-const HULL = [[0, -9], [4.5, -2], [4.5, 8], [-4.5, 8], [-4.5, -2]];
+const HULL = [[0, -7.2], [3.6, -1.6], [3.6, 6.4], [-3.6, 6.4], [-3.6, -1.6]];
+const TILE = 256;                    // pixels of the world at Leaflet's zoom 0
 const STEPS = [1 / 600, 1 / 300, 1 / 120, 1 / 60, 1 / 30, 1 / 12, 1 / 6, 1 / 2, 1, 2, 5, 10, 20];
 const AHEAD = 360, TRACK = 900;      // s of the line of speed, and of the track behind a vessel
 const MOST_NAMES = 150, FEW = 1000;  // names at most; vessels beyond which tracks are drawn for those in alarm alone
@@ -21,7 +22,15 @@ export class Drawing {
     this.colours = Object.fromEntries(names.map((name) => [name, style.getPropertyValue(`--${name}`).trim()]));
   }
 
-  at(longitude, latitude) { return this.map.latLngToContainerPoint([latitude, longitude]); }
+  // Notes where the map is. Places are projected once, when they arrive, and not in each frame.
+  look() {
+    const { min } = this.map.getPixelBounds();
+    [this.scale, this.left, this.top] = [TILE * 2 ** this.map.getZoom(), min.x, min.y];
+  }
+
+  spot([x, y]) { return { x: x * this.scale - this.left, y: y * this.scale - this.top }; }
+
+  at(longitude, latitude) { return this.spot(mercator(longitude, latitude)); }
 
   fit() {
     const size = this.map.getSize(), ratio = devicePixelRatio || 1;
@@ -39,20 +48,21 @@ export class Drawing {
   // Draws all of a store. `chosen` has the MMSIs of the vessels that are chosen.
   draw(store, states, filters, chosen) {
     const size = this.fit(), { pen } = this;
+    this.look();
     pen.font = "11px Helvetica, Arial, sans-serif";
     this.net(size);
     this.spots = [];
     const shown = [];
     for (const vessel of store.vessels.values()) {
       if (vessel.latitude === undefined || !filters.vessel(vessel)) continue;
-      const point = this.at(vessel.longitude, vessel.latitude);
+      const point = this.spot(vessel.place);
       if (point.x < -60 || point.y < -60 || point.x > size.x + 60 || point.y > size.y + 60) continue;
       shown.push({ vessel, x: point.x, y: point.y, state: states.get(vessel.mmsi) || "calm", chosen: chosen.has(vessel.mmsi) });
     }
     const few = shown.length <= FEW;
     for (const spot of shown) if (few || spot.chosen || spot.state === "broken" || spot.state === "soon") this.track(spot);
     this.encounters(store, filters);
-    for (const spot of shown) this.vessel(spot);
+    this.vessels(shown);
     this.names(shown);
     this.area(filters.area);
     this.spots = shown;
@@ -73,7 +83,7 @@ export class Drawing {
     if (state === "rest" && !chosen) return;
     const points = [];
     for (let k = vessel.track.length - 1; k >= 0 && vessel.track[k][0] >= vessel.time - TRACK; k--) {
-      const point = this.at(vessel.track[k][1], vessel.track[k][2]);
+      const point = this.spot(vessel.track[k][1]);
       points.push([point.x, point.y]);
     }
     if (points.length > 1) this.line(points, chosen ? this.colours.focus : this.colours.track, chosen ? 2 : 1);
@@ -84,36 +94,49 @@ export class Drawing {
     }
   }
 
-  vessel({ vessel, x, y, state, chosen }) {
-    const { pen } = this, turn = vessel.heading ?? vessel.course;
-    pen.fillStyle = this.colours[state];
-    pen.strokeStyle = chosen ? this.colours.focus : this.colours.ground;
-    pen.lineWidth = chosen ? 2.5 : 1;
-    pen.save();
-    pen.translate(x, y);
+  // Draws the vessels: those of one state in one path, and then what only some have.
+  vessels(shown) {
+    const { pen } = this, hulls = new Map();
+    for (const spot of shown) {
+      if (!hulls.has(spot.state)) hulls.set(spot.state, new Path2D());
+      this.hull(hulls.get(spot.state), spot);
+    }
+    pen.lineWidth = 1;
+    for (const [state, path] of hulls) {
+      pen.fillStyle = this.colours[state];
+      pen.strokeStyle = state === "silent" ? this.colours.quiet : this.colours.ground;
+      if (state !== "silent") pen.fill(path);
+      pen.stroke(path);
+    }
+    for (const spot of shown) if (spot.chosen || spot.state === "broken" || spot.state === "soon") this.ring(spot);
+  }
+
+  hull(path, { vessel, x, y }) {
+    const degree = vessel.heading ?? vessel.course;
+    if (degree === null || degree === undefined) {
+      path.moveTo(x + 4, y);
+      path.arc(x, y, 4, 0, 7);
+      return;
+    }
+    const turn = degree * Math.PI / 180, sine = Math.sin(turn), cosine = Math.cos(turn);
+    HULL.forEach(([a, b], k) => path[k ? "lineTo" : "moveTo"](x + a * cosine - b * sine, y + a * sine + b * cosine));
+    path.closePath();
+  }
+
+  ring({ x, y, state, chosen }) {
+    const { pen } = this;
+    pen.strokeStyle = this.colours[chosen ? "focus" : state];
+    pen.lineWidth = chosen ? 2.5 : 2;
     pen.beginPath();
-    if (turn === null || turn === undefined) pen.arc(0, 0, 4, 0, 7);
-    else {
-      pen.rotate(turn * Math.PI / 180);
-      HULL.forEach(([a, b], k) => (k ? pen.lineTo(a * 0.8, b * 0.8) : pen.moveTo(a * 0.8, b * 0.8)));
-      pen.closePath();
-    }
-    if (state === "silent") { pen.strokeStyle = this.colours.quiet; pen.stroke(); } else { pen.fill(); pen.stroke(); }
-    pen.restore();
-    if (state === "broken" || state === "soon") {
-      pen.strokeStyle = this.colours[state];
-      pen.lineWidth = 2;
-      pen.beginPath();
-      pen.arc(x, y, 13, 0, 7);
-      pen.stroke();
-    }
+    pen.arc(x, y, 13, 0, 7);
+    pen.stroke();
   }
 
   encounters(store, filters) {
     for (const one of store.encounters.values()) {
       const ends = one.pair.map((mmsi) => store.vessels.get(mmsi));
       if (!ends[0] || !ends[1] || !filters.encounter(store, one)) continue;
-      const points = ends.map((vessel) => this.at(vessel.longitude, vessel.latitude)).map(({ x, y }) => [x, y]);
+      const points = ends.map((vessel) => this.spot(vessel.place)).map(({ x, y }) => [x, y]);
       this.line(points, this.colours.met, 1, [4, 4]);
     }
   }

@@ -2,6 +2,7 @@
 import { byId, date, distance, element, lasting, place, time } from "./words.js";
 
 const MOST = 300;       // entries of a list that are drawn
+const ORDER = new Intl.Collator();
 
 // The rule's meaning in words, by the settings of the server.
 function meaning(settings, rule) {
@@ -13,12 +14,17 @@ function span(first, last, open) {
   return `${date(first)} ${time(first)} to ${time(last)} UTC (${lasting(last - first)}${open ? ", lasting" : ""})`;
 }
 
-// What a state of an alarm says, with its times.
-function stateWords(alarm, settings) {
+// What a state of an alarm says, with its times and its delay.
+function stateWords(alarm, { tick }) {
+  const after = (at) => `${time(at)}, ${lasting(at - alarm.first - tick)} after the first step`;
   if (alarm.state === "withdrawn") return `withdrawn at ${time(alarm.withdrawn_at)}: later reports changed what the program says`;
-  if (alarm.state === "preliminary") return `preliminary since ${time(alarm.expected_at)}; settles ${settings.delay} s after its deciding step at the earliest`;
-  if (alarm.settled_to !== null && alarm.last > alarm.settled_to) return `settled up to ${time(alarm.settled_to)}, preliminary after that`;
-  return alarm.settled_at ? `settled at ${time(alarm.settled_at)}` : "settled";
+  if (alarm.state === "preliminary") return `preliminary since ${after(alarm.expected_at)}`;
+  const more = alarm.settled_to !== null && alarm.last > alarm.settled_to ? `, preliminary from ${time(alarm.settled_to)} on` : "";
+  return `${alarm.settled_at ? `settled at ${after(alarm.settled_at)}` : "settled"}${more}`;
+}
+
+function noteWords({ note, at, acknowledged }) {
+  return `${acknowledged ? "acknowledged" : "taken back"} ${date(at)} ${time(at)}${note ? `: ${note}` : ""}`;
 }
 
 function alarmEntry(alarm, settings) {
@@ -30,10 +36,10 @@ function alarmEntry(alarm, settings) {
       element("span", { class: "names" }, `${alarm.subject_name} \u2192 ${alarm.other_name}`)),
     element("div", {}, meaning(settings, alarm.rule)),
     element("div", { class: "figures quiet" }, span(alarm.first, alarm.last, alarm.lasting)),
-    element("div", { class: "quiet" }, `${stateWords(alarm, settings)}. ${types}. ${place(alarm.position)}`),
+    element("div", { class: "figures quiet" }, stateWords(alarm, settings)),
+    element("div", { class: "quiet" }, [types, place(alarm.position)].filter(Boolean).join("; ")),
     alarm.marks && alarm.marks.length ? element("div", {}, ...alarm.marks.map((mark) => element("span", { class: "chip mark" }, mark))) : null,
-    alarm.note ? element("div", { class: "note" }, `${acknowledged ? "acknowledged" : "taken back"} ${date(alarm.note.at)} ${time(alarm.note.at)}${
-      alarm.note.note ? `: ${alarm.note.note}` : ""}`) : null,
+    alarm.note ? element("div", { class: "note" }, noteWords(alarm.note)) : null,
     element("div", { class: "actions" }, element("button", { type: "button", "data-do": "meeting" }, "Show the meeting"),
       element("button", { type: "button", "data-do": "acknowledge" }, acknowledged ? "Acknowledgement" : "Acknowledge"),
       element("a", { class: "button", href: `/api/alarms/${encodeURIComponent(alarm.id)}/case`, download: true }, "Make a case")));
@@ -54,15 +60,17 @@ function rowEntry(row, settings) {
     : [element("span", { class: "chip" }, row.encounter.replace("_", " "))];
   return element("li", { tabindex: 0, "data-id": row.id }, element("div", { class: "head" }, ...head, `${row.subject_name} \u2192 ${row.other_name}`),
     element("div", { class: "figures quiet" }, `${row.begins.replace("T", " ").replace("Z", "")} to ${row.ends.slice(11, 19)} UTC${
-      row.least === undefined ? "" : `; least ${distance(row.least)}`}${row.begins_before ? "; began before its window" : ""}`));
+      row.least === undefined ? "" : `; least ${distance(row.least)}`}${row.begins_before ? "; began before its window" : ""}${
+      row.ends_after ? "; its end is not known" : ""}${row.doubt ? "; doubtful" : ""}`));
 }
 
 function vesselEntry(vessel, clock) {
   const figures = [vessel.speed === null ? "" : `${vessel.speed.toFixed(1)} kn`, vessel.course === null ? "" : `course ${Math.round(vessel.course)}\u00b0`,
-    vessel.heading === null ? "" : `heading ${vessel.heading}\u00b0`, `${lasting(clock - vessel.time)} ago`].filter(Boolean).join(", ");
+    vessel.heading === null ? "" : `heading ${vessel.heading}\u00b0`].filter(Boolean);
   return element("li", { tabindex: 0, "data-id": vessel.mmsi }, element("div", { class: "head" }, vessel.name || String(vessel.mmsi)),
     element("div", { class: "quiet" }, [vessel.mmsi, vessel.type, vessel.length ? `${vessel.length} m` : "", vessel.status].filter(Boolean).join(", ")),
-    element("div", { class: "figures quiet" }, figures));
+    element("div", { class: "figures quiet" }, [...figures, `${lasting(clock - vessel.time)} ago`].join(", "),
+      element("span", { class: "seen" }, ` at ${time(vessel.time)} UTC`)));
 }
 
 // One list: which entries there are, in which order, and how each is drawn.
@@ -127,7 +135,7 @@ export class Lists {
     const rows = store.rows.filter((row) => filters.row(store, row)).reverse();
     lists.rows.show(rows, (row) => row.id, (row) => String(row.id), (row) => rowEntry(row, settings), open === "rows");
     const vessels = [...store.vessels.values()].filter((vessel) => filters.vessel(vessel));
-    vessels.sort((a, b) => (a.name || "~").localeCompare(b.name || "~") || a.mmsi - b.mmsi);
+    if (open === "vessels") vessels.sort((a, b) => ORDER.compare(a.name || "~", b.name || "~") || a.mmsi - b.mmsi);
     const words = (vessel) => `${vessel.time} ${vessel.name} ${vessel.status} ${vessel.type} ${Math.round((store.clock - vessel.time) / 30)}`;
     lists.vessels.show(vessels, (vessel) => vessel.mmsi, words, (vessel) => vesselEntry(vessel, store.clock), open === "vessels");
     const all = { alarms, encounters, rows, vessels }[open];

@@ -156,10 +156,10 @@ function listen() {
   byId("area").addEventListener("click", () => { if (map) { byId("area").setAttribute("aria-pressed", "true"); map.askArea(); } });
 }
 
-function areaDrawn(bounds) {
-  byId("area").setAttribute("aria-pressed", "false");
+function areaDrawn(bounds, isDone) {
+  if (isDone) byId("area").setAttribute("aria-pressed", "false");
   filters.area = bounds;
-  show();
+  soon();
 }
 
 async function start() {

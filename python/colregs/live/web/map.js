@@ -3,6 +3,7 @@ import { Drawing } from "./drawing.js";
 import { byId } from "./words.js";
 
 const FRAME = 100;      // ms between two drawings
+const SETTLING = 15000; // ms after the page is opened in which the map shows all vessels, unless the user moves it
 
 export class ChartMap {
   // `view` returns what to draw: store, states, filters and chosen. `choose` is called with a vessel that is clicked, or null.
@@ -10,7 +11,8 @@ export class ChartMap {
     this.view = view;
     this.drawn = 0;
     this.waits = false;
-    this.fitted = false;
+    this.fitted = 0;            // the vessels that the map was fitted to
+    this.moved = false;
     this.map = L.map("map", { attributionControl: Boolean(settings.tiles), zoomSnap: 0.25, maxZoom: 19, minZoom: 2, fadeAnimation: false, zoomAnimation: false,
       inertia: false, keyboard: true });
     this.map.setView([settings.centre[1], settings.centre[0]], 12);
@@ -19,10 +21,11 @@ export class ChartMap {
     if (settings.chart) this.addChart();
     this.drawing = new Drawing(byId("drawing"), this.map);
     this.map.on("move zoom resize viewreset", () => this.now());
-    this.map.on("click", ({ containerPoint }) => choose(this.drawing.near(containerPoint.x, containerPoint.y)));
+    this.map.on("click", ({ containerPoint }) => { if (!this.asksArea) choose(this.drawing.near(containerPoint.x, containerPoint.y)); });
     this.map.on("mousemove", ({ containerPoint }) => {
       this.map.getContainer().style.cursor = this.asksArea ? "" : this.drawing.near(containerPoint.x, containerPoint.y) ? "pointer" : "";
     });
+    for (const kind of ["pointerdown", "wheel", "keydown"]) this.map.getContainer().addEventListener(kind, () => { this.moved = true; });
     new ResizeObserver(() => this.map.invalidateSize({ animate: false })).observe(byId("map"));
     this.askAreas(areaDrawn);
   }
@@ -52,13 +55,14 @@ export class ChartMap {
   now() {
     this.drawn = performance.now();
     const { store, states, filters, chosen } = this.view();
-    if (!this.fitted && store.vessels.size) this.fit(store);
+    const isNew = !this.moved && performance.now() < SETTLING && store.vessels.size > this.fitted;
+    if (isNew || !this.fitted && store.vessels.size) this.fit(store);
     this.drawing.draw(store, states, filters, chosen);
   }
 
   // Shows all vessels.
   fit(store) {
-    this.fitted = true;
+    this.fitted = store.vessels.size;
     const places = [...store.vessels.values()].filter((vessel) => vessel.latitude !== undefined).map((vessel) => [vessel.latitude, vessel.longitude]);
     if (places.length) this.map.fitBounds(L.latLngBounds(places).pad(0.08), { animate: false, maxZoom: 15 });
   }
@@ -69,25 +73,31 @@ export class ChartMap {
     else if (known.length) this.map.fitBounds(L.latLngBounds(known).pad(0.6), { animate: false, maxZoom: 15 });
   }
 
-  // Lets the user draw an area: from where a button goes down to where it goes up.
+  // Lets the user draw an area: from where a button goes down to where it goes up. `areaDrawn` is called with the bounds so far, and whether
+  // they are the last ones.
   askAreas(areaDrawn) {
     let corner = null;
     const { map } = this, container = map.getContainer();
-    const end = (at) => {
-      this.asksArea = false;
+    const bounds = (event) => L.latLngBounds(corner, map.mouseEventToLatLng(event));
+    const end = (area) => {
+      setTimeout(() => { this.asksArea = false; });         // after the click that the map makes of it
       map.dragging.enable();
       container.classList.remove("crosshair");
-      areaDrawn(at && corner && L.latLngBounds(corner, at));
       corner = null;
+      areaDrawn(area, true);
     };
     this.askArea = () => {
       this.asksArea = true;
       map.dragging.disable();
       container.classList.add("crosshair");
     };
-    const place = (event) => map.mouseEventToLatLng(event);
-    container.addEventListener("pointerdown", (event) => { if (this.asksArea) { corner = place(event); container.setPointerCapture(event.pointerId); } });
-    container.addEventListener("pointerup", (event) => { if (this.asksArea && corner) end(place(event)); });
+    container.addEventListener("pointerdown", (event) => {
+      if (!this.asksArea) return;
+      corner = map.mouseEventToLatLng(event);
+      container.setPointerCapture(event.pointerId);
+    });
+    container.addEventListener("pointermove", (event) => { if (corner) areaDrawn(bounds(event), false); });
+    container.addEventListener("pointerup", (event) => { if (corner) end(bounds(event)); });
     container.addEventListener("pointercancel", () => { if (this.asksArea) end(null); });
   }
 }

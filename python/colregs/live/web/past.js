@@ -9,6 +9,12 @@ export class Past {
     Object.assign(this, { live, changed, store: null, asked: null, timer: 0 });
     this.slider = byId("slider");
     this.slider.addEventListener("input", () => this.ask(Number(this.slider.value)));
+    this.moment = byId("moment");
+    this.moment.addEventListener("change", () => {
+      const at = Date.parse(`${this.moment.value.trim().replace(" ", "T")}Z`) / 1000;
+      this.moment.blur();
+      if (Number.isFinite(at)) this.ask(at); else this.fitMoment();
+    });
     byId("earlier").addEventListener("click", () => this.move(-60));
     byId("later").addEventListener("click", () => this.move(60));
     byId("now").addEventListener("click", () => this.end());
@@ -22,6 +28,13 @@ export class Past {
     this.slider.min = Math.floor(health.first / STEP) * STEP;
     this.slider.max = Math.ceil(clock / STEP) * STEP;
     if (this.asked === null) this.slider.value = this.slider.max;
+    this.fitMoment();
+  }
+
+  // Shows the moment in its field, unless the user is writing there.
+  fitMoment() {
+    const at = Number(this.slider.value);
+    if (document.activeElement !== this.moment) this.moment.value = `${date(at)} ${time(at)}`;
   }
 
   move(seconds) { this.ask((this.asked ?? this.live.clock) + seconds); }
@@ -31,6 +44,7 @@ export class Past {
     if (at >= this.live.clock - STEP) { this.end(); return; }
     this.asked = Math.max(Number(this.slider.min), Math.round(at / STEP) * STEP);
     this.slider.value = this.asked;
+    this.fitMoment();
     byId("past").hidden = false;
     byId("past-time").textContent = `${date(this.asked)} ${time(this.asked)} UTC`;
     byId("past-words").textContent = "reading \u2026";

@@ -1,4 +1,5 @@
 // The state of the stream as the server sends it: a snapshot, and then numbered changes.
+import { mercator } from "./words.js";
 
 const MOST_ROWS = 500, TRACK_SECONDS = 3600, MOST_PLACES = 400;
 
@@ -23,7 +24,7 @@ export class Store {
       const vessel = this.vessels.get(Number(mmsi));
       if (!vessel) continue;
       vessel.track = [];
-      for (let k = flat.length - 3; k >= 0; k -= 3) vessel.track.push([flat[k], flat[k + 1], flat[k + 2]]);
+      for (let k = flat.length - 3; k >= 0; k -= 3) vessel.track.push([flat[k], mercator(flat[k + 1], flat[k + 2])]);
     }
     this.alarms = new Map(snapshot.alarms.map((alarm) => [alarm.id, alarm]));
     this.encounters = new Map(snapshot.encounters.map((one) => [one.id, one]));
@@ -55,9 +56,9 @@ export class Store {
     let vessel = this.vessels.get(mmsi);
     if (!vessel) this.vessels.set(mmsi, vessel = { mmsi, name: "", type: "", length: 0, status: "", track: [], time: 0 });
     if (time < vessel.time) return;
-    Object.assign(vessel, { time, longitude, latitude, speed, course, heading });
+    Object.assign(vessel, { time, longitude, latitude, speed, course, heading, place: mercator(longitude, latitude) });
     const { track } = vessel;
-    if (!track.length || track[track.length - 1][0] < time) track.push([time, longitude, latitude]);
+    if (!track.length || track[track.length - 1][0] < time) track.push([time, vessel.place]);
     if (track.length > MOST_PLACES || track[0][0] < time - 2 * TRACK_SECONDS) {
       vessel.track = track.filter(([at]) => at >= time - TRACK_SECONDS).slice(-MOST_PLACES / 2);
     }

@@ -29,6 +29,12 @@ export function date(seconds) {
   return `${at.getUTCFullYear()}-${two(at.getUTCMonth() + 1)}-${two(at.getUTCDate())}`;
 }
 
+// A place on the map of the web: 0 to 1 from west to east, and from north to south.
+export function mercator(longitude, latitude) {
+  const sine = Math.max(-0.9999, Math.min(0.9999, Math.sin(latitude * Math.PI / 180)));
+  return [longitude / 360 + 0.5, 0.5 - Math.log((1 + sine) / (1 - sine)) / (4 * Math.PI)];
+}
+
 // A length of time in words, as 4 min 10 s.
 export function lasting(seconds) {
   const whole = Math.max(0, Math.round(seconds)), minutes = Math.floor(whole / 60);

@@ -2,11 +2,12 @@
 "use strict";
 const Charts = (() => {
   const WIDE = 640, LEFT = 58, RIGHT = 46, HIGH = 118, GAP = 36, ROWS = 4, SAMPLES = 300, LONGEST = 3600;
+  const FROMS = [0, -180, -90, -270];     // degrees at which the scale of courses may begin
   const across = WIDE - LEFT - RIGHT;
   let now = null, moment = null;
 
   // The values of a report's field between two times, in parts: a part ends if a report has none or the next comes too late.
-  // Of courses `from` is the least value of the scale, 0 or -180 degrees; for other fields it is null.
+  // Of courses `from` is the least value of the scale, one of FROMS; for other fields it is null.
   function told(track, field, first, last, from) {
     const parts = [];
     let part = [];
@@ -83,10 +84,10 @@ const Charts = (() => {
   function ruleWords(svg, top, meeting) {
     const rows = [];
     [...meeting.verdicts].sort((p, q) => p.first - q.first).forEach((verdict) => {
-      const rule = HELD.rules[verdict.rule], words = `${rule.name} ${nameOf(verdict.pair[0])}`, left = Math.min(x(begins(verdict)), WIDE - RIGHT - words.length * 5.6);
+      const rule = HELD.rules[verdict.rule], words = `${rule.name} ${nameOf(verdict.pair[0])}`, wide = words.length * 6.6, left = Math.max(LEFT, Math.min(x(begins(verdict)), WIDE - RIGHT - wide));
       let row = rows.findIndex((until) => until < left);
       if (row < 0) row = rows.push(0) - 1;
-      rows[row] = left + words.length * 6 + 6;
+      rows[row] = left + wide + 6;
       if (row < 9) svg.append(drawn("text", { x: left + 2, y: top + 11 + 12 * row, "font-size": 10, "font-weight": "bold", fill: rule.colour, stroke: "#ffffff",
         "stroke-width": 2.5, "paint-order": "stroke" }, words));
     });
@@ -141,8 +142,9 @@ const Charts = (() => {
   function dutyWords(svg, top, meeting) {
     const mark = (time, words, row) => {
       svg.append(drawn("line", { x1: x(time), x2: x(time), y1: top, y2: top + HIGH, stroke: "#7a2e00", "stroke-width": 1.2, class: "duty" }));
-      svg.append(drawn("text", { x: x(time) + 3, y: top + HIGH - 5 - 11 * row, "font-size": 9.5, fill: "#7a2e00", stroke: "#ffffff", "stroke-width": 2.5,
-        "paint-order": "stroke" }, words));
+      const isLate = x(time) > WIDE - 6 * words.length;        // then the words stand before the line
+      svg.append(drawn("text", { x: x(time) + (isLate ? -3 : 3), y: top + HIGH - 5 - 11 * row, "font-size": 9.5, fill: "#7a2e00", stroke: "#ffffff",
+        "stroke-width": 2.5, "paint-order": "stroke", "text-anchor": isLate ? "end" : "start" }, words));
     };
     if (!dutiesOf(meeting).length) return;
     mark(begins(meeting), `duties begin ${clockOnly(begins(meeting))}`, 1);
@@ -157,8 +159,8 @@ const Charts = (() => {
   }
 
   function pairChart(svg, top, meeting, field, title) {
-    // A course near north is one line on a scale from -180 to 180 degrees, which is labelled from 180 over 0 to 180.
-    const from = field !== "courses" ? null : breaks(meeting, -180) < breaks(meeting, 0) ? -180 : 0;
+    // A course near north is one line on a scale that begins elsewhere, as from -180 to 180 degrees, labelled from 180 over 0 to 180.
+    const from = field !== "courses" ? null : FROMS.reduce((best, next) => (breaks(meeting, next) < breaks(meeting, best) ? next : best));
     const both = meeting.pair.map((number) => told(TRACKS[number], field, now.first, now.last, from));
     const high = greatest(both.flat(), 1) * 1.1;
     const [low, most, every] = field === "courses" ? courseRange(both, from) : [0, high, nice(high / 4)];
@@ -214,8 +216,8 @@ const Charts = (() => {
     pairChart(svg, top + 2 * step, meeting, "courses", "Course over ground, degrees");
     pairChart(svg, top + 3 * step, meeting, "speeds", "Speed over ground, knots");
     legend(svg, top + ROWS * step + 12, meeting);
-    moment = drawn("line", { x1: LEFT, x2: LEFT, y1: 16, y2: 16 + ROWS * HIGH + (ROWS - 1) * GAP, stroke: "#b8860b", "stroke-width": 1.5, class: "moment",
-      visibility: "hidden" });
+    const frames = Array.from({ length: ROWS }, (_, k) => `M0 ${top + k * step}v${HIGH}`).join("");
+    moment = drawn("path", { d: frames, stroke: "#b8860b", "stroke-width": 1.5, class: "moment", visibility: "hidden" });
     svg.append(moment);
     follow(svg, meeting);
     document.getElementById("charts").replaceChildren(svg);
@@ -226,7 +228,7 @@ const Charts = (() => {
     if (!moment) return;
     const inside = time >= now.first && time <= now.last;
     moment.setAttribute("visibility", inside ? "visible" : "hidden");
-    for (const end of inside ? ["x1", "x2"] : []) moment.setAttribute(end, x(time).toFixed(1));
+    if (inside) moment.setAttribute("transform", `translate(${x(time).toFixed(1)} 0)`);
   }
   return { draw, at };
 })();

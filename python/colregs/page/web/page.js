@@ -8,7 +8,7 @@ const Page = (() => {
 
   function fillHead() {
     byId("title").textContent = HELD.title;
-    byId("window").textContent = `${HELD.window}, ${HELD.steps} steps of ${HELD.tick} s`;
+    byId("window").textContent = `${HELD.window}, ${counted(HELD.steps, "step")} of ${HELD.tick} s`;
     list("summary", HELD.summary);
     list("doubts", HELD.doubts.length ? HELD.doubts : ["Nothing was found."]);
   }
@@ -161,7 +161,7 @@ const Page = (() => {
     const [a, b] = meeting.pair;
     const part = (k) => `${nameOf(meeting.pair[k])}${meeting.what[k] ? ` (${meeting.what[k]})` : ""} ${meeting.kinds[k]}`;
     byId("chosen").textContent = `Meeting ${meeting.number + 1}: ${nameOf(a)} and ${nameOf(b)}`;
-    const near = `${metres(meeting.least)} m (${miles(meeting.least)} nautical miles) at ${clockOnly(meeting.nearest)}`;
+    const near = `${lengths(meeting.least)} at ${clockOnly(meeting.nearest)}`;
     const words = element("span", `${meeting.told} `), more = element("span", `${utc(begins(meeting))} to ${endWords(meeting)} UTC. ${part(0)}; ${part(1)}. Nearest ${near}. `);
     const still = markWords(meeting);
     const when = (v) => `${clockOnly(begins(v))} to ${clockOnly(ends(v))}`;
@@ -220,9 +220,10 @@ const Page = (() => {
     document.documentElement.dataset.ready = "yes";
   }
 
-  // On paper map and chart by time have the paper's width.
+  // On paper map and chart by time have the paper's width, and what the marks mean is unfolded.
   function paper(on) {
     document.body.classList.toggle("paper", on);
+    byId("meetings").querySelector("details").open = on;
     MapView.resize();
     if (on) Times.draw(45, 690); else Times.draw();
   }

@@ -2,6 +2,7 @@
 "use strict";
 const Playback = (() => {
   const VECTOR = 360, FRAME = 50, LEAST = 9;      // s, ms between two pictures, and pixels of the shortest hull
+  const NAMED = 0.01;                             // pixels for a metre from which on the two have their names
   const SPEEDS = [1, 2, 5, 10, 20, 30, 60];
   const view = { time: 0 };
   const byId = (id) => document.getElementById(id);
@@ -49,7 +50,7 @@ const Playback = (() => {
     paper.globalAlpha = mine >= 0 ? 0.9 : 0.55;
     paper.fill();
     paper.globalAlpha = 1;
-    if (mine >= 0) { paper.font = "bold 11px sans-serif"; paper.fillText(nameOf(number), at.x + 8, at.y - 8); }
+    if (mine >= 0 && pixels > NAMED) { paper.font = "bold 11px sans-serif"; paper.fillText(nameOf(number), at.x + 8, at.y - 8); }
     return true;
   }
 

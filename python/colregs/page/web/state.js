@@ -78,6 +78,7 @@ function clockOnly(seconds) { return utc(seconds).slice(-8); }
 function begins(row) { return row.first * HELD.tick; }
 function ends(row) { return (row.last + 1) * HELD.tick; }
 function metres(value) { return value < 10 ? value.toFixed(1) : Math.round(value).toLocaleString("en"); }
+function lengths(value) { return value < 10 ? `${metres(value)} m` : `${metres(value)} m (${miles(value)} nautical miles)`; }
 function miles(value) { return (value / MILE).toFixed(value < 0.05 * MILE ? 3 : 2); }
 function nameOf(number) { return HELD.vessels[number].name; }
 function fullName(number) {

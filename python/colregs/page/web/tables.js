@@ -71,9 +71,9 @@ class Table {
   draw() {
     const rows = this.filtered.slice(0, this.shown);
     this.body.replaceChildren(...rows.map((row) => this.row(row)));
-    const all = this.filtered.length === this.rows.length ? `${this.rows.length}` : `${this.filtered.length} of ${this.rows.length}`;
-    const noun = this.rows.length === 1 ? "row" : "rows";
-    this.note.textContent = rows.length < this.filtered.length ? `${all} ${noun}, the first ${rows.length} are shown` : `${all} ${noun}`;
+    const every = counted(this.rows.length, "row"), found = this.filtered.length.toLocaleString("en");
+    const all = this.filtered.length === this.rows.length ? every : `${found} of ${every}`;
+    this.note.textContent = rows.length < this.filtered.length ? `${all}, the first ${rows.length} are shown` : all;
     this.button.hidden = rows.length === this.filtered.length;
     this.heads.forEach((head, k) => { head.classList.toggle("sorted", k === this.sorted); head.classList.toggle("down", k === this.sorted && this.down); });
   }

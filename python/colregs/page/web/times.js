@@ -1,12 +1,12 @@
 // The chart by time: a row for each two vessels; only the rows in view are drawn.
 "use strict";
 const Times = (() => {
-  const ROW = 20, LEFT = 250, RIGHT = 14;
+  const ROW = 20, RIGHT = 14, LETTER = 6.5;      // pixels; LETTER is the width of a letter of a name
   const LEGEND = "Grey: the meeting, light where a vessel lies still. Below it, in the colours of the rules: stretches that are broken "
     + "(filled) or open (hollow).";
   const box = document.getElementById("times-rows"), space = document.getElementById("times-space");
   const view = { onChoose() {} };
-  let pairs = [], wide = 900, first = 0, last = 1, chosen = null;
+  let pairs = [], wide = 900, left = 250, first = 0, last = 1, chosen = null;
 
   function grouped(meetings) {
     const found = new Map();
@@ -18,10 +18,11 @@ const Times = (() => {
     return [...found.values()];
   }
 
-  function x(time) { return LEFT + (wide - LEFT - RIGHT) * (time - first) / (last - first); }
+  function x(time) { return left + (wide - left - RIGHT) * (time - first) / (last - first); }
 
   function axis() {
-    const every = [60, 120, 300, 600, 900, 1800, 3600, 7200, 10800, 21600, 43200].find((s) => (last - first) / s <= 12) || 86400;
+    const most = Math.min(12, (wide - left) / 48);
+    const every = [60, 120, 300, 600, 900, 1800, 3600, 7200, 10800, 21600, 43200].find((s) => (last - first) / s <= most) || 86400;
     const svg = drawn("svg", { width: wide, height: 18, "font-family": "inherit" });
     const marks = [];
     const offset = HELD.start % every;
@@ -33,8 +34,8 @@ const Times = (() => {
   }
 
   function bar(svg, meeting, y) {
-    const left = x(begins(meeting)), width = Math.max(2, x(ends(meeting)) - left);
-    const rect = drawn("rect", { x: left, y: y + 3, width, height: 7, fill: meeting === chosen ? "#e0a100" : meeting.rest.length ? "#c3cad0" : "#5b6770",
+    const from = x(begins(meeting)), width = Math.max(2, x(ends(meeting)) - from);
+    const rect = drawn("rect", { x: from, y: y + 3, width, height: 7, fill: meeting === chosen ? "#e0a100" : meeting.rest.length ? "#c3cad0" : "#5b6770",
       class: "meeting", "data-meeting": String(meeting.number + 1) });
     rect.append(drawn("title", {}, `Meeting ${meeting.number + 1}: ${meeting.pair.map(nameOf).join(" and ")}, ${metres(meeting.least)} m`));
     rect.addEventListener("click", () => view.onChoose(meeting));
@@ -53,7 +54,8 @@ const Times = (() => {
     for (let k = low; k < high; k++) {
       const y = (k - low) * ROW, here = chosen && pairs[k].includes(chosen);
       let words = pairs[k][0].pair.map(nameOf).join(" \u2013 ");
-      words = words.length > 38 ? `${words.slice(0, 37)}\u2026` : words;
+      const room = Math.floor(left / LETTER);
+      words = words.length > room ? `${words.slice(0, room - 1)}\u2026` : words;
       svg.append(drawn("text", { x: 6, y: y + 14, "font-size": 11, fill: "#222222", "font-weight": here ? "bold" : "normal" }, words));
       svg.append(drawn("line", { x1: 0, x2: wide, y1: y + ROW, y2: y + ROW, stroke: "#f0f2f4" }));
       pairs[k].forEach((meeting) => bar(svg, meeting, y));
@@ -65,7 +67,8 @@ const Times = (() => {
   view.draw = (most, paper) => {
     if (!pairs.length) { space.replaceChildren(); return; }
     box.style.height = `${most ? Math.min(most, pairs.length) * ROW + 4 : Math.min(360, pairs.length * ROW + 4)}px`;
-    wide = paper || Math.max(600, box.clientWidth - 2);
+    wide = paper || Math.max(300, box.clientWidth - 2);
+    left = Math.min(250, 0.38 * wide);
     const marks = axis(), low = most ? 0 : Math.max(0, Math.floor(box.scrollTop / ROW) - 5);
     const high = Math.min(pairs.length, most || low + Math.ceil(box.clientHeight / ROW) + 10);
     space.style.height = `${(most ? high : pairs.length) * ROW}px`;

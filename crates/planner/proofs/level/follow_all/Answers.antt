@@ -1,127 +1,50 @@
-use Rattle.std.proofs.Common.{◌≡◌, ℕ, ◌+◌, ◌<◌, List, length, get_or, sym, ap, subst, ◌∙◌, arith}
-use Rattle.std.proofs.lemmas.List.{get_or_default, length-set}
-use Rattle.std.proofs.lemmas.List.Elements.{All-set}
-use Rattle.mtl_formulas.specs.Traces.{Trace}
-use Rattle.plan_situations.specs.FailingPlans.{BreaksARule}
-use Rattle.planner.specs.Inner.Breaking.{Tells, formulas_of}
-use Rattle.planner.specs.Inner.Watching.{IsCutAtNow, IsEarly, IsReady, Stands}
+use Rattle.std.proofs.Common.{ℕ, ◌+◌, length, arith}
+use Rattle.planner.specs.Inner.Levels.{IsFollowedTo}
 use Rattle.plan_situations.specs.Prefixes.{reached}
-use Rattle.plan_situations.specs.Situations.{IsTarget}
-use Rattle.planner.specs.declared.already.Already.{Already}
-use Rattle.plan_situations.specs.declared.situation.Target.{Target}
 use Rattle.planner.specs.declared.watched.Watched.{Watched}
-use Rattle.plan_situations.proofs.FlatList.{some_here}
-use Rattle.planner.proofs.Places.{done_set, rules_few, stands_here, told_here}
+use Rattle.planner.proofs.Places.{in_turn}
 use Rattle.planner.proofs.level.follow_all.Goals as goal
 
-pub follow_from-requires-clause-towards : goal.follow_from-requires-clause-towards
-follow_from-requires-clause-towards c =
+pub returns-clause-early : goal.returns-clause-early
+returns-clause-early c = λ e k w lt.
     let s = c.args.situation.now in
-    let k = c.loop-k.k in
-    let count = c.requires.targets.count in
-    let long = c.loop-k.invariant.count in
-    let lt = c.loop-k-test.true in
-    let inside : k < length s.targets = omega arith in
-    let T = c.index-as_slice-k.result in
-    let is_target : T ≡ get_or s.targets k T = c.index-as_slice-k.is ∙ ap (λ (xs : List Target). get_or xs k T) c.as_slice.ensures in
-    record {
-      is_situation = c.requires.basis.is_situation;
-      is_target = subst (IsTarget s) (sym is_target) (c.requires.basis.is_situation.are_targets k T inside);
-      of_rules = c.requires.basis.of_rules;
-      few = c.requires.basis.few;
-      no_last = c.requires.basis.no_last;
-      rules = rules_few s c.args.basis.now c.requires.basis k c.index.result.now c.index.ensures inside T;
-    }
-
-pub follow_from-requires-clause-from : goal.follow_from-requires-clause-from
-follow_from-requires-clause-from c =
-    let count = c.requires.targets.count in
-    let long = c.loop-k.invariant.count in
-    let of_from = c.requires.from.count in
-    let lt = c.loop-k-test.true in
-    subst (IsReady c.args.basis.now.program) (sym c.index-from-k.is) (c.requires.from.ready c.loop-k.k c.index-from-k.result (omega arith))
-
-pub follow_from-requires-clause-early : goal.follow_from-requires-clause-early
-follow_from-requires-clause-early c =
-    let count = c.requires.targets.count in
-    let long = c.loop-k.invariant.count in
-    let of_from = c.requires.from.count in
-    let lt = c.loop-k-test.true in
-    subst (IsEarly (reached c.args.situation.now c.args.leg.now.index)) (sym c.index-from-k.is) (c.requires.early c.loop-k.k c.index-from-k.result (omega arith))
-
-pub returns-then-follow_from-clause-targets : goal.returns-then-follow_from-clause-targets
-returns-then-follow_from-clause-targets c =
-    let count = c.requires.targets.count in
-    record {
-      count = length-set c.loop-k.watched c.loop-k.k c.follow_from.new.watched ∙ (c.loop-k.invariant.count ∙ count);
-      ready = All-set (IsReady c.args.basis.now.program) c.loop-k.watched c.loop-k.k c.follow_from.new.watched c.follow_from.ensures.ready c.loop-k.invariant.ready;
-    }
-
-pub returns-then-follow_from-clause-followed : goal.returns-then-follow_from-clause-followed
-returns-then-follow_from-clause-followed c =
-    let s = c.args.situation.now in
-    let basis = c.args.basis.now in
     let W = c.args.leg.now.plan in
-    let k = c.loop-k.k in
-    let count = c.requires.targets.count in
-    let long = c.loop-k.invariant.count in
-    let lt = c.loop-k-test.true in
-    let inside : k < length s.targets = omega arith in
-    let T = c.index-as_slice-k.result in
-    let A = c.index.result.now in
-    let is_target : T ≡ get_or s.targets k T = c.index-as_slice-k.is ∙ ap (λ (xs : List Target). get_or xs k T) c.as_slice.ensures in
-    let told = told_here s basis c.requires.basis k T A is_target c.index.ensures inside in
-    let P = BreaksARule s W (reached s (c.args.leg.now.index + 1)) in
-    record {
-      stands = λ e. cc;
-      breaks = λ e stands.
-          let was = stands_here s basis W _ c.args.from.now k T A c.index-from-k.result is_target c.index.ensures c.index-from-k.is inside stands told.cut told.is_cut told.tells in
-          some_here P s.targets k T inside (subst P is_target (c.follow_from.ensures.followed.breaks c.if-follow_from.true told.cut (record { is_cut = told.is_cut; tells = told.tells }) was));
-    }
-
-pub loop-k-preserved : goal.loop-k-preserved
-loop-k-preserved c =
-    let s = c.args.situation.now in
-    let basis = c.args.basis.now in
-    let plan = c.args.leg.now.plan in
+    let start = reached s c.args.leg.now.index in
     let end = reached s (c.args.leg.now.index + 1) in
-    let k = c.loop-k.k in
-    let count = c.requires.targets.count in
-    let long = c.loop-k.invariant.count in
-    let lt = c.loop-k-test.true in
-    let inside : k < length s.targets = omega arith in
-    let many = c.requires.basis.count in
-    let T = c.index-as_slice-k.result in
-    let A = c.index.result.now in
-    let within : k < length c.loop-k.watched = omega arith in
-    let W = c.index-from-k.result in
-    let next = c.follow_from.new.watched in
-    let is_target : T ≡ get_or s.targets k T = c.index-as_slice-k.is ∙ ap (λ (xs : List Target). get_or xs k T) c.as_slice.ensures in
-    record {
-      count = length-set c.loop-k.watched k next ∙ long;
-      ready = All-set (IsReady basis.program) c.loop-k.watched k next c.follow_from.ensures.ready c.loop-k.invariant.ready;
-      early = done_set (λ (i : ℕ) (x : Watched). IsEarly end x) c.loop-k.watched k next within c.loop-k.invariant.early (c.follow_from.ensures.early c.if-follow_from.false);
-      stands = λ stands j t a w cut below is_cut tells.
-          done_set (λ (i : ℕ) (x : Watched). (t : Target) (a : Already) (cut : Trace) → IsCutAtNow s (get_or s.targets i t) cut → Tells (formulas_of s) cut (get_or basis.already.items i a)
-          → Stands basis.program s plan (get_or s.targets i t) cut end x) c.loop-k.watched k next within
-          (λ i x before t a cut is_cut tells. c.loop-k.invariant.stands stands i t a x cut before is_cut tells)
-          (λ t a cut is_cut tells.
-          let same_target : get_or s.targets k t ≡ T = get_or_default s.targets k t T inside ∙ sym is_target in
-          let same_already : get_or basis.already.items k a ≡ A = get_or_default basis.already.items k a A (omega arith) ∙ sym c.index.ensures in
-          let is_cut' = subst (λ (x : Target). IsCutAtNow s x cut) same_target is_cut in
-          let tells' = subst (λ (x : Already). Tells (formulas_of s) cut x) same_already tells in
-          subst (λ (x : Target). Stands basis.program s plan x cut end next) (sym same_target)
-          (c.follow_from.ensures.followed.stands c.if-follow_from.false cut (record { is_cut = is_cut'; tells = tells' })
-          (stands_here s basis plan _ c.args.from.now k T A W is_target c.index.ensures c.index-from-k.is inside stands cut is_cut' tells')))
-          j w below t a cut is_cut tells;
-    }
+    let one = c.follow_some.ensures.targets.count in
+    let two = c.follow_some-2.ensures.targets.count in
+    let three = c.follow_some-3.ensures.targets.count in
+    let many = c.requires.targets.count in
+    let first = c.min-before.ensures in
+    let last = c.min-after.ensures in
+    (in_turn (λ (j : ℕ) (x : Watched). IsFollowedTo s c.args.basis.now W start end c.args.from.now j x) c.follow_some.new.watched c.follow_some-2.new.watched c.follow_some-3.new.watched
+    c.min-before.result c.min-after.result (length c.args.watched.now) (omega arith)
+    (c.follow_some.ensures.followed c.if-follow_some.false) (c.follow_some-2.ensures.followed c.if-follow_some-2.false) c.follow_some-2.ensures.others
+    (c.follow_some-3.ensures.followed e) c.follow_some-3.ensures.others k w (omega arith)).early
 
 pub returns-clause-followed : goal.returns-clause-followed
 returns-clause-followed c =
-    let count = c.requires.targets.count in
-    let long = c.loop-k.invariant.count in
-    let over = c.loop-k-test.false in
+    let s = c.args.situation.now in
+    let W = c.args.leg.now.plan in
+    let start = reached s c.args.leg.now.index in
+    let end = reached s (c.args.leg.now.index + 1) in
+    let one = c.follow_some.ensures.targets.count in
+    let two = c.follow_some-2.ensures.targets.count in
+    let three = c.follow_some-3.ensures.targets.count in
+    let many = c.requires.targets.count in
+    let first = c.min-before.ensures in
+    let last = c.min-after.ensures in
     record {
-      stands = λ e stands k t a w cut inside is_cut tells. c.loop-k.invariant.stands stands k t a w cut (omega arith) is_cut tells;
-      breaks = λ e. cc;
+      stands = λ e stands k t a w cut inside is_cut tells.
+          (in_turn (λ (j : ℕ) (x : Watched). IsFollowedTo s c.args.basis.now W start end c.args.from.now j x) c.follow_some.new.watched c.follow_some-2.new.watched c.follow_some-3.new.watched
+          c.min-before.result c.min-after.result (length c.args.watched.now) (omega arith)
+          (c.follow_some.ensures.followed c.if-follow_some.false) (c.follow_some-2.ensures.followed c.if-follow_some-2.false) c.follow_some-2.ensures.others
+          (c.follow_some-3.ensures.followed e) c.follow_some-3.ensures.others k w (omega arith)).stands stands t a cut is_cut tells;
+      breaks = λ e. c.follow_some-3.ensures.breaks e;
     }
+
+pub returns-then-follow_some-clause-followed : goal.returns-then-follow_some-clause-followed
+returns-then-follow_some-clause-followed c = record { stands = λ e. cc; breaks = λ e. c.follow_some.ensures.breaks c.if-follow_some.true }
+
+pub returns-then-follow_some-2-clause-followed : goal.returns-then-follow_some-2-clause-followed
+returns-then-follow_some-2-clause-followed c = record { stands = λ e. cc; breaks = λ e. c.follow_some-2.ensures.breaks c.if-follow_some-2.true }

@@ -2,8 +2,8 @@ use Rattle.std.proofs.Common.{ap, length, List, [], ◌++◌, ◌∙◌}
 use Rattle.auditor.specs.declared.total.Total.{Total}
 use Rattle.log_lines.specs.JudgedLines.{judged_lines}
 use Rattle.log_lines.specs.LogLines.{lines_of}
-use Rattle.report_parts.specs.OutcomeRows.{count_rows}
-use Rattle.report_parts.specs.TotalRows.{total_rows}
+use Rattle.audit_report.specs.OutcomeRows.{count_rows}
+use Rattle.audit_report.specs.TotalRows.{total_rows}
 use Rattle.sessions.specs.DrillReport.{drill_text}
 use Rattle.sessions.proofs.drill.drill_report.Goals as goal
 

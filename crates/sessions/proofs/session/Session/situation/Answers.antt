@@ -1,6 +1,5 @@
 use Rattle.std.proofs.Common.{List, ℕ, ◌≡◌, ◌++◌, false, IsTrue, sym, subst}
 use Rattle.std.proofs.lemmas.Result.{IfErr-weaker, IfOk-weaker}
-use Rattle.outside.proofs.ForCallers.{err_cause}
 use Rattle.tasks.specs.declared.mode.Mode.{Mode}
 use Rattle.scenario_values.specs.declared.values.Scenario.{Scenario}
 use Rattle.log_lines.specs.JudgedLines.{is_crowded}

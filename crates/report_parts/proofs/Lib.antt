@@ -1,7 +1,0 @@
-mod AlarmRows
-mod LegRows
-mod OutcomeRows
-mod Pushing
-mod RuleRows
-mod StretchRows
-mod VesselRows

@@ -1,4 +1,0 @@
-use Rattle.report_parts.proofs.points.write_line.Goals as goal
-
-pub returns-in-Accepted : goal.returns-in-Accepted
-returns-in-Accepted c = rw c.in-Accepted.is c.write.ensures

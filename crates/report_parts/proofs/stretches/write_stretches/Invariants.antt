@@ -1,8 +1,0 @@
-use Rattle.std.proofs.Common.{ℕ, List, ◌++◌, take}
-use Rattle.audit_report.specs.ReportTexts.{HasText}
-use Rattle.report_parts.specs.StretchRows.{stretch_rows}
-use Rattle.report_parts.proofs.stretches.write_stretches.Given as goal
-
--- the rows so far were added
-abbrev pub invariant-loop-row : goal.invariant-loop-row
-invariant-loop-row l = (front : List ℕ) → HasText l.initial.text front → HasText l.text (front ++ stretch_rows l.rules (take l.row-index l.rows))
