@@ -31,17 +31,26 @@ class Checks(unittest.TestCase):
 
 
 class Watched(InFolder):
-    # A gate: two checks, by their words; then the signal that ends the measure.
-    RUN = """python -c "$0" --of $$ & measure=$!
-until [ -e ready ]; do sleep 0.1; done
-for crate in low high; do (exec -a /kit/rattle bash -c 'sleep 3; :' x build --crate-name $crate); done
+    # A gate: two checks, by their words, each of which lasts for three looks; then the signal that ends the measure.
+    RUN = """: > looks
+python -c "$0" --of $$ & measure=$!
+for crate in low high; do
+  (exec -a /kit/rattle bash -c 'first=$(wc -c < looks)
+until [ $(wc -c < looks) -gt $((first + 3)) ]; do sleep 0.1; done' x build --crate-name $crate)
+done
 kill -SIGNAL $measure; wait $measure"""
     MEASURE = """import sys
 sys.path.insert(0, TOP)
 from dev import gate
 gate.RUNS, gate.CRATES = "runs", "crates"
 gate.listed_crates = lambda: {"low": [], "high": []}
-open("ready", "w").close()
+look = gate.Seen.look
+def noted(seen, root):
+    found = look(seen, root)
+    with open("looks", "a") as out:
+        out.write(".")
+    return found
+gate.Seen.look = noted
 sys.exit(gate.main())"""
 
     def rows_after(self, number: signal.Signals) -> list[list[str]]:
