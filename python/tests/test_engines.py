@@ -191,8 +191,9 @@ class Slurm(Engines):
         self.until(lambda: self.slurm("squeue", "-h", "-t", "PENDING", "-o", "%A") != "", "the queue has the job of "
                                                                                           f"{node} again")
         for waiting in self.slurm("squeue", "-h", "-t", "PENDING", "-o", "%A").split():
-            # Slurm itself waits for two minutes
-            self.slurm("scontrol", "update", f"JobId={waiting}", "StartTime=now")
+            # Slurm itself waits for two minutes; on a busy machine these may be over, and then it refuses
+            subprocess.run(["scontrol", "update", f"JobId={waiting}", "StartTime=now"], capture_output=True,
+                           env=self.around, timeout=HANGS)
         self.until(lambda: self.results() == 5, f"the job of {node} on the other node")
         self.joined_is_whole()
         os.remove(next(entry.path for entry in os.scandir(self.path("jobs.kept")) if len(entry.name) == 68))
