@@ -31,7 +31,7 @@ class Checks(unittest.TestCase):
 
 
 class Watched(InFolder):
-    # A gate: two checks, by their words, each of which lasts for three looks; then the signal that ends the measure.
+    # A gate: two checks, by their words, which last for three looks; then the signal that ends the measure.
     RUN = """: > looks
 python -c "$0" --of $$ & measure=$!
 for crate in low high; do
