@@ -22,7 +22,7 @@ WRONG_USES = [
     (["passing.log", "--scenario", "passing.log"], "passing.log: not TOML: "),
     (["passing.log", "--program", "none"], "cannot be run as a program"),
     (["passing.log", "--chart", "passing.toml"], "GeoJSON"),
-    (["passing.log", "-o", "."], "is there already"),
+    (["passing.log", "-o", "."], "exists already"),
     (["passing.toml", "--scenario", "passing.toml"], "no sentence and no row was read"),
     (["passing.log", "--scenario", "passing.toml", "--start", "1800000000"],
      "no vessel has a position between 2027-01-15 08:00:00"),

@@ -44,7 +44,7 @@ class Folder:
 def new_folder(path: str) -> Iterator[Folder]:
     """Makes a folder that appears at the path once it is complete; if something fails, nothing is left."""
     if os.path.exists(path) and (not os.path.isdir(path) or os.listdir(path)):
-        raise Fault(f"{path} is there already, and is not written over")
+        raise Fault(f"{path} exists already: give another folder")
     parent = os.path.dirname(os.path.abspath(path))
     if not os.path.isdir(parent):
         raise Fault(f"{parent}: there is no such folder")
