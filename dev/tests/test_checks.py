@@ -27,7 +27,7 @@ Usage: colregs [OPTIONS] <MODE> <SCENARIO>
 
 Exit status:
   0  the report is written whole
-  2  the words are no command line
+  2  invalid command line
 """
 MANUAL = """.SH MODES
 .TP
