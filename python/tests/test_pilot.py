@@ -138,7 +138,7 @@ class Areas(InFolder):
     def test_what_is_no_area_is_refused_with_the_name_of_the_file(self) -> None:
         scenario = PilotScenario.read(example("giving_way.toml"))
         for text, words in (("[", "not JSON"), ('{"type": "Point", "coordinates": [1, 2]}',
-                                                "`Point` is no area"), ('{"type": "Polygon"}', "a list is missing"),
+                                                "`Point` is not an area"), ('{"type": "Polygon"}', "a list is missing"),
                             ('{"type": "Polygon", "coordinates": [[[1, 2], [3, 4]]]}',
                              "fewer than three"), ("[" * 100000, "not JSON"),
                             ('{"type": "Polygon", "coordinates": [[[1, 2], [3, 400], [5, 6]]]}',
@@ -336,7 +336,7 @@ class Live(InFolder):
         self.write_reef([(3000 * x, 3000 * y) for x, y in square], [(1500 * x, 1500 * y) for x, y in square])
         found = self.pilot("--every", "60", "--no-go", "areas.geojson", source="\n".join(self.lines))[-1]
         self.assertEqual((found["state"], found["cause"], found["promised"]), ("none", "areas", False))
-        self.assertIn("`reef` is entered", found["words"])
+        self.assertIn("such as `reef`", found["words"])
 
     def test_a_plan_that_enters_an_area_is_not_used(self) -> None:
         # the plan of the example turns to 60 degrees; an area about the point 1.5 km ahead on that course bars it
