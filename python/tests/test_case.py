@@ -20,7 +20,7 @@ WRONG_USES = [
     (["passing.log", "--scenario", "none.toml"], "none.toml"),
     (["passing.log", "--scenario", "/dev/zero"], "/dev/zero is a device"),
     (["passing.log", "--scenario", "passing.log"], "passing.log: not TOML: "),
-    (["passing.log", "--program", "none"], "cannot be run as a program"),
+    (["passing.log", "--program", "none"], "is not an executable file"),
     (["passing.log", "--chart", "passing.toml"], "GeoJSON"),
     (["passing.log", "-o", "."], "exists already"),
     (["passing.toml", "--scenario", "passing.toml"], "no sentence and no row was read"),

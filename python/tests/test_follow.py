@@ -367,7 +367,7 @@ class Limits(Streams):
         self.write("s.toml", crowd.SCENARIO.replace("watch = 5000", "watch = 900").replace("risk = 500", "risk = 100"))
         out, error = self.follow("--whole", "--modes", "watch", "--ticks-each", "1200", source=crowd.wide().decode(),
                                  status=1)
-        self.assertIn("a run takes 4096 vessels", error)
+        self.assertIn("a run allows 4096 vessels", error)
         told = [json.loads(line) for line in out.splitlines() if '"missing"' in line]
         self.assertEqual({(row["kind"], row["mode"], row["ends"] > row["begins"], "vessels" in row["why"])
                           for row in told}, {("missing", "watch", True, True)})

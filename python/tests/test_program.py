@@ -28,7 +28,7 @@ class Found(InFolder):
             with self.subTest(path):
                 done = self.asked(path)
                 self.assertEqual((done.returncode, done.stdout), (1, ""))
-                self.assertIn("there is no program", done.stderr)
+                self.assertIn("cannot find the program", done.stderr)
 
     def test_one_on_an_absolute_folder_of_path_is_run(self) -> None:
         os.mkdir(self.path("bin"))
@@ -46,5 +46,5 @@ class Found(InFolder):
             os.path.realpath(self.path("bin/colregs")))
 
     def test_a_named_one_that_is_none_is_refused(self) -> None:
-        with self.assertRaisesRegex(Fault, "cannot be run as a program"):
+        with self.assertRaisesRegex(Fault, "is not an executable file"):
             program.found(self.path("none"))

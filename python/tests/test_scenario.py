@@ -102,7 +102,7 @@ class Suggested(InFolder):
         status, out, error = self.tool("scenario", "--program", PROGRAM, "no.log")
         self.assertEqual((status, out, error), (1, "", "scenario: no.log cannot be read: no such file or directory\n"))
         status, out, error = self.tool("scenario", "--program", "no_program", example("crossing.log"))
-        self.assertEqual((status, out, error), (1, "", "scenario: no_program cannot be run as a program\n"))
+        self.assertEqual((status, out, error), (1, "", "scenario: no_program is not an executable file\n"))
 
     def test_each_example_log_has_one(self) -> None:
         for name in sorted(os.listdir(EXAMPLES)):

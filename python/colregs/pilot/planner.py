@@ -102,7 +102,8 @@ class Planner:
         while True:
             answer = self.ask_once(question, stage, tuple(without), patience, recheck)
             if answer is None:
-                return Answer(cause=Cause.AREAS, words="every course enters an area, such as " + area, asked=len(without))
+                return Answer(cause=Cause.AREAS, words="every course enters an area such as " + area,
+                              asked=len(without))
             answer = replace(answer, asked=len(without) + 1)
             if answer.plan is None:
                 return self.without_areas(answer, area)
