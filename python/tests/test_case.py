@@ -191,7 +191,7 @@ class Parts(Cases):
                     seen = {int(row.split(",")[1]) for row in source if row.startswith("point")}
                 self.assertEqual(seen, {passing.EAST, passing.WEST})
         for area, told in (("10,10,20,20", "no vessel of the log was in it"), ("5,0,1,9", "south below north"),
-                           ("passing.log", "not JSON"), ("none", "cannot be read|no such")):
+                           ("passing.log", "not JSON"), ("none", "cannot read|no such")):
             self.assertRegex(self.make("--area=" + area, status=1)[2], told)
 
     def test_what_cannot_be_asked_is_named(self) -> None:

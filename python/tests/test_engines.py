@@ -328,7 +328,7 @@ class Ends(Engines):
                                                                                                      "--kept", "file")):
             error = self.many(*words, status=1)[2]
             self.assertIn("file", error)
-            self.assertIn("cannot be written", error)
+            self.assertIn("cannot write", error)
             self.assertNotIn("standard output", error)
 
 

@@ -100,7 +100,7 @@ class Suggested(InFolder):
             with self.assertRaisesRegex(Fault, "no position report"):
                 self.values(log)
         status, out, error = self.tool("scenario", "--program", PROGRAM, "no.log")
-        self.assertEqual((status, out, error), (1, "", "scenario: no.log cannot be read: no such file or directory\n"))
+        self.assertEqual((status, out, error), (1, "", "scenario: cannot read no.log: no such file or directory\n"))
         status, out, error = self.tool("scenario", "--program", "no_program", example("crossing.log"))
         self.assertEqual((status, out, error), (1, "", "scenario: no_program is not an executable file\n"))
 

@@ -21,14 +21,14 @@ FAULTS = [
     ('{"files": ["log"], "scenario": "s.toml", "start": 0, "ticks": 20001}', "1 to 20000 ticks"),
     ('{"files": ["log"], "scenario": "s.toml", "start": 0, "ticks": 1, "more": 1}', "`more` is missing or wrong"),
     ('{"files": ["log"], "scenario": "s.toml", "start": 0, "ticks": 1, "subjects": ["x"]}', "`subjects` has a value of "
-                                                                                            "another kind"),
+                                                                                            "wrong type"),
     ('{"files": ["log"], "scenario": "s.toml", "start": 0, "ticks": 1, "heads": [[1]]}', "`heads` has a value of "
-                                                                                         "another kind"),
+                                                                                         "wrong type"),
     ('{"files": ["log"], "scenario": "s.toml", "start": 0, "ticks": 1, "types": {"x": 36}}', "`types` has a value of "
-                                                                                             "another kind"),
-    ('{"files": ["log"], "scenario": "none.toml", "start": 0, "ticks": 1}', "none.toml cannot be read: no such file"),
-    ('{"files": ["none"], "scenario": "s.toml", "start": 0, "ticks": 1}', "none cannot be read: no such file"),
-    ('{"files": ["cut.gz"], "scenario": "s.toml", "start": 0, "ticks": 1}', "were not read to their end"),
+                                                                                             "wrong type"),
+    ('{"files": ["log"], "scenario": "none.toml", "start": 0, "ticks": 1}', "cannot read none.toml: no such file"),
+    ('{"files": ["none"], "scenario": "s.toml", "start": 0, "ticks": 1}', "cannot read none: no such file"),
+    ('{"files": ["cut.gz"], "scenario": "s.toml", "start": 0, "ticks": 1}', "cannot read its files to the end"),
     ('{"files": ["log"], "scenario": "wrong.toml", "start": 0, "ticks": 1}', "status 3, scenario: window.ticks: range"),
 ]
 WRAPPER = """#!/bin/sh
@@ -125,13 +125,13 @@ class Covered(Shares):
         jobs = [json.loads(line) for line in text_of(self.path("jobs")).splitlines()]
         self.many("jobs", "--jobs", "4")
         tile = [k for k, job in enumerate(jobs) if job["tile"] == jobs[0]["tile"]]
-        self.refused("leave a part of the plane", *tile)
+        self.refused("do not cover the plane", *tile)
         self.refused("are in no group", *range(1, len(jobs)))
 
     def test_windows_that_overlap_too_little_are_refused(self) -> None:
         self.plan("--ticks-each", "60", "--overlap", "600")
         self.many("jobs", "--jobs", "4")
-        self.assertIn("less than this scenario needs",
+        self.assertIn("too short for this scenario",
                       self.many("plan", "s.toml", "log.gz", "--ticks-each", "60", "--overlap", "300", status=1)[2])
 
     def test_tiles_cover_the_plane(self) -> None:

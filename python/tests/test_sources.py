@@ -354,7 +354,7 @@ class Files(Sources):
 
     def test_what_is_no_log_ends_with_words_and_a_status(self) -> None:
         empty = [self.write("empty", "")]
-        for words, told in ((["nothing"], "cannot be read: no such file"), (["."], "is a folder"),
+        for words, told in ((["nothing"], "cannot read nothing: no such file"), (["."], "is a folder"),
                             (empty, "no sentence and no row")):
             status, out, error = self.tool("tagged", *words)
             self.assertEqual((status, out), (1, ""))
@@ -384,7 +384,7 @@ class Files(Sources):
 
     def test_a_log_is_not_written_over(self) -> None:
         log = self.write("log", self.TEXT)
-        with self.assertRaisesRegex(Fault, "cannot be written too"):
+        with self.assertRaisesRegex(Fault, "is also an input"):
             gather([log], log)
 
 

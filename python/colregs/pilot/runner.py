@@ -83,7 +83,7 @@ class ProcessRunner:
         except subprocess.TimeoutExpired:
             return Report(NO_ANSWER, "", "the program gave no answer in %.1f s" % timeout, time.monotonic() - begin)
         except OSError as error:
-            return Report(MISSING, "", "%s cannot be run: %s" % (self.program, (error.strerror or str(error)).lower()),
+            return Report(MISSING, "", "cannot run %s: %s" % (self.program, (error.strerror or str(error)).lower()),
                           time.monotonic() - begin)
         told = done.stderr.decode("utf-8", "replace").strip()
         return Report(done.returncode, done.stdout.decode("utf-8", "replace"), told, time.monotonic() - begin)

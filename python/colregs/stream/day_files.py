@@ -306,4 +306,4 @@ def lines_of(path: str, offset: int = 0) -> Iterator[bytes]:
             source.seek(offset)
             yield from source
     except OSError as error:
-        raise Fault(f"{path} cannot be read: {reason(error)}") from None
+        raise Fault(f"cannot read {path}: {reason(error)}") from None

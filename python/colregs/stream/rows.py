@@ -78,7 +78,7 @@ class File:
         try:
             self.out = open(path, "a", encoding="utf-8")
         except OSError as error:
-            raise Fault(f"{path} cannot be written: {reason(error)}") from None
+            raise Fault(f"cannot write {path}: {reason(error)}") from None
 
     def write(self, line: str) -> None:
         """Writes one line at once."""
