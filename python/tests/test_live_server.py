@@ -229,7 +229,7 @@ class Answers(WithHarbour):
         self.assertEqual((past["clock"], len(past["vessels"]), len(past["tracks"])), (crowd.START + 400, 20, 20))
         self.assertTrue(all(values[1] <= crowd.START + 400 for values in past["vessels"]))
         self.until(lambda: server.ask("/healthz")[0] == 503)
-        self.assertIn("no line came for", server.json("/healthz")["why"])
+        self.assertIn("no line arrived for", server.json("/healthz")["why"])
         self.grow("log", "".join(self.lines[1200:1201]))
         self.until(lambda: server.ask("/healthz")[0] == 200)
 
@@ -334,7 +334,7 @@ class Answers(WithHarbour):
     def test_wrong_words_end_it(self) -> None:
         for words, told in (
             (["--listen", "0.0.0.0:0"], "give --token-file"),
-            (["--log", "none"], "none is not there"),
+            (["--log", "none"], "none does not exist"),
             (["--speed", "2"], "give --log FILE"),
             (["--chart", "s.toml"], "not a map"),
             (["--log", "log", "--overlap", "0"], "the overlap is"),

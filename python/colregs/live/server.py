@@ -316,7 +316,7 @@ class Server:
         """Answers whether lines arrive: with status 503 if none came for a while, or if nothing follows the stream any
         more."""
         health = self.health()
-        why = self.fault or (f"no line came for {health['quiet']} s" if health["quiet"] > self.quiet else "")
+        why = self.fault or (f"no line arrived for {health['quiet']} s" if health["quiet"] > self.quiet else "")
         return web.json_response({"ok": not why, "why": why, **health}, status=503 if why else 200)
 
     # slow requests
