@@ -338,7 +338,7 @@ class Doors(InFolder):
 
     def test_weak_tokens_and_open_files_are_refused(self) -> None:
         for word, mode, told in (
-            ("short", 0o600, "a word of 16 or more letters"),
+            ("short", 0o600, "at least 16 letters"),
             ("0123456789abcdef", 0o644, "other users can read the token"),
             ("0123456789 abcdef", 0o600, "a word of"),
         ):

@@ -336,7 +336,7 @@ class Answers(WithHarbour):
             (["--listen", "0.0.0.0:0"], "give --token-file"),
             (["--log", "none"], "none does not exist"),
             (["--speed", "2"], "give --log FILE"),
-            (["--chart", "s.toml"], "not a map"),
+            (["--chart", "s.toml"], "not a GeoJSON map"),
             (["--log", "log", "--overlap", "0"], "the overlap is"),
         ):
             status, _, error = self.tool("colregs-live", "s.toml", "--days", "days", "--program", PROGRAM, *words)

@@ -142,7 +142,7 @@ class Areas(InFolder):
                             ('{"type": "Polygon", "coordinates": [[[1, 2], [3, 4]]]}',
                              "fewer than three"), ("[" * 100000, "not JSON"),
                             ('{"type": "Polygon", "coordinates": [[[1, 2], [3, 400], [5, 6]]]}',
-                             "no longitude and latitude")):
+                             "not a longitude and a latitude")):
             path = self.write("areas.geojson", text)
             with self.assertRaisesRegex(Exception, "areas.geojson.*" + words):
                 read_areas(path, scenario)
@@ -290,8 +290,8 @@ class Live(InFolder):
         self.assertIn("scenario: detect.risk: range", found["words"])
 
     def test_rows_that_no_program_of_ours_writes_are_a_state(self) -> None:
-        for rows, status, words in (("point,x,y\nmeeting,a\nvessel,,,,,,\nplan,x", 0, "no plan"),
-                                    ("why,99,9,9,9,9,9\nnone,1,,,,,", 1, "no reasons"), ("", 1, "no row `none`")):
+        for rows, status, words in (("point,x,y\nmeeting,a\nvessel,,,,,,\nplan,x", 0, "rows as a plan"),
+                                    ("why,99,9,9,9,9,9\nnone,1,,,,,", 1, "rows as reasons"), ("", 1, "no row `none`")):
             program = self.write("program", f"#!/bin/sh\ncat <<'END'\n{rows}\nEND\nexit {status}\n")
             os.chmod(program, 0o755)
             found = self.pilot("--every", "60", "--program", program, source="\n".join(self.lines))[-1]
@@ -437,7 +437,7 @@ class Going(InFolder):
 
     def test_a_program_that_is_killed_or_hangs_is_a_state(self) -> None:
         for body, words in (("kill -9 $$", "signal 9"), ("sleep 30", "no answer in"), ("exit 8", "status 8"),
-                            ("echo plan,x", "no plan")):
+                            ("echo plan,x", "rows as a plan")):
             program = self.write("program", "#!/bin/sh\n%s\n" % body)
             os.chmod(program, 0o755)
             child = self.start(program=program)

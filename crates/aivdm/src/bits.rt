@@ -222,7 +222,7 @@ fn pop_kept(sextets: &mut SmallVec<u8, 72>, len: usize, kept: u32) -> u64
     u64::from(last >> (6 - kept))
 }
 
-/// Appends the lowest 6 bits for each of this many elements of a number.
+/// Appends a number as this many sextets.
 fn push_sextets(sextets: &mut SmallVec<u8, 72>, number: u64, count: u32)
     requires few { count ≤ 7 }
     requires room { HasRoomFor sextets.old count }

@@ -22,7 +22,7 @@ impl PassProgram {
     ghost use Rattle.mtl_formulas.specs.FormulaMeasures.{IsValid};
     ghost use Rattle.early_monitor.specs.Inner.Passing.{IsPassProgramOf};
 
-    /// The program of a formula.
+    /// Returns the program of a formula.
     pub(crate) fn of(alloc: Global, formula: &Formula) -> Result<PassProgram, Memory>
         requires { IsValid (tree_of formula.now) }
         ensures { IfOk result (λ p. IsPassProgramOf p (tree_of formula.now)) }

@@ -79,8 +79,8 @@ impl PassState {
         self.place = 0;
     }
 
-    /// The next position that exactly the rows fed so far decide, with its value: in ascending order, and each once. `None`
-    /// where all were given. It takes no memory.
+    /// Returns the next position that exactly the rows fed so far decide, with its value: in ascending order, and each
+    /// once. `None` where all were given. It takes no memory.
     pub(crate) fn next(&mut self, program: &Program) -> Option<(u32, Verdict)>
         requires of { IsStateOf program.now self.old }
         requires one { count_of program.now ≡ 1 }

@@ -27,8 +27,8 @@ pub(crate) fn early_rules(alloc: Global, rules: &RuleSet) -> Result<Vec<Option<E
     Ok(early)
 }
 
-/// The program with the formula of one rule more. Where the rule is watched early the program is never asked for it, so there stands a
-/// formula that costs nothing.
+/// Returns the program with the formula of one rule more. Where the rule is watched early the program is never asked
+/// for it, so there stands a formula that costs nothing.
 fn with_rule(
     program: Program,
     early: &Option<EarlyRule>,
@@ -46,7 +46,7 @@ fn with_rule(
     }
 }
 
-/// The program of the rules that are not watched early. Each has the index that it has among all.
+/// Returns the program of the rules that are not watched early. Each has the index that it has among all.
 pub(crate) fn plain_program(
     alloc: Global,
     rules: &RuleSet,
