@@ -1,4 +1,4 @@
-//! A formula as a program of its own, for states that pass rows beyond the last one.
+//! A formula as a separate program, for states that pass rows beyond the last one.
 ghost use Rattle.std.specs.Prelude.{◌≡◌, ◌≤◌};
 ghost use Rattle.mtl_monitor.specs.Following.{count_of};
 
@@ -7,7 +7,7 @@ use mtl_monitor::Program;
 use out_of_memory::Memory;
 use std::alloc::Global;
 
-/// A formula, alone as a program. What is known of one trace is a `PassState` beside it.
+/// A formula as a separate program. The state of one trace is a `PassState`.
 #[derive(Drop)]
 pub(crate) struct PassProgram {
     pub(crate) program: Program,
