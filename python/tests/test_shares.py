@@ -21,11 +21,11 @@ FAULTS = [
     ('{"files": ["log"], "scenario": "s.toml", "start": 0, "ticks": 20001}', "1 to 20000 ticks"),
     ('{"files": ["log"], "scenario": "s.toml", "start": 0, "ticks": 1, "more": 1}', "`more` is missing or wrong"),
     ('{"files": ["log"], "scenario": "s.toml", "start": 0, "ticks": 1, "subjects": ["x"]}', "`subjects` has a value of "
-                                                                                            "wrong type"),
+                                                                                            "the wrong type"),
     ('{"files": ["log"], "scenario": "s.toml", "start": 0, "ticks": 1, "heads": [[1]]}', "`heads` has a value of "
-                                                                                         "wrong type"),
+                                                                                         "the wrong type"),
     ('{"files": ["log"], "scenario": "s.toml", "start": 0, "ticks": 1, "types": {"x": 36}}', "`types` has a value of "
-                                                                                             "wrong type"),
+                                                                                             "the wrong type"),
     ('{"files": ["log"], "scenario": "none.toml", "start": 0, "ticks": 1}', "cannot read none.toml: no such file"),
     ('{"files": ["none"], "scenario": "s.toml", "start": 0, "ticks": 1}', "cannot read none: no such file"),
     ('{"files": ["cut.gz"], "scenario": "s.toml", "start": 0, "ticks": 1}', "cannot read its files to the end"),

@@ -25,7 +25,7 @@ const CONFIRMED: Row = Row {
     ..ONE_PLAN
 };
 
-/// Rows of which the first is wrong.
+/// Rows with a wrong first row.
 const FIRST_WRONG: Row = Row {
     status: Status::BadEntry(0),
     number: 10,

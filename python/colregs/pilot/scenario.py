@@ -63,7 +63,7 @@ def scalar_text(value: object) -> str:
 
 
 def is_table_list(value: object) -> bool:
-    """Returns whether a value is a list of tables, each of which gets its own header."""
+    """Returns whether a value is a list of tables. Each table gets its own header."""
     return isinstance(value, list) and bool(value) and all(isinstance(item, Mapping) for item in value)
 
 

@@ -37,7 +37,7 @@ class Index:
             self.store(name,
                        {"version": VERSION, "state": state, "span": asdict(span) | {"path": os.path.basename(path)}})
         if until is not None and any(least <= until < greatest for _, least, greatest in span.hours.values()):
-            return read_span(path, until)               # hours are too coarse to tell which stamps are after `until`
+            return read_span(path, until)               # hours do not show which stamps are after `until`
         if until is not None:
             span.hours = {hour: told for hour, told in span.hours.items() if told[1] <= until}
         return span

@@ -23,7 +23,7 @@ from colregs.stream.types import EVER
 Key = tuple[int, int, str]      # the vessel that a rule binds, the other one, and the rule
 BOTH, AT_REST = "both", "at rest"       # both vessels of a pair are at rest, and the mark of such a stretch
 FORGOTTEN = 7200                # s after her last report until a vessel is forgotten
-AGAIN = 60                      # s of the stream's clock between two checks of which vessels of a stretch are at rest
+AGAIN = 60                      # s of the stream's clock between two checks for vessels at rest in a stretch
 COUNTED = 60                    # s of the clock between two lines with the number of hidden stretches
 # s of this machine's clock. Alarms and points come from two runs, so an alarm waits for the points up to its time. A
 # vessel may fall silent, so it waits no longer than this after the last point ..
