@@ -18,7 +18,7 @@ total_of part = part.sentence.total
 abbrev pub number_of_part : Taken → ℕ
 number_of_part part = part.sentence.number
 
--- The key is the sequential identifier and the channel, each of which may be absent.
+-- The key is the sequential identifier and the channel; either may be absent.
 abbrev pub have_one_key : SentenceFields → SentenceFields → Bool
 have_one_key a b = option_eq nat_eq a.seq b.seq && option_eq nat_eq a.channel b.channel
 
