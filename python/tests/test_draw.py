@@ -32,7 +32,7 @@ class Pictures(InFolder):
         for name in re.findall(r"(?m)^vessel,\d+,([^,]+),", report):
             self.assertIn(name, words)
 
-    def test_a_plan_that_fails_says_so(self) -> None:
+    def test_a_failed_plan_is_reported(self) -> None:
         text = text_of(example("giving_way.toml"))
         tight = re.sub(r"(?m)^(base\s*=\s*)\d+", r"\g<1>5000", text)
         self.assertNotEqual(tight, text)
@@ -40,14 +40,14 @@ class Pictures(InFolder):
                            PROGRAM, "--plan")
         self.assertRegex(words, r"none of \d+ plans passes")
 
-    def test_an_audit_names_two_vessels_and_the_time_that_are_asked_for(self) -> None:
+    def test_an_audit_selects_the_requested_vessels_and_time(self) -> None:
         words = self.drawn(example("crossing.toml"), "out", "--log", example("crossing.log"), "--program", PROGRAM,
                            "--pair", "LARCH", "MAPLE", "--from", "22:18", "--to", "22:24", "--title", "Two of them")
         self.assertTrue("LARCH" in words and "MAPLE" in words and "Two of them" in words)
         self.assertIn("22:18:00 to 22:24:00 UTC", words)
         self.assertIn("UTC", words_of(text_of(self.path("out_times.svg"))))
 
-    def test_what_does_not_go_together_is_refused(self) -> None:
+    def test_options_that_contradict_each_other_are_refused(self) -> None:
         log = ["--log", example("crossing.log"), "--program", PROGRAM]
         refusals: tuple[tuple[list[str], str], ...] = (
             (["--plan", "p", "--pair", "a", "b", "--points", "x"], "--pair, --from and --to are of an audit"),

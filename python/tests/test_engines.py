@@ -353,7 +353,7 @@ class Scripts(Engines):
         self.assertNotIn("--array", text)
         self.assertIn("0 of 5 jobs have no result: each gets 128 MB and 10 minutes", error)
 
-    def test_limits_are_by_what_was_needed(self) -> None:
+    def test_limits_follow_the_measured_needs(self) -> None:
         cases: list[tuple[list[Any], Limits]] = [([], Limits(512, 240, 9)),
                                                  ([Need(30, 40000), Need(600, 39000)], Limits(192, 50, 9))]
         for needs_, limits in cases:

@@ -151,13 +151,13 @@ class Once(Streams):
             time.sleep(0.05)
         self.fail("it did not come in 30 s")
 
-    def test_from_a_command_into_a_command(self) -> None:
+    def test_a_command_feeds_another_command(self) -> None:
         self.write("log", "".join(self.lines))
         self.follow("--command", "cat log", "--to", "cat > out", "--whole")
         self.assertEqual(self.rows(text_of(self.path("out"))), self.whole())
 
     @unittest.skipUnless(has_watch(), "the program has no mode watch")
-    def test_alarms_of_watch_are_there_once(self) -> None:
+    def test_alarms_of_watch_occur_once(self) -> None:
         out, _ = self.follow("--modes", "watch", "--whole", source="".join(self.lines))
         self.assertEqual(self.rows(out), self.whole("watch"))
         self.assertGreater(len(self.rows(out)), 50)
@@ -173,7 +173,7 @@ exec %s "$@"
 
 
 class Killed(Streams):
-    def test_a_run_that_is_killed_while_it_writes_a_row_begins_again(self) -> None:
+    def test_a_run_killed_while_it_writes_a_row_starts_again(self) -> None:
         program = self.write("wrapped", KILLED % (PROGRAM, PROGRAM))
         os.chmod(program, 0o755)
         out, error = self.follow("--whole", "--program", program, source="".join(self.lines))
@@ -297,7 +297,7 @@ class Healths(Streams):
         self.assertIn("are `late`: a station's clock is ahead", error)
         self.assertGreater(self.health()["stations"]["C"]["lead"], 1000)
 
-    def test_by_the_clock_of_most_stations_its_vessels_meet_as_they_did(self) -> None:
+    def test_the_median_clock_preserves_the_meetings(self) -> None:
         wanted = self.met(self.follow("--whole", source=self.of_stations(0), days="good")[0])
         self.assertGreater(len(wanted), 8)
         out, error = self.follow("--whole", "--clock", "median", source=self.of_stations(1200))
@@ -317,7 +317,7 @@ class Healths(Streams):
                                  days=f"days{ahead}")
             self.assertEqual(sorted(self.rows(out)), sorted(self.whole()), ahead)
 
-    def test_lines_without_a_stamp_are_of_no_station(self) -> None:
+    def test_lines_without_a_stamp_belong_to_no_station(self) -> None:
         said: list[str] = []
         health = Health(self.folder, 30, said.append)
         for line in (b"!AIVDM,2,2,1,A,x,0*00", sentences.block(1700000000, b"s:A") + b"!x",
@@ -326,7 +326,7 @@ class Healths(Streams):
         health.write(1700000005, 0)
         self.assertEqual((said, sorted(health.stations), health.lines), ([], ["A", "B"], 3))
 
-    def test_a_minute_without_a_line_is_told_once(self) -> None:
+    def test_a_minute_without_a_line_is_reported_once(self) -> None:
         said: list[str] = []
         health = Health(self.folder, 30, said.append)
         health.heard -= 61
@@ -372,11 +372,11 @@ class Limits(Streams):
         self.assertEqual({(row["kind"], row["mode"], row["ends"] > row["begins"], "vessels" in row["why"])
                           for row in told}, {("missing", "watch", True, True)})
 
-    def test_a_meeting_longer_than_the_overlap_is_told(self) -> None:
+    def test_a_meeting_longer_than_the_overlap_is_reported(self) -> None:
         error = self.follow("--whole", "--overlap", "400", "--ticks-each", "40", source="".join(self.lines))[1]
         self.assertIn("longer than the overlap", error)
 
-    def test_wrong_words_are_refused(self) -> None:
+    def test_wrong_arguments_are_refused(self) -> None:
         for words, told in (
             (["--overlap", "0"], "the overlap is 32 ticks or more"),
             (["--ticks-each", "20000"], "at most 20000"),
@@ -394,7 +394,7 @@ class Limits(Streams):
 
 
 class Parts(InFolder):
-    def test_a_time_far_ahead_is_no_clock_until_more_tell_it(self) -> None:
+    def test_a_time_far_ahead_does_not_count_until_more_lines_have_it(self) -> None:
         clock = Clock()
         leapt = 1000 + LEAP
         for at, told in ((1000, 1000), (990, 1000), (leapt, leapt), (10**9, leapt), (2000, leapt)):
@@ -439,7 +439,7 @@ class Parts(InFolder):
                 clock.released(sentences.block(at))
         self.assertEqual(clock.last(), ([(sentences.block(101), sentences.block(101))], 3))
 
-    def test_windows_are_compared_where_the_own_steps_of_the_earlier_one_end(self) -> None:
+    def test_windows_are_compared_at_the_end_of_the_earlier_ones_own_steps(self) -> None:
         # windows of 200 ticks, 100 apart: step 180 of the first, its last own one, is step 80 of the second
         said: list[str] = []
         borders = Borders(180, 120, 100, 1000, {"own": sight_of("seen")}, said.append)
@@ -461,7 +461,7 @@ class Parts(InFolder):
         again.load(told)
         self.assertEqual(len(again.end(1000)), 3)
 
-    def test_a_line_that_was_cut_off_is_not_gone_on_with(self) -> None:
+    def test_an_incomplete_line_is_not_continued(self) -> None:
         files = DayFiles(self.folder)
         files.write(b"one\n", 0)
         files.write(b"tw", 86399)

@@ -61,7 +61,7 @@ class Limits(WithHarbour):
 
         self.until(is_open_again)
 
-    def test_a_browser_that_takes_nothing_is_cut_off(self) -> None:
+    def test_a_browser_that_does_not_read_is_disconnected(self) -> None:
         server = self.live("--log", "log")
         self.grow("log", "".join(self.lines[:700]))
         self.until(lambda: server.json("/healthz")["lines"] == 700)

@@ -50,7 +50,7 @@ class Pages(InFolder):
         for old, new in OLD.items():
             self.assertEqual(text_of(os.path.join(TOOLS, old)), text_of(os.path.join(TOOLS, new)))
 
-    def test_a_wrong_command_line_is_told_in_one_line_with_status_2(self) -> None:
+    def test_a_wrong_command_line_is_reported_in_one_line_with_status_2(self) -> None:
         for name in COMMANDS:
             status, out, error = self.within(name, "--nothing")
             self.assertEqual((status, out, error.count("\n")), (2, "", 1), error)

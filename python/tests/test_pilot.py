@@ -68,7 +68,7 @@ class States(unittest.TestCase):
         self.assertEqual([each.state for each in found], [State.MANOEUVRING, State.HELD, State.MANOEUVRING])
         self.assertEqual(found[2].course, 50.0)
 
-    def test_without_any_plan_the_track_is_steered_and_nothing_is_promised(self) -> None:
+    def test_without_any_plan_she_steers_the_track_without_a_promise(self) -> None:
         first, = self.after(Answer(cause=Cause.EVERY_PLAN_FAILS))
         self.assertEqual((first.state, first.course, first.speed, first.promised), (State.NONE, 350.0, 14.0, False))
 
@@ -106,13 +106,13 @@ class Escapes(unittest.TestCase):
     """Without a plan that keeps the rules: the last one is held while it leaves a way out, and then own ship takes the
     way out."""
 
-    def test_a_plan_is_held_if_to_go_on_leaves_a_way_out(self) -> None:
+    def test_a_plan_is_held_if_continuing_leaves_an_escape(self) -> None:
         memory, _ = decide(Memory(), Answer(plan(20.0)), NOW, TRACK)
         _, held = decide(memory, Answer(cause=Cause.EVERY_PLAN_FAILS, escape=plan(20.0, 350.0, made=NOW + 60)),
                          NOW + 60, TRACK)
         self.assertEqual((held.state, held.course, held.promised, held.escaping), (State.HELD, 20.0, True, False))
 
-    def test_the_way_out_is_taken_if_to_go_on_leaves_none(self) -> None:
+    def test_the_escape_is_followed_if_continuing_leaves_none(self) -> None:
         memory, _ = decide(Memory(), Answer(plan(20.0)), NOW, TRACK)
         memory, away = decide(memory, Answer(cause=Cause.EVERY_PLAN_FAILS, escape=plan(80.0, made=NOW + 60)), NOW + 60,
                               TRACK)
@@ -135,7 +135,7 @@ class Areas(InFolder):
         ):
             self.assertEqual(self.SQUARE.is_entered(path), is_entered, path)
 
-    def test_what_is_no_area_is_refused_with_the_name_of_the_file(self) -> None:
+    def test_a_file_without_areas_is_refused_by_name(self) -> None:
         scenario = PilotScenario.read(example("giving_way.toml"))
         for text, words in (("[", "not JSON"), ('{"type": "Point", "coordinates": [1, 2]}',
                                                 "`Point` is not an area"), ('{"type": "Polygon"}', "a list is missing"),
@@ -163,12 +163,12 @@ class Routes(InFolder):
         self.assertEqual(route.track_at((9000.0, 5556.0)), Track(90.0, 8.0))
         self.assertTrue(route.is_done)
 
-    def test_beside_the_line_she_steers_for_it(self) -> None:
+    def test_off_the_line_she_steers_for_it(self) -> None:
         route = self.route("latitude,longitude\n0,0\n0.5,0\n")
         self.assertEqual(route.track_at((1000.0, 1000.0)).course, 315.0)
         self.assertEqual(route.track_at((-1000.0, 1000.0)).course, 45.0)
 
-    def test_a_route_that_is_none_is_refused_with_its_line(self) -> None:
+    def test_a_wrong_route_is_refused_with_its_line(self) -> None:
         for text, words in (
             ("latitude,longitude\n0,0\n91,0\n", "line 3"),
             ("a,b\n1,2\n", "line 2"),
@@ -189,14 +189,14 @@ class Sentences(unittest.TestCase):
                          "$INHTC,V,,,H,T,,,,60.0,60.0,,,T*%02X" % total(b"INHTC,V,,,H,T,,,,60.0,60.0,,,T"))
         self.assertEqual(len(command_sentence(decision, 60.0).split(",")), 14)
 
-    def test_words_cannot_break_a_sentence(self) -> None:
+    def test_a_text_cannot_break_a_sentence(self) -> None:
         text = text_sentence(Decision(State.NONE, 60.0, 14.0, words="a,b*c$d\r\n\u00e9 <x>" + "z" * 200))
         self.assertRegex(text, r"^\$INTXT,01,01,04,none: a b c d    <x>z+\*[0-9A-F]{2}$")
         self.assertLessEqual(len(text), 82)
 
 
 class Records(unittest.TestCase):
-    def test_static_data_stays_when_its_line_is_too_old(self) -> None:
+    def test_static_data_stays_after_its_line_is_dropped(self) -> None:
         lines = text_of(example("giving_way.log")).splitlines()
         record = Record(60)
         for k, line in enumerate(lines):
@@ -283,13 +283,13 @@ class Live(InFolder):
         self.assertIn("r16", {each["rule"] for each in found["reasons"]["by_target"]})
         self.assertIn(found["state"], ("held", "none"))
 
-    def test_a_scenario_that_the_program_refuses_is_a_state(self) -> None:
+    def test_a_scenario_that_the_program_refuses_gives_a_state(self) -> None:
         self.write("s.toml", text_of(self.scenario).replace("risk = 500", "risk = 0"))
         found = self.pilot("--every", "60", source="\n".join(self.lines))[-1]
         self.assertEqual((found["state"], found["cause"]), ("none", "scenario"))
         self.assertIn("scenario: detect.risk: range", found["words"])
 
-    def test_rows_that_no_program_of_ours_writes_are_a_state(self) -> None:
+    def test_rows_that_the_program_does_not_write_give_a_state(self) -> None:
         for rows, status, words in (("point,x,y\nmeeting,a\nvessel,,,,,,\nplan,x", 0, "rows as a plan"),
                                     ("why,99,9,9,9,9,9\nnone,1,,,,,", 1, "rows as reasons"), ("", 1, "no row `none`")):
             program = self.write("program", f"#!/bin/sh\ncat <<'END'\n{rows}\nEND\nexit {status}\n")
@@ -298,7 +298,7 @@ class Live(InFolder):
             self.assertEqual((found["state"], found["cause"]), ("none", "program"))
             self.assertIn(words, found["words"])
 
-    def test_an_own_ship_that_is_not_heard_is_not_ready(self) -> None:
+    def test_an_own_ship_without_reports_is_not_ready(self) -> None:
         self.write("s.toml", text_of(self.scenario).replace("mmsi = 200000031 ", "mmsi = 200000030 "))
         found = self.pilot("--every", "60", source="\n".join(self.lines))[-1]
         self.assertEqual((found["state"], found["cause"]), ("own_unready", "own_unready"))
@@ -422,7 +422,7 @@ class Going(InFolder):
             child.stdin.flush()
             time.sleep(1)
 
-    def test_a_stalled_input_is_stale_and_the_lines_go_on(self) -> None:
+    def test_a_stalled_input_is_stale_and_the_lines_continue(self) -> None:
         child = self.start("--stale", "2")
         self.feed(child, 4)
         found = child.lines(8)
@@ -435,7 +435,7 @@ class Going(InFolder):
         child.run.send_signal(signal.SIGTERM)
         self.assertEqual(child.run.wait(20), 0)
 
-    def test_a_program_that_is_killed_or_hangs_is_a_state(self) -> None:
+    def test_a_program_that_is_killed_or_hangs_gives_a_state(self) -> None:
         for body, words in (("kill -9 $$", "signal 9"), ("sleep 30", "no answer in"), ("exit 8", "status 8"),
                             ("echo plan,x", "rows as a plan")):
             program = self.write("program", "#!/bin/sh\n%s\n" % body)
@@ -472,7 +472,7 @@ class Library(InFolder):
         reasons = process.report("plan", few, log, why=True).text
         self.assertEqual([runner.report("recheck", few, log, rows=reasons).status for runner in runners], [0, 0])
 
-    def test_a_call_that_fails_or_hangs_is_a_status(self) -> None:
+    def test_a_call_that_fails_or_hangs_returns_a_status(self) -> None:
         def hangs(*_: object, **more: object) -> types.SimpleNamespace:
             time.sleep(1)
             return types.SimpleNamespace(status=0, text=b"", fault="")

@@ -117,7 +117,7 @@ class Tables(InFolder):
                 "dim_d": 20
             })
 
-    def test_what_a_row_lacks_is_told_and_its_neighbours_stay(self) -> None:
+    def test_missing_fields_of_a_row_are_reported_and_the_others_stay(self) -> None:
         bad = (
             "200000011,2023-11-14T22:13:31,x,-123.58234,14.0,90.5,91,ELM,,,70,0,120,20,5.0,70,A\n200000011,2023-11-14T22:13:31,48.25\n"
             "none,2023-11-14T22:13:31,48.25,-123.5,14.0,90.5,91,ELM,,,70,0,120,20,5.0,70,A\n200000011,14/11/2023 "
@@ -130,7 +130,7 @@ class Tables(InFolder):
                  ("a row with a field that is no number", 1),
                  ("a row with another number of fields than its head", 1)]))
 
-    def test_columns_that_are_not_known_are_named(self) -> None:
+    def test_unknown_columns_are_named(self) -> None:
         table = "mmsi;timestamp;lat;lon;velocity;way\n200000011;2023-11-14 22:13:21;48.25;-123.5;140;900\n"
         found, sentences = self.made(table)
         self.assertEqual((found.notes, len(sentences)), (["columns that are not read: velocity, way"], 1))
