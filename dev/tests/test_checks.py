@@ -181,7 +181,7 @@ class Edits(unittest.TestCase):
             ("file: src/lib.rt\nold: a < b\nnew: a > b\n", ""),
             ("file: src/lib.rt\nold: a < b\nnew: c < d\nold: c < d\nnew:\n", "`c < d` is in src/lib.rt 2 times"),
             ("file: src/lib.rt\nold: e\nnew: f\n", "`e` is in src/lib.rt 0 times"),
-            ("file: src/main.rt\nold: a\nnew: b\n", "there is no file src/main.rt"),
+            ("file: src/main.rt\nold: a\nnew: b\n", "the crate has no file src/main.rt"),
             ("old: a\nnew: b\n", "a line `new:` is before any line `file:` or `old:`"),
             ("file: src/lib.rt\n", "it has no lines `old:` and `new:`"),
         ):
@@ -297,7 +297,7 @@ class Command(unittest.TestCase):
 
     def test_wrong_uses_end_with_a_status_and_a_line(self) -> None:
         self.assertEqual(self.run_of("no_such").returncode, 2)
-        self.assertIn("/no/program is not a program that can be run",
+        self.assertIn("/no/program is not an executable file",
                       self.run_of("--program", "/no/program", "limits").stderr)
 
     def test_a_program_that_does_something_else_fails(self) -> None:

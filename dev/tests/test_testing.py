@@ -78,7 +78,7 @@ class Command(unittest.TestCase):
 
     def test_wrong_uses_end_with_status_2_and_run_nothing(self) -> None:
         for words, said in ((["no such job"], "no job's name begins with no such job"),
-                            (["--program", "/no/program"], "/no/program is not a program that can be run")):
+                            (["--program", "/no/program"], "/no/program is not an executable file")):
             done = self.run_of(*words)
             self.assertEqual((done.returncode, done.stdout), (2, ""))
             self.assertIn(said, done.stderr)
