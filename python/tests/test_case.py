@@ -1,4 +1,4 @@
-"""A case: its files and sums, and its map, database, pictures and page, by a passing that is computed by hand
+"""A case: its files and hashes, map, database, pictures and page, for a passing that is computed by hand
 (passing.py)."""
 import hashlib
 import json
@@ -168,7 +168,7 @@ class Parts(Cases):
         base.close()
 
     def test_only_pairs_with_a_requested_vessel_are_audited(self) -> None:
-        """WEST is given by her name, EAST by her number; of the one who lies still only pairs with WEST stay."""
+        """WEST is given by her name, EAST by her number; of the stopped vessel only pairs with WEST stay."""
         for vessel, mmsi in (("west", passing.WEST), (str(passing.EAST), passing.EAST)):
             with self.subTest(vessel):
                 said = self.make("--vessel", vessel, "-o", "of" + vessel)[1]
@@ -179,8 +179,8 @@ class Parts(Cases):
                 self.assertTrue(all(str(mmsi) in pair for pair in pairs), pairs)
 
     def test_only_vessels_that_were_in_an_area_are_audited(self) -> None:
-        """EAST goes along the equator from 0 to 0.05 degrees east, WEST 0.00167 degrees further north, and the third
-        lies as far to the south."""
+        """EAST moves along the equator from 0 to 0.05 degrees east, WEST 0.00167 degrees further north, and the third
+        is as far to the south."""
         ring = [[-1, -0.0001], [1, -0.0001], [1, 1], [-1, 1]]
         self.write("north.geojson", json.dumps({"type": "Polygon", "coordinates": [ring]}))
         for area in ("-0.0001,-1,1,1", "north.geojson"):

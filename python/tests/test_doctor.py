@@ -1,5 +1,5 @@
-"""The doctor names each wrong use, and is silent on the shipped examples. Where the program ends with status 0 all the
-same, that is said here."""
+"""The doctor names each wrong use, and is silent on the shipped examples. The tests also show where the program ends
+with status 0 in spite of the wrong use."""
 import gzip
 import os
 import re
@@ -16,7 +16,7 @@ from colregs.model.scenario_checks import Finding
 TOML, LOG = text_of(example("crossing.toml")), text_of(example("crossing.log"))
 GIVING, GIVING_LOG = text_of(example("giving_way.toml")), text_of(example("giving_way.log"))
 BEFORE, MIDDLE = 28950000, -74100000
-# the finding, what is done to the scenario of the crossings, and whether the program refuses it
+# the finding, the change of the crossings' scenario, and whether the program refuses it
 SCENARIOS = [
     ("misspelt key", "max_speed = 400", "max_speed = 400\nmaxbytes = 1000000", False),
     ("misspelt key", "[rules]", "[[formulas]]\nname = \"x\"\ntext = \"true\"\n[rules]", False),
@@ -112,7 +112,7 @@ class WrongUses(InFolder):
         self.assertEqual(self.names(short, LOG), ["gap shorter than reports are apart"])
 
     def test_a_shared_mmsi_is_named(self) -> None:
-        """Every second report of the second ship goes under the number of the first, ten miles to the north of her."""
+        """Every second report of the second ship has the MMSI of the first, ten miles to the north of her."""
         more = [report(1700000002 + 10 * k, 200000011, BEFORE + 100000, MIDDLE - 40 * k) for k in range(12)]
         told = words_of(self.found(TOML, by_time(LOG.splitlines() + more)))
         self.assertEqual(len(told), 1)
@@ -152,8 +152,8 @@ class WrongUses(InFolder):
                                   "roll-over it would be 2023-11-14 22:2")
 
     def test_verdicts_of_vessels_at_rest_are_named(self) -> None:
-        """The vessel that is to give way reports 0.3 knots all the time, as one that drifts about her anchor, and
-        another passes near."""
+        """The vessel that must give way reports 0.3 knots all the time, like a vessel at anchor, and another passes
+        near."""
         still = [report(1700000001 + 30 * k, 200000041, BEFORE, MIDDLE, way=3, course=0, heading=0) for k in range(26)]
         past = [
             report(1700000002 + 30 * k, 200000042, BEFORE + 300, MIDDLE + 4000 - 260 * k, way=120, course=2700,

@@ -1,4 +1,4 @@
-"""The pictures: well-formed, with the vessels and the numbers of the reports that they are drawn from."""
+"""The pictures: well-formed, with the vessels and the numbers of their reports."""
 import re
 import unittest
 import xml.etree.ElementTree
@@ -7,7 +7,7 @@ from given import InFolder, PROGRAM, example, text_of, with_program
 
 
 def words_of(text: str) -> str:
-    """Returns all words of a picture; raises ParseError if it is no XML."""
+    """Returns all texts of a picture; raises ParseError if it is not XML."""
     return " ".join("".join(element.itertext())
                     for element in xml.etree.ElementTree.fromstring(text).iter()
                     if element.tag.endswith("text"))

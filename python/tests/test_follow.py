@@ -1,4 +1,4 @@
-"""A stream that is followed: each row once, over turned windows, a midnight, cuts, kills and a limit of pairs."""
+"""Following a stream: each row once, across windows, midnight, interruptions, kills and a limit of pairs."""
 import json
 import os
 import re
@@ -65,7 +65,7 @@ class Streams(InFolder):
         return done[1], done[2]
 
     def again(self, after: int) -> list[str]:
-        """Returns the lines again, `after` seconds later."""
+        """Returns the lines moved by `after` seconds."""
         return [line + "\n" for line in crowd.moved([line.rstrip("\n") for line in self.lines], after)]
 
     def rows(self, text: str) -> list[str]:
@@ -216,7 +216,7 @@ class Meetings(InFolder):
         self.assertTrue(all(test_joins.YACHT in (line["subject"], line["other"]) for line in marked))
 
     def abreast(self) -> list[tuple[float, bytes]]:
-        """Two vessels that meet head on, then turn to go abreast, too near to be clear and without a risk."""
+        """Two vessels that meet head-on and then turn to move abreast, too near to be clear but without risk."""
         return [
             *test_joins.way(test_joins.EAST, 9, 0, 0, 3, to=5400),
             *test_joins.way(test_joins.NORTH, 9, 180, 500, 4, x=100, y=2615, to=500),
@@ -271,8 +271,7 @@ class Meetings(InFolder):
 
 class Healths(Streams):
     def of_stations(self, ahead: int) -> str:
-        """The harbour's lines as three stations hear them, a third of the vessels each; the clock of the last is
-        ahead."""
+        """The harbour's lines from three stations, each with a third of the vessels; the clock of the last is ahead."""
         made = []
         for line in self.lines:
             if not line.startswith("\\"):
@@ -411,8 +410,8 @@ class Parts(InFolder):
             self.assertEqual(clock.take(b"\\s:%s,c:%d*00\\" % (name.encode(), at)), told, name)
 
     def heard(self, clock: MedianClock, name: str, at: int) -> list[tuple[int | None, int | None]]:
-        """Returns the stamps of the lines that a clock releases at a line of a station: as they came, and as they are
-        written."""
+        """Returns the stamps of the lines that a clock releases at a line of a station: as they arrived, and as they
+        are written."""
         line = sentences.block(at, b"s:" + name.encode()) + b"!x"
         clock.take(line)
         return [(stamp(came), stamp(written)) for came, written in clock.released(line)]
@@ -451,7 +450,7 @@ class Parts(InFolder):
         for row, marks in (("meeting,1,2,head_on,50,95,5", ()),             # begins alike
                            ("meeting,5,6,passing,20,96,5", ("begins_before",)),
                            ("verdict,1,2,own,broken,93,97", ("doubt",)),    # as `seen` is of all times
-                           ("verdict,7,8,r8d,broken,94,98", ("doubt",)),    # the meeting before is not there
+                           ("verdict,7,8,r8d,broken,94,98", ("doubt",)),    # the earlier meeting is missing
                            ("verdict,9,10,r8d,broken,79,99", ("begins_before",)),
                            ("verdict,9,10,r8d,broken,81,99", ())):
             self.assertEqual(borders.take(1000, row), marks, row)

@@ -1,4 +1,4 @@
-"""Further forms of logs, each with times, places and speeds by hand: captures of a network, Danish raw data, tables,
+"""More forms of logs, each with times, places and speeds computed by hand: network captures, Danish raw data, tables,
 JSON, GPX, and receivers' clocks."""
 import datetime
 import gzip
@@ -29,7 +29,7 @@ def udp(payload: bytes, ipv6: bool = False) -> bytes:
 
 
 def pcap(order: str, magic: int, *packets: bytes) -> bytes:
-    """Returns a pcap, as its specification gives it: an hour of packets, one a second."""
+    """Returns a pcap by its specification: an hour of packets, one per second."""
     head = struct.pack(order + "IHHiIII", magic, 2, 4, 0, 0, 65535, 1)
     return head + b"".join(
         struct.pack(order + "4I", AT + k, 5, len(data), len(data)) + data for k, data in enumerate(packets))
@@ -184,7 +184,7 @@ class Tables(Logs):
 
 class Jsons(Logs):
     def test_aishub_and_aisstream(self) -> None:
-        """As their pages give them."""
+        """In the forms of their documentation."""
         hub = [{"ERROR": False, "USERNAME": "A", "FORMAT": "HUMAN", "RECORDS": 1},
                [{
                    "MMSI": 200000011, "TIME": "2023-11-14 22:13:21 GMT", "LONGITUDE": -123.58234, "LATITUDE": 48.25,

@@ -1,5 +1,4 @@
-"""Joins that could be wrong without a word: each is now that of one run, or is refused, or marks the rows in question
-by name."""
+"""Joins that could be silently wrong: each equals that of one run, or is refused, or marks the rows in question."""
 import csv
 import gzip
 import io
@@ -33,7 +32,7 @@ CROSSING = 3 * 3600 + 1800          # s after the start at which two vessels cro
 
 def way(mmsi: int, knots: int, course: int, at: int, offset: int, x: float = 0.0, y: float = 0.0, to: int = 21600,
         every: int = 30, status: int = 15) -> Iterator[Row]:
-    """Reports of a vessel that is at a place at a time, with the moments at which they come."""
+    """Returns the reports of a vessel that is at a place at a time, with their arrival times."""
     for second in range(offset, to, every):
         far = knots * 1852 / 3600 * (second - at)
         east, north = x + far * math.sin(math.radians(course)), y + far * math.cos(math.radians(course))
@@ -178,7 +177,7 @@ class Plans(Joins):
             with unittest.mock.patch("colregs.shares.index.read_span",
                                      side_effect=AssertionError if not more else read_span):
                 self.assertEqual(self.many("plan", *words, *more, "--index", "index")[1], plan)
-            # beside the file, if no folder is named
+            # next to the file, if no folder is named
             self.assertTrue(os.path.exists(self.path(".one.gz.colregs-index")))
         self.log(rows, "two.gz")
         self.assertEqual(self.many("plan", *words, "--index", "index")[1], self.many("plan", *words)[1])
@@ -382,7 +381,7 @@ class Parts(InFolder):
         self.assertFalse(Scenario(self.write("s.toml", SCENARIO)).ranks)
 
     def test_each_limit_has_its_number_and_a_next_step(self) -> None:
-        # the words of docs/REPORT.md
+        # the texts of docs/REPORT.md
         for words, number, step in (
             ("limit: log 1073741824", "1 GiB", "split the log"),
             ("limit: vessels 4096", "4096", "--tiles"),

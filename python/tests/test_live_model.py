@@ -1,5 +1,5 @@
-"""The state of a live page: alarms as stretches, preliminary ones, encounters, changes, acknowledgements, and who may
-ask."""
+"""The state of a live page: alarms as stretches, preliminary alarms, encounters, changes, acknowledgements, and
+access."""
 import json
 import os
 import time
@@ -378,7 +378,7 @@ class Doors(InFolder):
 
 @with_program
 class Streams(WithScenario):
-    """What `colregs-follow --stretches` writes."""
+    """The output of `colregs-follow --stretches`."""
 
     # a busy machine may let alarms or positions wait for long
     WORDS = ["--days", "days", "--program", PROGRAM, "--ticks-each", "60", "--overlap", "900", "--modes", "watch"]
@@ -391,7 +391,7 @@ class Streams(WithScenario):
         return [json.loads(line) for line in out.splitlines()]
 
     def spans(self, alarms: list[Any]) -> dict[tuple[int, int, str], list[tuple[int, int]]]:
-        """Returns the stretches that rows of alarms make."""
+        """Returns the stretches of rows of alarms."""
         steps: dict[tuple[int, int, str], set[int]] = {}
         for row in alarms:
             fields = row["row"].split(",")
@@ -406,7 +406,7 @@ class Streams(WithScenario):
         return found
 
     def over(self, rows: list[Any]) -> dict[tuple[int, int, str], list[tuple[int, int]]]:
-        """Returns the stretches that lines of stretches say are over."""
+        """Returns the stretches that are over by lines of stretches."""
         found: dict[tuple[int, int, str], list[tuple[int, int]]] = {}
         for row in rows:
             if row["kind"] == "stretch" and row["state"] == "over":
@@ -497,7 +497,7 @@ class States(WithScenario):
         self.assertIsNotNone(state.acknowledge(alarm["id"], True, "seen", 7))
         self.assertEqual(state.change()["alarms"][0]["note"], {"acknowledged": True, "note": "seen", "at": 7})
         self.assertIsNone(state.acknowledge("none", True, "", 7))
-        state.answer(Answer(START, START + 110, fault="status 7"))          # it says nothing of the alarm
+        state.answer(Answer(START, START + 110, fault="status 7"))          # it does not mention the alarm
         self.assertNotIn("alarms", state.change())
         state.answer(Answer(START, START + 120))
         self.assertEqual(state.change()["alarms"][0]["state"], WITHDRAWN)

@@ -1,4 +1,4 @@
-"""The server of the live page, from outside: its socket, lists, limits, and what stands after a kill."""
+"""The server of the live page, from outside: its socket, lists, limits, and its data after a kill."""
 import io
 import json
 import os
@@ -29,7 +29,7 @@ class WithHarbour(WithLive):
         self.lines = text_of(example("harbour_of_twenty.log")).splitlines(keepends=True)
 
     def expected(self, shift: int = 0) -> Spans:
-        """Returns the stretches of alarms that one run of `watch` makes of the whole log."""
+        """Returns the stretches of alarms of one run of `watch` over the whole log."""
         from colregs.run.program import Run
         self.write("whole",
                    "".join(line + "\n" for line in crowd.moved((line.rstrip("\n") for line in self.lines), shift)))
@@ -283,7 +283,7 @@ class Answers(WithHarbour):
         self.check_rate(server)
 
     def check_rate(self, server: Live) -> None:
-        """Sends more requests at once than are let through."""
+        """Sends more requests at once than the limit."""
         with socket.create_connection(("127.0.0.1", server.port), 60) as asked:
             asked.sendall(f"GET /settings HTTP/1.1\r\nHost: 127.0.0.1:{server.port}\r\n\r\n".encode() * 3000)
             told = b""

@@ -1,4 +1,4 @@
-"""The commands' pages: each manual page and completion has what `--help` says, by the commands as a user calls them."""
+"""The commands' pages: each manual page and completion has the options of `--help`, by the commands that users call."""
 import os
 import re
 import subprocess

@@ -1,4 +1,4 @@
-"""The pilot: what it says at each moment, its choices, areas, routes and sentences, and the loop over a stream."""
+"""The pilot: its decisions, choices, areas, routes and sentences, and the loop over a stream."""
 import functools
 import json
 import os
@@ -32,14 +32,14 @@ NOW = 1700000000
 
 
 def plan(*courses: float, made: int = NOW, leg: int = 180, speed: float = 14.0) -> Plan:
-    """A plan with a leg of so many seconds for each course."""
+    """Returns a plan with one leg of `seconds` per course."""
     return Plan(7, made,
                 tuple(Leg(course, speed, made + k * leg, made + (k + 1) * leg) for k, course in enumerate(courses)))
 
 
 class States(unittest.TestCase):
     def after(self, *answers: Answer, every: int = 60) -> list[Decision]:
-        """The decisions after answers that come one after the other."""
+        """Returns the decisions after successive answers."""
         memory, found = Memory(), list[Decision]()
         for k, answer in enumerate(answers):
             memory, decision = decide(memory, answer, NOW + k * every, TRACK)
@@ -103,8 +103,8 @@ class Choices(unittest.TestCase):
 
 
 class Escapes(unittest.TestCase):
-    """Without a plan that keeps the rules: the last one is held while it leaves a way out, and then own ship takes the
-    way out."""
+    """Without a plan that keeps the rules, own ship holds the last plan while it leaves an escape, and then follows the
+    escape."""
 
     def test_a_plan_is_held_if_continuing_leaves_an_escape(self) -> None:
         memory, _ = decide(Memory(), Answer(plan(20.0)), NOW, TRACK)
@@ -216,7 +216,8 @@ class Records(unittest.TestCase):
 
 
 class Answers:
-    """A runner by whose clock each run takes some seconds; it has no plan, and a clock's `monotonic` and `time`."""
+    """A runner with a clock by which each run takes some seconds; it has no plan. It also acts as the clock:
+    `monotonic` and `time`."""
 
     def __init__(self, seconds: float) -> None:
         self.seconds, self.now = seconds, 1000.0
@@ -238,7 +239,7 @@ class Answers:
 
 class Lateness(unittest.TestCase):
     def test_an_answer_that_takes_more_than_half_of_the_time_between_two_lines_is_late(self) -> None:
-        # points, audit, plan, recheck and the escape: five runs for a moment
+        # points, audit, plan, recheck and the escape: five runs per moment
         for seconds, is_late in ((2.9, False), (3.1, True)):
             runner = Answers(seconds)
             scenario = PilotScenario.read(example("giving_way.toml"))
@@ -397,12 +398,12 @@ class Child:
             try:
                 pipe.close()
             except OSError:
-                pass            # what was not written when it was killed
+                pass            # the rest that was not written when it was killed
 
 
 @with_program
 class Going(InFolder):
-    """The pilot as a process over a stream that is alive."""
+    """The pilot as a process over a live stream."""
 
     def start(self, *words: str, program: str = PROGRAM) -> Child:
         text = text_of(example("giving_way.toml"))
@@ -415,7 +416,7 @@ class Going(InFolder):
         return child
 
     def feed(self, child: Child, seconds: int) -> None:
-        """Own ship's reports, one a second of the clock."""
+        """Yields own ship's reports, one per second of the clock."""
         for k in range(seconds):
             report = class_a(200000031, (29000000 + 25 * k, -74200000, 140, 0, 0, k % 60))
             child.stdin.write(block(int(time.time())) + sentence(report, b"AIVDO") + b"\n")

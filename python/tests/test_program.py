@@ -1,4 +1,4 @@
-"""Which program the tools run: never one in the current folder, which may be a folder of evidence."""
+"""The choice of the program: never one in the current folder, which may be a folder of evidence."""
 import os
 import subprocess
 import sys

@@ -1,5 +1,5 @@
-"""Whatever the bytes: each reader ends with a value or a named fault, each line is counted, and what `tagged` writes is
-read again as it is.
+"""For any bytes, each reader ends with a value or a named fault, each line is counted, and the output of `tagged` is
+read unchanged.
 
 The bytes are Hypothesis's (Debian package python3-hypothesis). Its seed is fixed, so that each run tries the same.
 """
@@ -86,7 +86,7 @@ def changed_row(row: str, at: int, text: str) -> str:
 
 class Properties(unittest.TestCase):
     def gathered(self, log: bytes, **more: Any) -> tuple[Gathered, bytes]:
-        """Returns what came of a log, and the log that was made."""
+        """Returns the result of reading a log, and the log that was made."""
         with tempfile.TemporaryDirectory() as folder:
             path, out = os.path.join(folder, "log"), os.path.join(folder, "out")
             with open(path, "wb") as made:
@@ -96,7 +96,7 @@ class Properties(unittest.TestCase):
                 return found, source.read()
 
     def only(self, faults: type[Exception] | tuple[type[Exception], ...], call: Callable[[], object]) -> None:
-        """Checks that a call ends with a value, or with one of these faults that has words."""
+        """Checks that a call ends with a value, or with one of these faults and a message."""
         try:
             call()
         except faults as fault:

@@ -1,4 +1,4 @@
-"""The one reader of reports knows its window, and refuses a report that does not fit; and it knows who lies still."""
+"""The reader of reports knows its window, refuses a report that does not fit, and finds vessels at rest."""
 import unittest
 
 import passing
@@ -80,7 +80,7 @@ class AtRest(unittest.TestCase):
         self.assertFalse(rest.at_rest(moving_before, 50, 250))
 
     def test_without_a_speed_the_way_counts(self) -> None:
-        # half a knot is 15.43 m a minute
+        # half a knot is 15.43 m per minute
         self.assertTrue(rest.at_rest(track((0, 0, NONE), (60, 15.4, NONE), (120, 15.4, 0)), 0, 59))
         self.assertFalse(rest.at_rest(track((0, 0, NONE), (60, 15.5, NONE), (120, 15.5, 0)), 0, 59))
 

@@ -1,5 +1,5 @@
-"""A suggested scenario: its window, tick and reference by hand reckoning, what it says of its guesses, and that the
-program takes it."""
+"""A suggested scenario: its window, tick and reference computed by hand, its notes on guesses, and that the program
+accepts it."""
 import os
 import tomllib
 import unittest
@@ -82,7 +82,7 @@ class Suggested(InFolder):
         self.assertIn("the watch is 1500 m instead of 5000", reasons)
 
     def test_the_window_is_cut_if_no_watch_suffices(self) -> None:
-        """65 ships in one place, 4160 pairs; the last comes in the second half."""
+        """65 ships in one place, 4160 pairs; the last one arrives in the second half."""
         log = b"".join(report(1700000000 + 60 * minute, 200000001 + k, 600000, 1200000)
                        for minute in range(21) for k in range(65) if k < 64 or minute > 14)
         values, reasons = self.values(log)

@@ -1,4 +1,4 @@
-"""Shares of an audit: planned, run, kept, resumed and joined; the joined rows are byte for byte those of the whole
+"""Shares of an audit: planned, run, cached, resumed and joined; the joined rows are byte for byte those of the whole
 run."""
 import gzip
 import json

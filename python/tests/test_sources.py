@@ -1,5 +1,5 @@
-"""Logs as receivers, gpsd, AIS-catcher, SignalK and OpenCPN write them; packed files, encodings, order, and what cannot
-be read."""
+"""Logs of receivers, gpsd, AIS-catcher, SignalK and OpenCPN; compressed files, encodings, order, and unreadable
+input."""
 import bz2
 import gzip
 import lzma
@@ -77,10 +77,10 @@ class Receivers(Sources):
         void = rmc("221331", "060180", "V", ",,,", ",")
         found, made = self.gathered("\n".join([void, S, sentence("GPZDA,221331,06,01,1980,00,00"), T]))
         self.assertEqual((found.sentences, found.untimed), (0, 2))
-        self.assertEqual(made, [S, T])                                           # no time in all the log: as they stand
+        self.assertEqual(made, [S, T])                                           # no time in the whole log: unchanged
         self.assertEqual(found.aside["RMC without a valid fix"], 1)
         _, made = self.gathered("\n".join([rmc("221321", "141123"), S, void, T]))
-        self.assertEqual(made, ["\\c:1700000001*5E\\" + S])                    # nobody knows how long after
+        self.assertEqual(made, ["\\c:1700000001*5E\\" + S])                    # it is unknown how long after
         unset = rmc("000010", "060180")
         self.assertEqual(self.gathered(unset + "\n" + S)[0].aside["RMC of a clock that is not set"], 1)
 
@@ -125,8 +125,8 @@ class Receivers(Sources):
 
     @with_program
     def test_plan_runs_on_a_log_that_was_only_received(self) -> None:
-        """The log of giving_way without own ship's reports, and a receiver that reports her each ten seconds, as
-        encounters.py has her."""
+        """The log of giving_way without own ship's reports, and a receiver that reports her every ten seconds, with the
+        data of encounters.py."""
         others = [
             line for line in text_of(example("giving_way.log")).splitlines()
             if "12vg27h" not in line and ",52vg27h" not in line
@@ -145,8 +145,8 @@ class Receivers(Sources):
 
 
 def own_place(second: int) -> str:
-    """Returns where OAK is: at 29000000 north, -74200000 east in 1/10000 minute, 1297 m to the south, going north at 14
-    knots."""
+    """Returns the place of OAK: at 29000000 north, -74200000 east in 1/10000 minute, 1297 m to the south, moving north
+    at 14 knots."""
     latitude = round(29000000 + (-1297 + second * 14 * 1852 / 3600) / 1852 * 10000)
     return f"{latitude // 600000:02d}{latitude % 600000 / 10000:07.4f},N,12340.0000,W"
 
@@ -249,8 +249,8 @@ class Blocks(Sources):
         self.assertEqual((found.sentences, found.back, found.unread), (312, 0, {}))
 
     def test_a_time_counts_for_few_lines_after_it(self) -> None:
-        """A part has the time of its message whatever comes; other lines have it as long as the next time is near, or
-        few follow it."""
+        """A part always has the time of its message; other lines have it if the next time is near, or if few lines
+        follow it."""
         parts = ["\\c:1700000000*5F\\!AIVDM,2,1,0,A,52vg22h000000000000Dhl000000000000000016;@N::000004i@E53,0*77",
                  "!AIVDM,2,2,0,A,1@0000000000000,2*55"]
         self.assertEqual(self.times("\n".join([*parts, "1700009000 " + T])), [1700000000, 1700000000, 1700009000])
@@ -289,7 +289,7 @@ def gather_lines(test: InFolder, lines: Iterable[str]) -> list[str]:
 
 class Mutated(Sources):
     def test_any_bytes_break_nothing_and_lose_no_line(self) -> None:
-        """Lines of all forms and tables with bytes put in, taken out and changed, from seeds."""
+        """Lines of all forms and tables with bytes inserted, removed and changed, from seeds."""
         chance = random.Random(1)
         clocks = rmc("221321", "141123"), sentence("HEHDT,091.4,T"), base_station(21)
         plain = [line.encode() for line in (*test_times.FORMS, *test_times.UNSURE, *clocks)]
@@ -304,7 +304,7 @@ class Mutated(Sources):
 
 
 def mutated(chance: random.Random, line: bytes) -> bytes:
-    """Returns the line with up to three bytes put in, changed or taken out; some mean much here."""
+    """Returns the line with up to three bytes inserted, changed or removed; some bytes are special here."""
     for _ in range(chance.randrange(4)):
         at, byte = chance.randrange(len(line) + 1), bytes(
             [chance.choice([chance.randrange(256), *b",.;:\"\\!$*{}[]0"])])

@@ -1,4 +1,4 @@
-"""Tables of positions by their heads, read back by gpsdecode and by libais (python3-ais); the examples through
+"""Tables of positions by their headers, read back by gpsdecode and by libais (python3-ais); the examples through
 MarineCadastre's columns and back."""
 import json
 import math
@@ -36,7 +36,7 @@ HUB = ("MMSI,TSTAMP,LATITUDE,LONGITUDE,COG,SOG,HEADING,ROT,NAVSTAT,IMO,NAME,CALL
 HUB_RAW = ("MMSI,TIME,LONGITUDE,LATITUDE,COG,SOG,HEADING,ROT,NAVSTAT,IMO,NAME,CALLSIGN,TYPE,A,B,C,D,DRAUGHT,DEST,ETA\n"
            "200000011,1700000001,-74149404,28950000,905,140,91,128,0,9123456,ELM,WDA1234,70,0,120,0,20,50,KIEL,11-20 "
            "10:00\n")
-# what the fields above say, in the words of gpsdecode: degrees, knots, metres; 360 and 511 are none
+# the fields above by the names of gpsdecode: degrees, knots, metres; 360 and 511 mean none
 ELM = {
     "type": 1, "mmsi": 200000011, "status": 0, "speed": 14.0, "lon": -123.58234, "lat": 48.25, "course": 90.5,
     "heading": 91, "second": 21
@@ -158,8 +158,7 @@ def said(report: str) -> list[list[str]]:
 
 
 def cadastre(name: str) -> str:
-    """Returns the rows that MarineCadastre would have of an example: degrees with five decimals, knots and degrees with
-    one."""
+    """Returns an example in the form of MarineCadastre: degrees with five decimals, knots and degrees with one."""
     with open(example(name + ".toml"), "rb") as source:
         values = tomllib.load(source)
     window, reference, rows = values["window"], values["reference"], []

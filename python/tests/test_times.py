@@ -1,4 +1,4 @@
-"""Each usual form of a time in a line, by the moment 2023-11-14 22:13:21 UTC, which `date -u -d @1700000001` writes."""
+"""Each usual form of a time in a line, for 2023-11-14 22:13:21 UTC, which `date -u -d @1700000001` prints."""
 import unittest
 
 from given import InFolder

@@ -1,4 +1,4 @@
-"""Sea trials: the same run by its seed, what is counted, and the page."""
+"""Sea trials: reproducible runs, the counts, and the page."""
 import json
 import math
 import os
@@ -24,7 +24,7 @@ OWN = Track(0.0, 14.0)
 
 
 def result(seed: int = 1, least: float = 1000.0, **more: Any) -> Result:
-    """A run in which nothing happened, but for what is given."""
+    """Returns a run in which nothing happened, except the given values."""
     other = Begin(200000100, "OTHER 1", 100, (0.0, 9000.0), Track(180.0, 14.0), "head_on")
     return replace(Result(seed, "head_on", [other], least=least, room=least - 400, replans=10, length=100), **more)
 
@@ -148,7 +148,7 @@ class Same(InFolder):
         self.assertEqual(self.within("colregs-trials", "none.toml", "--program", PROGRAM)[0], 1)
 
     def test_two_vessels_without_plans_collide(self) -> None:
-        # a pilot that may only keep on is no pilot: the measure has to see that it fails
+        # a pilot that may only keep course is not a pilot: the measure must show that it fails
         values = PilotScenario.read(SCENARIO).with_own(courses=[0], speeds=[0])
         other = Begin(200000100, "OTHER 1", 100, (0.0, 14 * KNOT * 2 * 700), Track(180.0, 14.0), "head_on")
         runner = ProcessRunner(PROGRAM)
@@ -161,7 +161,7 @@ class Same(InFolder):
 
 
 class BlindRunner:
-    """A runner whose escapes never come: a question without rules is answered that every plan fails."""
+    """A runner without escapes: it answers a question without rules that every plan fails."""
 
     def __init__(self, runner: Runner) -> None:
         self.runner = runner

@@ -1,5 +1,5 @@
-"""A case is audited whole: shares give the rows of one run, long windows and many vessels are no reason to cut, and
-what is left out is said."""
+"""A case is audited whole: shares give the rows of one run, long windows and many vessels are not cut, and omissions
+are reported."""
 import json
 import os
 import sqlite3
@@ -44,7 +44,7 @@ class Shares(InFolder):
                 self.assertEqual(found.shares > 1, room == 40)
 
     def test_tiles_give_the_rows_of_one_run(self) -> None:
-        """A run takes 4096 vessels; here 18 are too many, of twenty."""
+        """A run allows 4096 vessels; here 18 of twenty are too many."""
         place, case, whole = self.harbour()
         near, scenario = pairs.near_pairs(case, 20000), Scenario(place.path("scenario.toml"))
         with mock.patch.object(audit, "MOST_VESSELS", 18):
