@@ -19,7 +19,7 @@ run=ended status=0 runners=1 proved=no
 
 
 class Counts(unittest.TestCase):
-    def test_tests_of_a_crate(self) -> None:
+    def test_the_counts_of_a_crates_tests(self) -> None:
         self.assertEqual(counted(TRIED, 0), Count(43, 0))
         self.assertEqual(counted(TRIED.replace("ok. 43 passed; 0", "FAILED. 41 passed; 2"), 101), Count(41, 2))
 
