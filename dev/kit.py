@@ -1,4 +1,4 @@
-"""The kit that proves and compiles: where it is, and how its commands are called."""
+"""The kit that proves and compiles: its folder and its commands."""
 from __future__ import annotations
 
 import os
@@ -9,12 +9,12 @@ from typing import Dict, List
 from .repository import Fault, PROGRAM, listed_crates, crates_of, path_of, read_if_there
 
 TARGET = "x86_64-unknown-linux-gnu"
-# The prover takes some 8 % less time if its allocator gives no memory back while it runs. `.ci/run` sets the same.
+# The prover takes some 8 % less time if its allocator returns no memory while it runs. `.ci/run` sets the same.
 SETTINGS = {"MIMALLOC_PURGE_DELAY": "-1", **os.environ}
 
 
 def asked(word: str) -> str:
-    """Returns what `rt WORD` prints. Raises Fault if `rt` cannot be run."""
+    """Returns the output of `rt WORD`. Raises Fault if `rt` cannot run."""
     try:
         done = subprocess.run(["rt", word], stdin=subprocess.DEVNULL, stdout=subprocess.PIPE, stderr=subprocess.PIPE,
                               universal_newlines=True)
@@ -30,7 +30,7 @@ class Kit:
     """The folder of the kit that `rt` belongs to."""
 
     def __init__(self) -> None:
-        """Finds the kit. Raises Fault if there is none, or it lacks what builds."""
+        """Finds the kit. Raises Fault if there is none, or if it lacks its build tools."""
         self.folder = os.path.dirname(asked("doc"))
 
     def tool(self, *names: str) -> str:
@@ -63,7 +63,7 @@ class Kit:
         return folders
 
     def source_words(self, folders: Dict[str, str]) -> List[str]:
-        """Returns the words that hand the program to the kit as the sources in these folders: its root, and each
+        """Returns the arguments that pass the program to the kit as the sources in these folders: its root, and each
         library below it with those that it uses."""
         listed = listed_crates()
         crates = crates_of(PROGRAM, listed)
@@ -80,7 +80,7 @@ class Kit:
         return words
 
     def libraries(self, crates: List[str], listed: Dict[str, List[str]]) -> Dict[str, List[str]]:
-        """Returns the kit's libraries that these crates stand on, each with those that it uses itself."""
+        """Returns the kit's libraries that these crates depend on, each with the libraries that it uses itself."""
         found: Dict[str, List[str]] = {}
         waiting = ["std", *[it for crate in crates for it in listed[crate] if it not in listed]]
         while waiting:

@@ -1,8 +1,8 @@
 """Turns the module that the kit makes for `rt try` into the one that its build of a proved program compiles.
 
 `rt try` compiles with checks for faults that a proof rules out: it marks each function for AddressSanitizer, calls a
-check before each step that could go wrong, and fills each new local. It also leaves out the inlining attributes of the
-sources. Here the checks and fills go, and the attributes come back.
+check before each step that could go wrong, and fills each new local. It also omits the inlining attributes of the
+sources. This module removes the checks and fills and restores the attributes.
 """
 from __future__ import annotations
 
@@ -11,7 +11,7 @@ import os
 import re
 from typing import Dict, FrozenSet, Iterable, Iterator, List, Tuple
 
-# The processor that the kit's builds aim at, as its clang names it.
+# The target processor of the kit's builds, by its clang name.
 _PROCESSOR = '"target-cpu"="x86-64-v2"'
 _PROBES = '"probe-stack"="inline-asm" "stack-probe-size"="3072"'
 
@@ -62,10 +62,10 @@ class Inlining:
                             self._known[crate, function].append((modules, words))
 
     def of(self, symbol: str) -> Attributes:
-        """Returns the attributes of a function by its name in the module, as `crate::module::Type::name`.
+        """Returns the attributes of a function by its name in the module, such as `crate::module::Type::name`.
 
-        If several functions of a crate have the name, it is that of the longest path of modules that the symbol begins
-        with.
+        If several functions of a crate have the name, the one with the longest path of modules at the start of the
+        symbol counts.
         """
         parts = re.sub(r"::<#.*?>", "", symbol).split("::")
         found = self._known.get((parts[0], parts[-1]), [])
@@ -94,7 +94,7 @@ class Groups:
 
 
 def _as_built(line: str) -> str:
-    """Returns a line of attributes as a build without checks has it."""
+    """Returns a line of attributes in the form of a build without checks."""
     line = line.replace(" sanitize_address", "").replace('"target-cpu"="x86-64"', _PROCESSOR)
     line = re.sub(r' ?"frame-pointer"="all"', "", line)
     return re.sub(r"^(attributes #\d+ = \{) *\}", r"\1 nounwind }", line)

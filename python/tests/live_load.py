@@ -1,4 +1,5 @@
-"""What the live page costs: live_load.py PROGRAM [--vessels N] [--hours H] [--speed S] [--each SECONDS] [--browsers N]
+"""Measures the cost of the live page: live_load.py PROGRAM [--vessels N] [--hours H] [--speed S] [--each SECONDS]
+[--browsers N]
 
 It makes a log of N vessels in a roadstead, three of eight at rest and five under way between its corners, replays it at
 S times real speed, and prints how much CPU time and memory the server and its runs of the program took.
@@ -30,7 +31,7 @@ UNIT = 0.1852                           # metres of 1/10000 minute of latitude
 
 
 class Ship:
-    """A vessel that lies still or goes from place to place."""
+    """A vessel that is stopped or moves from place to place."""
 
     def __init__(self, draw: random.Random, mmsi: int, moves: bool) -> None:
         self.draw, self.mmsi, self.moves = draw, mmsi, moves
@@ -39,7 +40,7 @@ class Ship:
         self.to = self.x, self.y
 
     def go(self, seconds: float) -> int:
-        """Goes on for some seconds; returns the course in 1/10 degree."""
+        """Moves for some seconds; returns the course in 1/10 degree."""
         if not self.moves:
             return self.mmsi * 37 % 3600
         while math.dist((self.x, self.y), self.to) < 300:
@@ -108,13 +109,13 @@ def all_seconds(pid: int) -> float:
 
 
 def most_memory(pid: int) -> float:
-    """Returns the most MiB that a process had."""
+    """Returns the peak memory of a process in MiB."""
     with open(f"/proc/{pid}/status", encoding="ascii") as source:
         return next(int(line.split()[1]) for line in source if line.startswith("VmHWM")) / 1024
 
 
 def listen(browser: WebSocket) -> None:
-    """Reads what a browser gets."""
+    """Reads the messages to a browser."""
     try:
         while True:
             browser.message()
@@ -123,7 +124,7 @@ def listen(browser: WebSocket) -> None:
 
 
 def main() -> int:
-    """Replays a log, and prints what that cost."""
+    """Replays a log, and prints the cost."""
     words = argparse.ArgumentParser(description=__doc__, formatter_class=argparse.RawDescriptionHelpFormatter)
     words.add_argument("program")
     for name, value in (("vessels", 400), ("hours", 24), ("speed", 60), ("each", 60), ("browsers", 1)):
