@@ -1,5 +1,5 @@
 -- The single arguments that ask the program about itself.
-use Rattle.std.specs.Prelude.{codes, List, [], ◌∷◌, Option, Some, None, if◌then◌else◌}
+use Rattle.std.specs.Prelude.{ℕ, codes, List, [], ◌∷◌, ◌++◌, Option, Some, None, if◌then◌else◌}
 use Rattle.std.specs.Str.{bytes_eq}
 use Rattle.clap.specs.Words.{Text}
 use Rattle.command_line.specs.declared.help.InfoRequest.{InfoRequest}
@@ -17,3 +17,7 @@ info_by word =
 abbrev pub info_of : List Text → Option InfoRequest
 info_of (word ∷ []) = info_by word
 info_of _ = None
+
+-- the line with the program's name and its version
+abbrev pub version_line : List ℕ
+version_line = codes "colregs 0.1.0" ++ 10 ∷ []

@@ -1,6 +1,7 @@
 //! The texts that the program writes about itself.
-ghost use Rattle.std.specs.Prelude.{◌≡◌};
-ghost use Rattle.command_line.specs.InfoArguments.{info_of};
+ghost use Rattle.std.specs.Prelude.{◌≡◌, IfOk, string_bytes};
+ghost use Rattle.command_line.specs.InfoArguments.{info_of, version_line};
+ghost use Rattle.command_line.specs.declared.help.InfoRequest.{InfoRequest};
 
 use crate::colregs::colregs;
 use crate::mode::mode_values;
@@ -34,15 +35,28 @@ pub fn info_request(words: &[Word]) -> Option<InfoRequest>
     }
 }
 
-/// Returns the text that `clap` makes of the command by which [`request_of`](crate::request_of) reads words.
-pub fn info_text(alloc: Global, request: InfoRequest) -> Result<String, Memory> {
+/// The text that `clap` makes of the command by which [`request_of`](crate::request_of) reads words: the long one or the short one. No clause
+/// of `clap` says which bytes it has.
+fn usage_text(alloc: Global, is_long: bool) -> Result<String, Memory> {
     let modes = mode_values();
     let mut command = colregs(alloc, modes.as_slice())?;
-    let text = match request {
-        InfoRequest::Help => command.render_long_help(),
-        InfoRequest::Summary => command.render_help(),
-        InfoRequest::Version => command.render_version(),
+    let text = if is_long {
+        command.render_long_help()
+    } else {
+        command.render_help()
     };
     drop(command);
     Ok(text?)
+}
+
+/// Returns what the program writes about itself: how it is used, with each mode or in short, or a line with its name and its version.
+pub fn info_text(alloc: Global, request: InfoRequest) -> Result<String, Memory>
+    ensures { request ≡ InfoRequest.Version
+        → IfOk result (λ text. string_bytes text ≡ version_line) }
+{
+    match request {
+        InfoRequest::Help => usage_text(alloc, true),
+        InfoRequest::Summary => usage_text(alloc, false),
+        InfoRequest::Version => Ok(String::from_str(alloc, "colregs 0.1.0\n")?),
+    }
 }

@@ -35,4 +35,11 @@ mod SomeCanonicalList
 mod Moments
 mod RightRows
 mod SomePlanReport
+mod Velocities
+mod SentRanges
+mod FollowingReports
+mod JoinedLegs
+mod PredictedStates
+mod KnownTicks
+mod SoundSituations
 mod SomeEnding

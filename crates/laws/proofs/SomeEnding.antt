@@ -1,22 +1,25 @@
 -- That a log with which nothing is wrong has no report is refuted.
-use Rattle.std.proofs.Common.{ℕ, ◌≡◌, ◌<◌, inl, inr, Bool, true, false, IsTrue, List, ◌++◌, length, take, Option, None, Some, Ok, Err, refl, sym}
-use Rattle.std.specs.Prelude.{IsSome, Result}
+use Rattle.std.proofs.Common.{ℕ, ◌≡◌, ◌<◌, ◌≤◌, inl, inr, Bool, true, false, IsTrue, List, ◌++◌, length, take, Option, None, Some, Ok, Err, mul-le-mul, refl, subst, sym}
+use Rattle.std.specs.Prelude.{IfSome, IsSome, Result}
 use Rattle.std.proofs.lemmas.Bool.{cases_lt}
+use Rattle.hull_domains.specs.Shapes.{IsShape}
+use Rattle.lattice.specs.Grids.{IsGrid}
 use Rattle.log_lines.specs.GrowingLog.{ended_lines}
 use Rattle.log_lines.specs.JudgedLines.{is_crowded, judged_lines, numbers_of}
 use Rattle.log_lines.specs.LogLines.{lines_of}
-use Rattle.plan_situations.specs.PlanSituations.{greatest_targets, own_readiness, targets_near}
+use Rattle.plan_situations.specs.PlanSituations.{greatest_targets, own_readiness, situation_of, targets_near}
 use Rattle.plan_situations.specs.declared.readiness.Ready.{Ready}
 use Rattle.plan_situations.specs.declared.readiness.Unready.{Unready}
 use Rattle.audit_report.specs.AlarmRows.{alarm_rows}
 use Rattle.audit_report.specs.OutcomeRows.{count_rows}
 use Rattle.audit_report.specs.StretchRows.{stretch_rows}
+use Rattle.scenario_values.specs.ValueRanges.{IsOwnPart}
 use Rattle.scenario_values.specs.declared.own_part.OwnPart.{OwnPart}
 use Rattle.scenario_values.specs.declared.values.Scenario.{Scenario}
 use Rattle.sessions.specs.AuditReport.{IsAuditReport, rows_behind, sightings_of}
 use Rattle.sessions.specs.DrillReport.{IsDrillReport, drill_text}
 use Rattle.sessions.specs.Endings.{Came, First, FirstOf, HasBadEntry, HasManyTraces, HasNoManoeuvre, IsReport, MeetsTargetLimit, OfOwn, Unless, lack_of, lack_where, unready_of}
-use Rattle.sessions.specs.PlanReport.{IsOwn, IsPlanReport, IsSituationOn, log_messages, situation_on}
+use Rattle.sessions.specs.PlanReport.{IsOwn, IsPlanReport, log_messages, situation_on}
 use Rattle.sessions.specs.PointsReport.{points_report}
 use Rattle.sessions.specs.RecheckReport.{IsRecheckReport}
 use Rattle.sessions.specs.Refusals.{HasManySettled, IsLogRefused, IsMet}
@@ -26,11 +29,13 @@ use Rattle.sessions.proofs.ForCallers.{behind_own, behind_targets, behind_traces
 use Rattle.settling.specs.ScenarioAudit.{audit_numbers}
 use Rattle.tasks.specs.declared.mode.Mode.{Mode}
 use Rattle.tasks.specs.declared.mode.Mode.TheVariants as mode
-use Rattle.laws.specs.Endings.{MayEnd, SomeEnding}
+use Rattle.laws.specs.Endings.{IsScenarioFor, SomeEnding}
 use Rattle.laws.proofs.HaveRows.{HaveRows}
 use Rattle.laws.proofs.SomeAlarms.{some_alarms}
 use Rattle.laws.proofs.SomeAuditRows.{some_audit_rows}
-use Rattle.laws.proofs.SomePlanReport.{some_plan_report, some_recheck_report}
+use Rattle.laws.proofs.SomePlanReport.{IsPlannable, some_plan_report, some_recheck_report}
+use Rattle.laws.proofs.SentRanges.{sent_sayable}
+use Rattle.laws.proofs.SoundSituations.{sound_situation}
 use Rattle.laws.proofs.SomeTotals.{some_totals}
 
 -- ---- the reports of ticks
@@ -114,36 +119,52 @@ module _ (scenario : Scenario) (log : List ℕ) where
 
   few_targets : (own : OwnPart) (ready : Ready) → IsOwn scenario log own ready
       → ¬ OfOwn scenario log (λ own ready. greatest_targets < length (targets_near (numbers_of scenario) (log_messages scenario log) scenario own ready))
-      → IsSituationOn scenario log (situation_on scenario log own ready)
+      → length (targets_near (numbers_of scenario) (log_messages scenario log) scenario own ready) ≤ greatest_targets
   few_targets own ready is_own not = elim (cases_lt greatest_targets (length (targets_near (numbers_of scenario) (log_messages scenario log) scenario own ready))) [
     | inl many ↦ absurd (not (own, ready, is_own, many))
-    | inr few ↦ record { own = own; ready = ready; is_own = is_own; few = few; is = refl }
+    | inr few ↦ few
   ]
+
+  -- A plan may be sought in her situation.
+  plannable : (m : Mode) → IsScenarioFor m scenario → (own : OwnPart) (ready : Ready) → IsOwn scenario log own ready
+      → length (targets_near (numbers_of scenario) (log_messages scenario log) scenario own ready) ≤ greatest_targets → IsPlannable (situation_on scenario log own ready)
+  unfolding situation_of
+  plannable m valid own ready is_own few =
+      let range = valid.in_range in
+      let grid = subst (λ (o : Option OwnPart). IfSome o (λ own. IsGrid own.lattice)) is_own.needed valid.lattice in
+      let part = subst (λ (o : Option OwnPart). IfSome o (IsOwnPart scenario.window.tick)) is_own.needed range.own in
+      record {
+        sound = sound_situation (numbers_of scenario) (log_messages scenario log) scenario own ready range part grid range.log.gap_to range.log.gap_from range.log.max_speed_to
+            (sent_sayable scenario (lines_of log)) is_own.is_ready few;
+        different = range.rules.right.different;
+        few = mul-le-mul grid.few_courses grid.few_speeds;
+        shape = subst (λ (o : Option OwnPart). IfSome o (λ own. IfSome own.shape IsShape)) is_own.needed valid.shape;
+      }
 
 -- ---- each task
 
 module _ (rows_of : HaveRows) (scenario : Scenario) (log : List ℕ) (none : Bool) where
-  some_plan : (why : Bool) (rows : List ℕ) → MayEnd mode.Plan scenario log → IsUnhindered mode.Plan rows scenario log → ¬ ((text : List ℕ) → ¬ IsPlanReport why scenario log text)
-  some_plan why rows may free =
-      let (own, ready, is_own) = some_own scenario log scenario.own refl (may.own refl) free.ready in
-      let on = few_targets scenario log own ready is_own free.few in
-      some_plan_report scenario log own ready is_own (may.situation refl (situation_on scenario log own ready) on) rows_of why
+  some_plan : (why : Bool) (rows : List ℕ) → IsScenarioFor mode.Plan scenario → IsUnhindered mode.Plan rows scenario log → ¬ ((text : List ℕ) → ¬ IsPlanReport why scenario log text)
+  some_plan why rows valid free =
+      let (own, ready, is_own) = some_own scenario log scenario.own refl (valid.own refl) free.ready in
+      let few = few_targets scenario log own ready is_own free.few in
+      some_plan_report scenario log own ready is_own (plannable scenario log mode.Plan valid own ready is_own few) rows_of why
 
-  some_recheck : (rows : List ℕ) → MayEnd mode.Recheck scenario log → IsUnhindered mode.Recheck rows scenario log → ¬ ((text : List ℕ) → ¬ IsRecheckReport rows scenario log text)
-  some_recheck rows may free =
-      let (own, ready, is_own) = some_own scenario log scenario.own refl (may.own refl) free.ready in
-      let on = few_targets scenario log own ready is_own free.few in
-      some_recheck_report scenario log own ready is_own (may.situation refl (situation_on scenario log own ready) on) rows_of rows
+  some_recheck : (rows : List ℕ) → IsScenarioFor mode.Recheck scenario → IsUnhindered mode.Recheck rows scenario log → ¬ ((text : List ℕ) → ¬ IsRecheckReport rows scenario log text)
+  some_recheck rows valid free =
+      let (own, ready, is_own) = some_own scenario log scenario.own refl (valid.own refl) free.ready in
+      let few = few_targets scenario log own ready is_own free.few in
+      some_recheck_report scenario log own ready is_own (plannable scenario log mode.Recheck valid own ready is_own few) rows_of rows
       (λ k bad. free.good (λ no_manoeuvre. no_manoeuvre) k (own, ready, is_own, bad))
 
-  some_report : (m : Mode) (why : Bool) (rows : List ℕ) → MayEnd m scenario log
+  some_report : (m : Mode) (why : Bool) (rows : List ℕ) → IsScenarioFor m scenario
       → IsMet (record { mode = m; why = why; rows = rows }) scenario log (Ok none) → ¬ ((text : List ℕ) → ¬ IsReport m why rows scenario log text)
-  some_report mode.Points why rows may met = λ no_text. no_text (points_report scenario log) refl
-  some_report mode.Audit why rows may met = some_audit_report rows_of scenario log
-  some_report mode.Plan why rows may met = some_plan why rows may (unhindered mode.Plan rows scenario log none met)
-  some_report mode.Drill why rows may met = some_drill_report rows_of scenario log
-  some_report mode.Recheck why rows may met = some_recheck rows may (unhindered mode.Recheck rows scenario log none met)
-  some_report mode.Watch why rows may met = some_watch_report rows_of scenario log
+  some_report mode.Points why rows valid met = λ no_text. no_text (points_report scenario log) refl
+  some_report mode.Audit why rows valid met = some_audit_report rows_of scenario log
+  some_report mode.Plan why rows valid met = some_plan why rows valid (unhindered mode.Plan rows scenario log none met)
+  some_report mode.Drill why rows valid met = some_drill_report rows_of scenario log
+  some_report mode.Recheck why rows valid met = some_recheck rows valid (unhindered mode.Recheck rows scenario log none met)
+  some_report mode.Watch why rows valid met = some_watch_report rows_of scenario log
 
 pub some_ending : HaveRows → SomeEnding
 some_ending rows_of task scenario log none = some_report rows_of scenario log none task.mode task.why task.rows

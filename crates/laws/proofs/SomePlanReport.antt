@@ -1,7 +1,8 @@
 -- That own ship has no report, where a plan may be sought or rows are right, is refuted.
-use Rattle.std.proofs.Common.{ℕ, ◌-◌, inl, inr, Bool, true, false, List, [], ◌++◌, Option, None, Some, refl, arith}
-use Rattle.std.specs.Prelude.{flat_map}
+use Rattle.std.proofs.Common.{ℕ, ◌-◌, ◌≤◌, inl, inr, Bool, true, false, List, [], ◌++◌, Option, None, Some, refl, arith}
+use Rattle.std.specs.Prelude.{IfSome, flat_map}
 use Rattle.audit_report.specs.ReportRows.{no_plan_fields}
+use Rattle.hull_domains.specs.Shapes.{IsShape}
 use Rattle.lattice.specs.Grids.{choices_of, plans_of}
 use Rattle.lattice.proofs.Digits.{below_plan_of, length-plan_of}
 use Rattle.meetings.specs.Ranks.{all_power_driven}
@@ -17,15 +18,22 @@ use Rattle.refutation_search.specs.CanonicalLists.{IsCanonical}
 use Rattle.refutations.specs.EntryRows.{entry_text}
 use Rattle.refutations.specs.declared.entry.WhyEntry.{WhyEntry}
 use Rattle.report_csv.specs.CsvRows.{row_of}
+use Rattle.rule_set.specs.NamedTrees.{RulesHaveDifferentNames}
 use Rattle.scenario_values.specs.declared.own_part.OwnPart.{OwnPart}
 use Rattle.scenario_values.specs.declared.values.Scenario.{Scenario}
 use Rattle.sessions.specs.PlanReport.{AreReasons, IsManoeuvre, IsOwn, IsPlanReport, plan_text, situation_on}
 use Rattle.sessions.specs.RecheckReport.{IsRecheckReport}
-use Rattle.laws.specs.Endings.{IsPlannable}
 use Rattle.laws.proofs.HaveRows.{HaveRows}
 use Rattle.laws.proofs.Refuted.{LeastOrNone, each_below, least_or_none}
 use Rattle.laws.proofs.RightRows.{right_fail, some_right}
 use Rattle.laws.proofs.SomeCanonicalList.{some_canonical_list}
+
+-- A plan may be sought in a situation.
+pub record IsPlannable (situation : Situation) : Type 0 where
+  pub sound : IsSituation situation
+  pub different : RulesHaveDifferentNames situation.rules
+  pub few : choices_of situation.lattice ≤ 512
+  pub shape : IfSome situation.shape IsShape
 
 -- ---- the first plan that does not fail, or none
 

@@ -37,8 +37,8 @@ pub fn some_settled_text()
     ensures { SomeSettledText }
 {}
 
-/// A log that meets no refusal has a report, of each task. Such logs exist for each task: the tests of `run_rows` have some. Of own ship's
-/// situation the law asks what the program's values and contracts say.
+/// A log that meets no refusal has a report, of each task. Such logs exist for each task: the tests of `run_rows` have some. The law's
+/// premise is on the scenario alone, and holds of each that the program reads: its values are in their ranges.
 pub fn some_ending()
     ensures { SomeEnding }
 {
