@@ -34,14 +34,21 @@ pub record TellsStretch (track : Track) (row : Row) (from to : ℕ) : Type 0 whe
 abbrev pub IsRowOf : Track → Row → Type 0
 IsRowOf track row = (from : ℕ) × (to : ℕ) × TellsStretch track row from to
 
-abbrev pub IsRow : List Track → Row → Type 0
-IsRow [] row = ⊥
-IsRow (track ∷ tracks) row = IsRowOf track row ⊎ IsRow tracks row
+-- A row is this of one of the tracks.
+abbrev pub IsOfOne : (Track → Row → Type 0) → List Track → Row → Type 0
+IsOfOne Is [] row = ⊥
+IsOfOne Is (track ∷ tracks) row = Is track row ⊎ IsOfOne Is tracks row
 
--- The rows hold each row of the tracks and nothing else, in order, and so each once.
-pub record AreRows (tracks : List Track) (rows : List Row) : Type 0 where
-  pub each : (row : Row) → Contains rows row ↔ IsRow tracks row
+-- The rows hold each that is this of one of the tracks and nothing else, in order, and so each once.
+pub record AreAll (Is : Track → Row → Type 0) (tracks : List Track) (rows : List Row) : Type 0 where
+  pub each : (row : Row) → Contains rows row ↔ IsOfOne Is tracks row
   pub ordered : InOrder rows
+
+abbrev pub IsRow : List Track → Row → Type 0
+IsRow tracks row = IsOfOne IsRowOf tracks row
+
+abbrev pub AreRows : List Track → List Row → Type 0
+AreRows tracks rows = AreAll IsRowOf tracks rows
 
 -- the same of the rows that end below a bound
 pub record AreRowsBelow (bound : ℕ) (tracks : List Track) (rows : List Row) : Type 0 where

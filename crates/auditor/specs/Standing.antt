@@ -4,7 +4,7 @@ use Rattle.audit_rows.specs.declared.row.Row.{Row}
 use Rattle.traces.specs.Audited.{AuditNumbers, SeenVessels, Sighting}
 use Rattle.traces.specs.Known.{Known}
 use Rattle.traces.specs.Standing as followed
-use Rattle.traces.specs.Window.{IsSoundWindow, WindowStandsFor}
+use Rattle.traces.specs.Window.{IsSoundWindow, WindowStandsFor, traces_in}
 use Rattle.auditor.specs.AuditRows.{AreAuditRows}
 use Rattle.auditor.specs.AuditTotals.{AreTotals}
 use Rattle.auditor.specs.Inner.TracesMarked.{audit_keeper}
@@ -15,25 +15,25 @@ use Rattle.auditor.specs.declared.total.Total.{Total}
 
 -- the number of ticks so far, and of ticks in the window
 abbrev pub given_of : Audit → ℕ
-given_of audit = followed.given_of audit.window.traces
+given_of audit = followed.given_of (traces_in audit.window)
 
 abbrev pub last_tick_of : Audit → ℕ
-last_tick_of audit = followed.last_tick_of audit.window.traces
+last_tick_of audit = followed.last_tick_of (traces_in audit.window)
 
 -- the vessels seen at the latest tick
 abbrev pub latest_vessels : Audit → SeenVessels
-latest_vessels audit = followed.latest_vessels audit.window.traces
+latest_vessels audit = followed.latest_vessels (traces_in audit.window)
 
 -- ---- the state before and after each call, whatever the model
 
 abbrev pub IsSound : Audit → Type 0
-IsSound audit = IsSoundWindow (audit_keeper audit.window.keeper) audit.window.traces audit.window.kept.items
+IsSound audit = IsSoundWindow (audit_keeper audit.window.keeper) audit.window
 
 -- ---- the model
 
 pub record StandsFor (audit : Audit) (numbers : AuditNumbers) (ticks : List Sighting) (given : List Row) : Type 0 where
   pub knowns : List Known
-  pub window : WindowStandsFor (audit_keeper audit.window.keeper) audit.window.traces audit.window.kept.items numbers ticks knowns given
+  pub window : WindowStandsFor (audit_keeper audit.window.keeper) audit.window numbers ticks knowns given
 
 -- It has ended with these totals, and appended the remaining rows to others.
 pub record HasEnded (audit : Audit) (before after : List Row) (totals : List Total) : Type 0 where

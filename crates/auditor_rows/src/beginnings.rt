@@ -109,7 +109,7 @@ fn the_first_step_of_a_meeting_begins_an_engagement(rt: HostRuntime) -> Result<(
 
 /// Returns the window of the meeting after its first three ticks, whose keeper counts rows.
 fn counted(alloc: Global) -> Result<TraceWindow<RowCounter>, TickFault>
-    ensures { IfOk result (λ window. IsSoundWindow counted_rows window.traces window.kept.items) }
+    ensures { IfOk result (λ window. IsSoundWindow counted_rows window) }
 {
     let traces = AllTraces::new(alloc, DETECT, ACT, &ALL, 10, 4)?;
     let counter = RowCounter {

@@ -1,5 +1,5 @@
 -- What the clauses of `run` say if the shelf, the log and the sinks are in memory.
-use Rattle.std.proofs.Common.{Vec, ◌∙◌, ℕ, ◌≡◌, ◌≢◌, ◌≤◌, ◌+◌, ◌⊎◌, inl, inr, IsTrue, Bool, true, false, List, [], ◌++◌, length, Option, Some, None, refl, sym, subst, ap, arith}
+use Rattle.std.proofs.Common.{Vec, ◌∙◌, ℕ, ◌≡◌, ◌≢◌, ◌≤◌, ◌+◌, ◌⊎◌, inl, inr, IsTrue, List, [], ◌++◌, Option, Some, None, refl, sym, subst, ap, arith}
 use Rattle.std.specs.Prelude.{IfSome, IfOk, Result, Ok, Err}
 use Rattle.std.specs.declared.alloc.Global.{Global}
 use Rattle.out_of_memory.specs.declared.Memory.{Memory}
@@ -13,7 +13,6 @@ use Rattle.scenario_values.specs.declared.values.Scenario.{Scenario}
 use Rattle.sessions.specs.Endings.{IsEnding}
 use Rattle.tasks.specs.Modes.{reads_log}
 use Rattle.tasks.specs.Tasks.{task_mode}
-use Rattle.sessions.specs.Tasks.{Task}
 use Rattle.colregs_program.specs.Answers.{EndsWith, IsDue, IsReadBy, Migrates, Runs, StopsWith, WritesNothing}
 use Rattle.colregs_program.specs.AskedScenarios.{log_of, task_of}
 use Rattle.colregs_program.specs.LogAnswers.{GainsReport, IsAnswered, IsFinished}

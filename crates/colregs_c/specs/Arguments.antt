@@ -1,7 +1,7 @@
 -- The arguments of the program that a call's numbers stand for.
-use Rattle.std.specs.Prelude.{ℕ, ◌≡◌, ◌==◌, ◌-◌, ◌^◌, ◌&&◌, ◌||◌, ◌++◌, Bool, true, false, not, nat_le, nat_lt, codes, List, [], ◌∷◌, map, unwrap_or, slice_get, Option, Some, None, if◌then◌else◌}
+use Rattle.std.specs.Prelude.{ℕ, ◌==◌, ◌-◌, ◌^◌, ◌&&◌, ◌||◌, ◌++◌, Bool, true, not, nat_le, codes, List, [], ◌∷◌, slice_get, Option, Some, None, if◌then◌else◌}
 use Rattle.std.specs.List.{flat_map}
-use Rattle.command_line.specs.CommandLine.{CommandOption, Value, a_flag, a_number, mode_text, modes, seed, start, ticks, why}
+use Rattle.command_line.specs.CommandLine.{CommandOption, Value, a_flag, a_number, modes, seed, start, ticks, why}
 use Rattle.command_line.specs.GivenArguments.{setting_words}
 use Rattle.tasks.specs.Tasks.{task_by}
 use Rattle.command_line.specs.declared.mode.ModeArgument.{ModeArgument}

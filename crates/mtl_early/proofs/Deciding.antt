@@ -1,7 +1,6 @@
 -- Which positions one more row decides.
-use Rattle.std.proofs.Common.{◌≡◌, ◌≢◌, ℕ, zero, suc, ◌+◌, ◌<◌, ◌≤◌, refl, sym, ◌∙◌, arith, true, inl, inr, [], ◌∷◌, ◌++◌, length, length-append, take, take-take, drop}
-use Rattle.std.specs.Prelude.{nat_lt, slice_get}
-use Rattle.std.proofs.lemmas.Bool.Decides.{nat_tests}
+use Rattle.std.proofs.Common.{◌≡◌, ◌≢◌, ℕ, zero, suc, ◌+◌, ◌<◌, ◌≤◌, refl, sym, ◌∙◌, arith, inl, inr, [], ◌∷◌, ◌++◌, length, length-append, take, take-take, drop}
+use Rattle.std.specs.Prelude.{slice_get}
 use Rattle.std.proofs.lemmas.Bool.{cases_lt}
 use Rattle.std.proofs.lemmas.List.{take_all, take-append-le, take-append-drop, length_push, length-take-le}
 use Rattle.mtl_formulas.specs.declared.atom.Atom.{Atom}
@@ -10,10 +9,10 @@ use Rattle.mtl_formulas.specs.declared.verdict.Verdict.TheVariants.{No, Open, Ye
 use Rattle.mtl_formulas.specs.FormulaTree.{FormulaTree}
 use Rattle.mtl_formulas.proofs.PrefixLaw.{Stays-value, decided-Stays}
 use Rattle.mtl_formulas.specs.FormulaMeasures.{reach_of}
-use Rattle.mtl_formulas.specs.FormulaValue.{before_end}
 use Rattle.mtl_formulas.proofs.Values.{value_of-past}
 use Rattle.mtl_formulas.proofs.ReachLaw.{value_of-same, equal-AgreeAt}
 use Rattle.mtl_formulas.specs.Traces.{Trace, value_in}
+use Rattle.mtl_monitor.proofs.ForCallers.{within_rows}
 use Rattle.mtl_early.specs.Decided.{IsDecided, IsDecidedNow}
 
 -- what is Open over a trace was Open over each beginning of it
@@ -28,12 +27,6 @@ open_before rows t i k unknown = by_value (value_in (take k rows) t i) refl
     by_value Open is = is
     by_value No is = absurd (let same = stays (λ o. cc) in cc)
     by_value Yes is = absurd (let same = stays (λ o. cc) in cc)
-
-pub within_rows : (rows : Trace) (t : FormulaTree) (i : ℕ) → value_in rows t i ≢ Open → i < length rows
-within_rows rows t i decided = elim (cases_lt i (length rows)) [
-  | inl inside ↦ inside
-  | inr past ↦ absurd (decided (value_of-past (λ row. row) rows t i past))
-]
 
 module _ (before : Trace) (row : Atom → Verdict) (t : FormulaTree) (i : ℕ) where
   rows : Trace
@@ -119,9 +112,6 @@ module _ (rows : Trace) (t : FormulaTree) (i : ℕ) where
   some_number decided = decided_by (length rows) (omega arith) (rw (take_all (length rows) rows (omega arith)) decided)
 
 -- ---- rows beyond the formula's reach
-
-pub within_end : (rows : Trace) (i : ℕ) (v : Verdict) → i < length rows → before_end (λ row. row) rows i v ≡ v
-within_end rows i v inside = let test : nat_lt i (length rows) ≡ true = grind (arith, nat_tests) in rw test
 
 slice_get-take : (n k : ℕ) (rows : Trace) → k < n → slice_get (take n rows) k ≡ slice_get rows k
 slice_get-take zero k rows h = absurd (omega (arith, h))

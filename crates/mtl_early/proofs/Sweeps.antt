@@ -16,7 +16,8 @@ use Rattle.mtl_monitor.specs.declared.left.Left.{Left}
 use Rattle.mtl_monitor.specs.WindowCounts.{left_after, left_under, left_value}
 use Rattle.mtl_early.specs.Inner.Counts.{Reads, sensed, held_ahead}
 use Rattle.mtl_early.specs.Inner.Cells.{ahead_kind}
-use Rattle.mtl_early.proofs.Deciding.{within_end, value_take}
+use Rattle.mtl_monitor.proofs.ForCallers.{within_end}
+use Rattle.mtl_early.proofs.Deciding.{value_take}
 use Rattle.mtl_early.proofs.Ahead.{Reads-before, Reads-open, Reads-value, Reads-under, held_at, held-open}
 use Rattle.mtl_formulas.specs.Traces.{Trace, value_in}
 use Rattle.mtl_early.specs.Inner.Cells.{cell_at, aged, AreRight, SameOutside}

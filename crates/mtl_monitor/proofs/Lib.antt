@@ -25,3 +25,4 @@ pub mod Keepers
 pub mod Programs
 pub mod Feeding
 pub mod GrowingProgram
+pub mod ForCallers

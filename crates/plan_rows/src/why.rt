@@ -9,7 +9,7 @@ use csv::{ByteRecord, ReaderBuilder};
 use out_of_memory::Memory;
 use plan_situations::Situation;
 use refutation_search::explain;
-use refutations::{Checked, WhyEntry, check, entry_bytes, read_entry};
+use refutations::{Checked, EntryRows, WhyEntry, check, read_entry};
 use std::alloc::Global;
 use std::process::Abort;
 use std::test::Fail;
@@ -56,15 +56,14 @@ fn judged(alloc: Global, situation: &Situation, text: &[u8]) -> Result<Option<Ch
 fn told(alloc: Global, situation: &Situation) -> Result<Vec<u8>, Memory>
     requires { IsSituation situation.now }
 {
-    let mut text = Vec::new(alloc);
     let Some(list) = explain(alloc, situation)? else {
-        return Ok(text);
+        return Ok(Vec::new(alloc));
     };
+    let mut rows = EntryRows::new(alloc);
     for entry in &list {
-        let row = entry_bytes(alloc, situation, entry)?;
-        text.extend_from_slice(&row)?;
+        rows.write(alloc, situation, entry)?;
     }
-    Ok(text)
+    rows.into_bytes()
 }
 
 /// Checks that the report has these rows, and that they are right if there are any.

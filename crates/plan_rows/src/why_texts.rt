@@ -14,7 +14,7 @@ use csv::{ByteRecord, ReaderBuilder};
 use out_of_memory::Memory;
 use plan_situations::Situation;
 use refutation_check::{GREATEST_TEXT, recheck};
-use refutations::{Checked, entry_bytes, read_entry};
+use refutations::{Checked, EntryRows, read_entry};
 use std::alloc::Global;
 use std::test::Fail;
 
@@ -45,7 +45,11 @@ fn told_anew(alloc: Global, situation: &Situation, text: &str) -> Result<Vec<u8>
         return Ok(Vec::new(alloc));
     };
     match read_entry(alloc, situation, &row) {
-        Some(entry) => entry_bytes(alloc, situation, &entry),
+        Some(entry) => {
+            let mut rows = EntryRows::new(alloc);
+            rows.write(alloc, situation, &entry)?;
+            rows.into_bytes()
+        }
         None => Ok(Vec::new(alloc)),
     }
 }

@@ -107,17 +107,3 @@ impl EntryRows {
         }
     }
 }
-
-/// The text of one entry's row.
-pub fn entry_bytes(
-    alloc: Global,
-    situation: &Situation,
-    entry: &WhyEntry,
-) -> Result<Vec<u8>, Memory>
-    requires { KnowsRule situation.now entry.now.reason }
-    ensures { IfOk result (λ bytes. bytes.items ≡ entry_text situation.now entry.now) }
-{
-    let mut rows = EntryRows::new(alloc);
-    rows.write(alloc, situation, entry)?;
-    rows.into_bytes()
-}

@@ -25,6 +25,6 @@ mod trace_so_far;
 pub use check_list::check;
 pub use entry::{Checked, Reason, WhyEntry};
 pub use entry_reading::read_entry;
-pub use entry_row::{EntryRows, entry_bytes};
+pub use entry_row::EntryRows;
 pub use goodness::horizon;
 pub use prefix::Prefix;

@@ -1,6 +1,6 @@
 -- A No, and a Yes, needs as many rows after its position as the formula's lags say.
 use Rattle.std.proofs.Common.{◌≡◌, ℕ, zero, ◌+◌, ◌-◌, ◌<◌, ◌≤◌, refl, arith, Bool, true, false, inl, inr, length, max, min}
-use Rattle.std.specs.Prelude.{nat_lt, ◌==◌}
+use Rattle.std.specs.Prelude.{◌==◌}
 use Rattle.std.proofs.lemmas.Bool.Decides.{nat_tests}
 use Rattle.mtl_formulas.specs.declared.verdict.Verdict.{Verdict}
 use Rattle.mtl_formulas.specs.declared.verdict.Verdict.TheVariants.{No, Open, Yes}
@@ -13,9 +13,9 @@ use Rattle.mtl_formulas.specs.declared.formula.LinkKind.TheVariants.{U, S}
 use Rattle.mtl_formulas.specs.VerdictOrder.{turned_round, least}
 use Rattle.mtl_formulas.specs.FormulaTree.{FormulaTree, leaf, negation, pair, span, link}
 use Rattle.mtl_formulas.specs.FormulaMeasures.{HasValidParts}
-use Rattle.mtl_formulas.specs.FormulaValue.{before_end, least_over, pair_value, span_value, link_value, past_start, past_count, ahead_count}
-use Rattle.mtl_formulas.proofs.Values.{value_of-past}
+use Rattle.mtl_formulas.specs.FormulaValue.{least_over, pair_value, span_value, link_value, past_start, past_count, ahead_count}
 use Rattle.mtl_formulas.specs.Traces.{Trace, value_in}
+use Rattle.mtl_monitor.proofs.ForCallers.{within_end, within_rows}
 use Rattle.rule_program.specs.declared.lags.Lags.{Lags}
 use Rattle.rule_program.specs.Lags.{here, pair_lags, span_lags, link_lags, lags_of}
 use Rattle.rule_program.proofs.Ranges.{greatest_no, greatest_yes, least_no, least_yes, found_no, found_yes, all_no, all_yes}
@@ -147,32 +147,10 @@ module _ (f : ℕ → Verdict) (a : Lags) (n : ℕ) (h : HasLags f a n) where
         let at = k.yes found.at (least_yes (g found.at) (least_over f (found.at + 1) (i - found.at)) found.value).0 in
         omega (arith, at, found.from, inside)
 
--- A decided value lies within the trace.
-pub inside_no : (rows : Trace) (t : FormulaTree) (i : ℕ) → value_in rows t i ≡ No → i < length rows
-inside_no rows t i e = by_test (nat_lt i (length rows)) refl
-  where
-    by_test : (b : Bool) → nat_lt i (length rows) ≡ b → i < length rows
-    by_test true is = grind (arith, nat_tests)
-    by_test false is =
-        let past : length rows ≤ i = grind (arith, nat_tests) in
-        let unknown : value_in rows t i ≡ Open = value_of-past (λ row. row) rows t i past in cc
-
-pub inside_yes : (rows : Trace) (t : FormulaTree) (i : ℕ) → value_in rows t i ≡ Yes → i < length rows
-inside_yes rows t i e = by_test (nat_lt i (length rows)) refl
-  where
-    by_test : (b : Bool) → nat_lt i (length rows) ≡ b → i < length rows
-    by_test true is = grind (arith, nat_tests)
-    by_test false is =
-        let past : length rows ≤ i = grind (arith, nat_tests) in
-        let unknown : value_in rows t i ≡ Open = value_of-past (λ row. row) rows t i past in cc
-
-pub within_end : (rows : Trace) (i : ℕ) (v : Verdict) → i < length rows → before_end (λ row. row) rows i v ≡ v
-within_end rows i v inside = let test : nat_lt i (length rows) ≡ true = grind (arith, nat_tests) in rw test
-
 pub value-HasLags : (rows : Trace) (t : FormulaTree) → HasValidParts t → HasLags (value_in rows t) (lags_of t) (length rows)
 value-HasLags rows (leaf a) valid = record {
-  no = λ i e. let inside = inside_no rows (leaf a) i e in omega (arith, inside);
-  yes = λ i e. let inside = inside_yes rows (leaf a) i e in omega (arith, inside);
+  no = λ i e. let inside = within_rows rows (leaf a) i (λ unknown. cc) in omega (arith, inside);
+  yes = λ i e. let inside = within_rows rows (leaf a) i (λ unknown. cc) in omega (arith, inside);
 }
 value-HasLags rows (negation t) valid = HasLags-negation (value_in rows t) (lags_of t) (length rows) (value-HasLags rows t valid)
 value-HasLags rows (pair kind s t) valid =
@@ -180,21 +158,21 @@ value-HasLags rows (pair kind s t) valid =
 value-HasLags rows (span kind l u t) valid =
     let below = value-HasLags rows t valid.2 in record {
       no = λ i e.
-          let inside = inside_no rows (span kind l u t) i e in
+          let inside = within_rows rows (span kind l u t) i (λ unknown. cc) in
           span_no (value_in rows t) (lags_of t) (length rows) below kind l u i valid.0 inside (rw (within_end rows i (span_value kind l u (value_in rows t) i) inside) at e);
       yes = λ i e.
-          let inside = inside_yes rows (span kind l u t) i e in
+          let inside = within_rows rows (span kind l u t) i (λ unknown. cc) in
           span_yes (value_in rows t) (lags_of t) (length rows) below kind l u i valid.0 inside (rw (within_end rows i (span_value kind l u (value_in rows t) i) inside) at e);
     }
 value-HasLags rows (link kind l u s t) valid =
     let first = value-HasLags rows s valid.2 in
     let second = value-HasLags rows t valid.3 in record {
       no = λ i e.
-          let inside = inside_no rows (link kind l u s t) i e in
+          let inside = within_rows rows (link kind l u s t) i (λ unknown. cc) in
           link_no (value_in rows s) (lags_of s) (length rows) first (value_in rows t) (lags_of t) second kind l u i valid.0 inside
           (rw (within_end rows i (link_value kind l u (value_in rows s) (value_in rows t) i) inside) at e);
       yes = λ i e.
-          let inside = inside_yes rows (link kind l u s t) i e in
+          let inside = within_rows rows (link kind l u s t) i (λ unknown. cc) in
           link_yes (value_in rows s) (lags_of s) (length rows) first (value_in rows t) (lags_of t) second kind l u i valid.0 inside
           (rw (within_end rows i (link_value kind l u (value_in rows s) (value_in rows t) i) inside) at e);
     }

@@ -6,6 +6,16 @@ use Rattle.traces.specs.Keeping.{Keeper}
 use Rattle.traces.specs.Known.{AreKnown, AreOpened, IsFollowed, Known}
 use Rattle.traces.specs.Standing.{IsSound, StandsFor, given_of, traces_of}
 use Rattle.traces.specs.declared.all_traces.AllTraces.{AllTraces}
+use Rattle.traces.specs.declared.trace_window.TraceWindow.{TraceWindow}
+
+-- ---- what a window is asked
+
+-- its traces, and what is kept of each
+abbrev pub traces_in : {K Kept : Type 0} → TraceWindow K Kept → AllTraces
+traces_in window = window.traces
+
+abbrev pub kept_in : {K Kept : Type 0} → TraceWindow K Kept → List Kept
+kept_in window = window.kept.items
 
 -- What is kept of a trace goes on, and the trace has no more than this number of steps.
 pub record IsReadyFor {Kept Given : Type 0} (keeper : Keeper Kept Given) (most : ℕ) (kept : Kept) : Type 0 where
@@ -14,19 +24,19 @@ pub record IsReadyFor {Kept Given : Type 0} (keeper : Keeper Kept Given) (most :
 
 -- ---- what each call finds and leaves, whatever the window stands for
 
-pub record IsSoundWindow {Kept Given : Type 0} (keeper : Keeper Kept Given) (followed : AllTraces) (kept : List Kept) : Type 0 where
-  pub traces : IsSound followed
+pub record IsSoundWindow {K Kept Given : Type 0} (keeper : Keeper Kept Given) (window : TraceWindow K Kept) : Type 0 where
+  pub traces : IsSound (traces_in window)
   pub goes_on : keeper.Sound
-  pub many : length kept ≡ traces_of followed
-  pub ready : All (IsReadyFor keeper (given_of followed)) kept
+  pub many : length (kept_in window) ≡ traces_of (traces_in window)
+  pub ready : All (IsReadyFor keeper (given_of (traces_in window))) (kept_in window)
 
 -- ---- what it stands for
 
-pub record WindowStandsFor {Kept Given : Type 0} (keeper : Keeper Kept Given) (traces : AllTraces) (kept : List Kept) (numbers : AuditNumbers) (ticks : List Sighting)
+pub record WindowStandsFor {K Kept Given : Type 0} (keeper : Keeper Kept Given) (window : TraceWindow K Kept) (numbers : AuditNumbers) (ticks : List Sighting)
     (knowns : List Known) (given : Given) : Type 0 where
   pub are_known : AreKnown numbers ticks knowns
-  pub stands : StandsFor traces numbers ticks knowns
-  pub keeps : keeper.Stands numbers (length ticks - 1) kept [] knowns given
+  pub stands : StandsFor (traces_in window) numbers ticks knowns
+  pub keeps : keeper.Stands numbers (length ticks - 1) (kept_in window) [] knowns given
 
 -- All traces have taken their step to the tick at which these vessels are seen.
 pub record AreStepped {Kept Given : Type 0} (keeper : Keeper Kept Given) (numbers : AuditNumbers) (ticks : List Sighting) (seen : SeenVessels) (step : ℕ) (traces : AllTraces)
@@ -38,12 +48,12 @@ pub record AreStepped {Kept Given : Type 0} (keeper : Keeper Kept Given) (number
 
 -- The window took this tick: all traces have taken their step to it, and after them stand those that begin at it. They are all traces
 -- of the ticks up to it.
-pub record HasTakenTick {Kept Given : Type 0} (keeper : Keeper Kept Given) (traces : AllTraces) (kept : List Kept) (numbers : AuditNumbers) (ticks : List Sighting) (seen : Sighting)
+pub record HasTakenTick {K Kept Given : Type 0} (keeper : Keeper Kept Given) (window : TraceWindow K Kept) (numbers : AuditNumbers) (ticks : List Sighting) (seen : Sighting)
     (knowns : List Known) (given : Given) : Type 0 where
   pub after : List Known
   pub followed : AllZip (IsFollowed numbers ticks seen.vessels) knowns after
   pub new : List Known
   pub opened : AreOpened (length ticks) new
   pub are_known : AreKnown numbers (ticks ++ seen ∷ []) (after ++ new)
-  pub stands : StandsFor traces numbers (ticks ++ seen ∷ []) (after ++ new)
-  pub keeps : keeper.Stands numbers (length ticks - 1) kept after new given
+  pub stands : StandsFor (traces_in window) numbers (ticks ++ seen ∷ []) (after ++ new)
+  pub keeps : keeper.Stands numbers (length ticks - 1) (kept_in window) after new given

@@ -24,7 +24,7 @@ impl<K: TraceKeeper> TraceWindow<K> {
     ghost use Rattle.traces.specs.Known.{Known};
     ghost use Rattle.traces.specs.ManyTraces.{HaveMoreThan};
     ghost use Rattle.traces.specs.Standing.{IsSound, StandsFor, given_of, last_tick_of, latest_vessels, traces_of};
-    ghost use Rattle.traces.specs.Window.{HasTakenTick, IsSoundWindow, WindowStandsFor};
+    ghost use Rattle.traces.specs.Window.{HasTakenTick, IsSoundWindow, WindowStandsFor, kept_in, traces_in};
     ghost use Rattle.traces.specs.declared.all_traces.TheConstants.{MOST_TRACES};
     ghost use Rattle.traces.specs.declared.fault.TickFault.TheVariants.{TooManyPairs};
 
@@ -33,10 +33,10 @@ impl<K: TraceKeeper> TraceWindow<K> {
         requires sound { IsSound traces }
         requires none { traces_of traces ≡ 0 }
         requires goes_on { (K.keeper keeper).Sound }
-        ensures traces { result.traces ≡ traces }
+        ensures traces { traces_in result ≡ traces }
         ensures keeper { result.keeper ≡ keeper }
-        ensures none { result.kept.items ≡ [] }
-        ensures sound { IsSoundWindow (K.keeper result.keeper) result.traces result.kept.items }
+        ensures none { kept_in result ≡ [] }
+        ensures sound { IsSoundWindow (K.keeper result.keeper) result }
     {
         TraceWindow {
             traces,
@@ -47,14 +47,14 @@ impl<K: TraceKeeper> TraceWindow<K> {
 
     /// How many ticks were given.
     pub fn given(&self) -> u32
-        ensures { result ≡ given_of self.now.traces }
+        ensures { result ≡ given_of (traces_in self.now) }
     {
         self.traces.given()
     }
 
     /// The number of the window's last tick.
     pub fn last_tick(&self) -> u32
-        ensures { result ≡ last_tick_of self.now.traces }
+        ensures { result ≡ last_tick_of (traces_in self.now) }
     {
         self.traces.last_tick()
     }
@@ -63,40 +63,35 @@ impl<K: TraceKeeper> TraceWindow<K> {
     /// time, before the last tick. These vessels are seen at the tick, in the order of their MMSIs. The ranks are those of the vessels
     /// seen, in the same order; if ranks do not count, there are none. After an `Err` the window may only be dropped.
     pub fn tick(&mut self, seen: &[(u32, TickState)], ranks: &[Rank]) -> Result<(), TickFault>
-        requires sound { IsSoundWindow
-            (K.keeper self.old.keeper) self.old.traces self.old.kept.items }
+        requires sound { IsSoundWindow (K.keeper self.old.keeper) self.old }
         requires ascending { AreAscending seen.now }
         requires placed { ArePlaced seen.now }
-        requires moves { MoveLittle (latest_vessels self.old.traces) seen.now }
-        requires more { given_of self.old.traces ≤ last_tick_of self.old.traces }
-        ensures sound { OnOk result
-            (IsSoundWindow (K.keeper self.new.keeper) self.new.traces self.new.kept.items) }
-        ensures given { OnOk result (given_of self.new.traces ≡ given_of self.old.traces + 1) }
+        requires moves { MoveLittle (latest_vessels (traces_in self.old)) seen.now }
+        requires more { given_of (traces_in self.old) ≤ last_tick_of (traces_in self.old) }
+        ensures sound { OnOk result (IsSoundWindow (K.keeper self.new.keeper) self.new) }
+        ensures given { OnOk result
+            (given_of (traces_in self.new) ≡ given_of (traces_in self.old) + 1) }
         ensures last_tick { OnOk result
-            (last_tick_of self.new.traces ≡ last_tick_of self.old.traces) }
-        ensures latest { OnOk result (latest_vessels self.new.traces ≡ seen.now) }
+            (last_tick_of (traces_in self.new) ≡ last_tick_of (traces_in self.old)) }
+        ensures latest { OnOk result (latest_vessels (traces_in self.new) ≡ seen.now) }
         ensures takes { OnOk result
             ((numbers : AuditNumbers) (ticks : List Sighting) (knowns : List Known)
             (given : K.Given)
-            → WindowStandsFor
-            (K.keeper self.old.keeper) self.old.traces self.old.kept.items numbers ticks knowns
-            given → HasTakenTick
-            (K.keeper self.new.keeper) self.new.traces self.new.kept.items numbers ticks
+            → WindowStandsFor (K.keeper self.old.keeper) self.old numbers ticks knowns given
+            → HasTakenTick (K.keeper self.new.keeper) self.new numbers ticks
             (record { vessels = seen.now; ranks = ranks.now }) knowns given) }
         // The limit is met exactly if the tick begins a 4097th trace; memory may run out before.
         ensures many { result ≡ Err TooManyPairs
             → (numbers : AuditNumbers) (ticks : List Sighting) (knowns : List Known)
             (given : K.Given)
-            → WindowStandsFor
-            (K.keeper self.old.keeper) self.old.traces self.old.kept.items numbers ticks knowns
-            given → HaveMoreThan MOST_TRACES numbers
+            → WindowStandsFor (K.keeper self.old.keeper) self.old numbers ticks knowns given
+            → HaveMoreThan MOST_TRACES numbers
             (ticks ++ record { vessels = seen.now; ranks = ranks.now } ∷ []) }
         ensures few { OnOk result
             ((numbers : AuditNumbers) (ticks : List Sighting) (knowns : List Known)
             (given : K.Given)
-            → WindowStandsFor
-            (K.keeper self.old.keeper) self.old.traces self.old.kept.items numbers ticks knowns
-            given → HaveMoreThan MOST_TRACES numbers
+            → WindowStandsFor (K.keeper self.old.keeper) self.old numbers ticks knowns given
+            → HaveMoreThan MOST_TRACES numbers
             (ticks ++ record { vessels = seen.now; ranks = ranks.now } ∷ []) → ⊥) }
     {
         let given = self.traces.given();
@@ -114,11 +109,11 @@ impl<K: TraceKeeper> TraceWindow<K> {
 
     /// Ends each trace, after the last tick of the window, and gives the keeper.
     pub fn end(self) -> Result<K, Memory>
-        requires sound { IsSoundWindow (K.keeper self.keeper) self.traces self.kept.items }
+        requires sound { IsSoundWindow (K.keeper self.keeper) self }
         ensures { IfOk result
             (λ keeper. (numbers : AuditNumbers) (ticks : List Sighting) (knowns : List Known)
-            (step : ℕ) (given : K.Given) → StandsFor self.traces numbers ticks knowns
-            → (K.keeper self.keeper).Ends numbers step self.kept.items [] knowns given
+            (step : ℕ) (given : K.Given) → StandsFor (traces_in self) numbers ticks knowns
+            → (K.keeper self.keeper).Ends numbers step (kept_in self) [] knowns given
             → (kept : List K.Kept) × (K.keeper keeper).Ends numbers step kept knowns [] given) }
     {
         let TraceWindow {

@@ -1,5 +1,5 @@
 -- What a run in memory hands on.
-use Rattle.std.specs.Prelude.{ℕ, ◌≡◌, ◌≢◌, [], List}
+use Rattle.std.specs.Prelude.{◌≡◌, ◌≢◌, []}
 use Rattle.colregs_program.specs.FaultLines.{fault_line}
 use Rattle.colregs_program.specs.declared.status.Status.{Status}
 use Rattle.colregs_program.specs.declared.status.Status.TheVariants as status

@@ -1,6 +1,4 @@
 use Rattle.std.proofs.Common.{Some}
-use Rattle.colregs_c.specs.Calls.{Call}
-use Rattle.colregs_c.specs.Inner.Ends.{AreWhole, IsEndOf}
 use Rattle.colregs_c.proofs.Answering.{end_of_run, if_ok}
 use Rattle.colregs_c.proofs.running.run_with.Goals as goal
 
