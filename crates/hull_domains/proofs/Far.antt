@@ -30,7 +30,7 @@ square_of_size : (z : ℤ) → z *ℤ z ≡ pos (unsigned_abs z * unsigned_abs z
 square_of_size (pos n) = omega (arith, ints)
 square_of_size (negsuc n) = omega (arith, ints)
 
-squares : (x y : ℤ) (b r : ℕ) → b * r ≤ unsigned_abs x → (pos (b * b) *ℤ pos (r * r)) ≤ℤ (x *ℤ x +ℤ y *ℤ y)
+pub squares : (x y : ℤ) (b r : ℕ) → b * r ≤ unsigned_abs x → (pos (b * b) *ℤ pos (r * r)) ≤ℤ (x *ℤ x +ℤ y *ℤ y)
 squares x y b r h =
     let whole : b * b * (r * r) ≤ unsigned_abs x * unsigned_abs x = (let s = mul-le-mul h h in omega arith) in
     let first = square_of_size x in

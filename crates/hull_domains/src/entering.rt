@@ -78,7 +78,7 @@ fn is_separated(step: &Step, radius: u64) -> bool
 }
 
 /// The radius of a circle in which the whole shape lies, whatever the direction, in tenths of a millimetre.
-fn radius_about(shape: &Shape) -> u64
+pub fn radius_about(shape: &Shape) -> u64
     ensures small { result < 2 ^ 31 }
     ensures outside { (step : RelativeMove) → IsSeparated step result → (direction : ℕ)
         → direction < 3600 → StaysOutside step direction shape.now }

@@ -13,5 +13,5 @@ mod entering;
 mod shape;
 mod sides;
 
-pub use entering::{enters, inside, keeps_clear};
+pub use entering::{enters, inside, keeps_clear, radius_about};
 pub use shape::Shape;

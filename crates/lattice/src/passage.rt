@@ -160,6 +160,7 @@ impl Lattice {
     }
 
     /// Returns the passage after she has turned and changed speed towards the orders.
+    #[inline(always)]
     fn steered(&self, passage: Passage, tick: u32) -> Passage
         requires tick { tick ≤ LONGEST_TICK }
         requires on_her_way { IsOnHerWay tick passage }

@@ -16,3 +16,5 @@ pub mod Tracking
 pub mod Nearness
 pub mod Vessels
 pub mod Situated
+pub mod Beside
+pub mod Reaching

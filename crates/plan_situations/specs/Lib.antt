@@ -15,6 +15,7 @@ pub use Rattle.scenario_values.specs.Ticks
 pub mod Prediction
 pub mod Situations
 pub mod Domains
+pub mod Boxes
 pub mod Paths
 pub mod FailingPlans
 pub mod Reasons

@@ -6,6 +6,7 @@
 //! How all plans are searched quickly is out of scope: `planner` and `refutations` do that, over the definitions here.
 #![tactic(auto)]
 
+mod boxes;
 mod domain;
 mod flat;
 pub mod laws;
@@ -21,6 +22,7 @@ mod targets;
 mod ticks;
 mod track;
 
+pub use boxes::Bounds;
 pub use domain::Domain;
 pub use flat::least_plan;
 pub use lists::{Ahead, Past, Targets};

@@ -4,10 +4,12 @@ ghost use Rattle.encounters.specs.Directions.{HaveDirections};
 ghost use Rattle.lattice.specs.Grids.{choices_of, positions_of};
 ghost use Rattle.lattice.specs.PlanNumbers.{IsPlan};
 ghost use Rattle.meetings.specs.Traces.{IsContactAt, step_at};
+ghost use Rattle.plan_situations.specs.Boxes.{ahead_from, HoldsPath};
 ghost use Rattle.plan_situations.specs.FailingPlans.{EntersAt};
 ghost use Rattle.plan_situations.specs.Paths.{EntersAlong, HasReached, IsPath, IsTrack};
 ghost use Rattle.plan_situations.specs.Situations.{now_of, own_at, target_at, IsSituation, IsTarget};
 
+use crate::boxes::Bounds;
 use crate::situation::{Situation, Target};
 use encounters::PairStep;
 use lattice::{Plan, UnderWay};
@@ -148,5 +150,32 @@ impl Situation {
             }
         }
         false
+    }
+
+    /// The same, by boxes first: one that holds the path, and one that holds the target at the same ticks. If they lie further apart than her
+    /// domain reaches, no step is asked.
+    pub fn enters_beside(
+        &self,
+        path: &[TickState],
+        target: &Target,
+        first: u32,
+        bounds: &Bounds,
+        beside: &Bounds,
+    ) -> bool
+        requires situation { IsSituation self.now }
+        requires target { IsTarget self.now target.now }
+        requires track { IsTrack path.now }
+        requires planned { first + length path.now ≤ positions_of self.now.lattice + 1 }
+        requires some { 1 ≤ length path.now }
+        requires bounds { HoldsPath bounds.now path.now }
+        requires beside { HoldsPath beside.now (ahead_from target.now first (length path.now)) }
+        ensures { (plan : List ℕ) → IsPath self.now plan first path.now
+            → (IsTrue result ↔ EntersAlong self.now plan target.now (now_of self.now + first)
+            (length path.now - 1)) }
+    {
+        if bounds.lie_apart(beside, self.reach(target)) {
+            return false;
+        }
+        self.enters_along(path, target, first)
     }
 }
