@@ -1,6 +1,6 @@
-//! Laws of existence, which stand over the definitions alone: that there is no list of rows, alarms, totals or entries, no settled text and no
-//! report is refuted. That there is at most one of each is a law of `reports`, or of the crate that defines it. So no run ends out of memory because
-//! no report meets its definition.
+//! Laws of existence, which follow from the definitions alone: some list of rows, alarms, totals or entries, some
+//! settled text and some report always exist (in double negation). That there is at most one of each is a law of
+//! `reports`, or of the crate that defines it. So no run ends out of memory because no report meets its definition.
 ghost use Rattle.laws.specs.Endings.{SomeEnding, SomeSettledText};
 ghost use Rattle.laws.specs.Findings.{SomeAlarms, SomeAuditRows, SomeTotals};
 ghost use Rattle.laws.specs.Reasons.{SomeCanonicalList};
@@ -37,8 +37,8 @@ pub fn some_settled_text()
     ensures { SomeSettledText }
 {}
 
-/// A log that meets no refusal has a report, of each task. Such logs exist for each task: the tests of `run_rows` have some. Of own ship's
-/// situation the law asks what the program's values and contracts say.
+/// A log without a refusal has a report for each task. Such logs exist for each task: the tests of `run_rows` have
+/// some. Its premises about own ship's situation are those that the program's values and contracts state.
 pub fn some_ending()
     ensures { SomeEnding }
 {

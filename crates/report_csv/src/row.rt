@@ -6,7 +6,7 @@ use csv::WriterBuilder;
 use out_of_memory::Memory;
 use std::alloc::Global;
 
-/// The text of the row of these fields.
+/// Returns the text of the row of these fields.
 #[tactic(auto, unfolding(crate::specs::CsvRows::row_of))]
 pub fn fields_bytes(alloc: Global, fields: &[&[u8]]) -> Result<Vec<u8>, Memory>
     ensures { IfOk result (λ bytes. bytes.items ≡ row_of (map (λ field. field.now) fields.now)) }
