@@ -54,23 +54,29 @@ class Kit:
         """Returns the folder with the sources of one of the kit's libraries."""
         return os.path.join(self.folder, "rattle", "examples/check" if name == "check" else name)
 
-    def source_words(self, crate: str = PROGRAM) -> List[str]:
-        """Returns the arguments that pass a program to the kit as source: its root, and each library below it with the
-        libraries that it uses."""
+    def source_folders(self) -> Dict[str, str]:
+        """Returns the folder with the sources of the program and of each library below it, by the name of the crate."""
         listed = listed_crates()
-        below = crates_of(crate, listed)
-        words = ["--crate-name", crate, path_of("crates", crate, "src", "main.rt")]
-        for name in below[:-1]:
-            uses = dict.fromkeys([
+        crates = crates_of(PROGRAM, listed)
+        folders = {name: path_of("crates", name, "src") for name in crates}
+        folders.update((name, os.path.join(self.crate_folder(name), "src")) for name in self.libraries(crates, listed))
+        return folders
+
+    def source_words(self, folders: Dict[str, str]) -> List[str]:
+        """Returns the arguments that pass the program to the kit as the sources in these folders: its root, and each
+        library below it with those that it uses."""
+        listed = listed_crates()
+        crates = crates_of(PROGRAM, listed)
+        words = ["--crate-name", PROGRAM, os.path.join(folders[PROGRAM], "main.rt")]
+        uses = {
+            name: dict.fromkeys([
                 "core", "std", *[it for it in listed[name] if it not in listed],
                 *[it for it in listed[name] if it in listed]
             ])
-            words += ["--lib", "%s:%s=%s" % (name, ",".join(uses), path_of("crates", name, "src", "lib.rt"))]
-        for name, uses_of in self.libraries(below, listed).items():
-            words += [
-                "--lib",
-                "%s:%s=%s" % (name, ",".join(uses_of), os.path.join(self.crate_folder(name), "src", "lib.rt"))
-            ]
+            for name in crates[:-1]
+        }
+        for name, used in [*uses.items(), *self.libraries(crates, listed).items()]:
+            words += ["--lib", "%s:%s=%s" % (name, ",".join(used), os.path.join(folders[name], "lib.rt"))]
         return words
 
     def libraries(self, crates: List[str], listed: Dict[str, List[str]]) -> Dict[str, List[str]]:

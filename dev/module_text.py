@@ -22,7 +22,8 @@ _INLINING = {"always": "alwaysinline", "never": "noinline", None: "inlinehint"}
 _DEFINITION = re.compile(r'^define .*?@"([^"]+)"\(.*\) #0 \{$')
 _CHECK = 'define internal void @"rattle-llvm-checks::'
 _FILL = re.compile(r"^  call void @llvm\.memset\.p0\.i64\(ptr %r\d+, i8 -86, i64 \d+, i1 false\)$")
-_TRAP = "call void @llvm.trap()"
+_FILLED = ", i8 -86, "
+_TRAP = "  call void @llvm.trap()\n"
 
 Attributes = FrozenSet[str]
 NONE: Attributes = frozenset()
@@ -106,6 +107,9 @@ def without_checks(lines: Iterable[str], inlining: Inlining) -> Iterator[str]:
     for line in lines:
         if is_in_check:
             is_in_check = not line.startswith("}")
+        elif line.startswith("  "):
+            if line != _TRAP and not (_FILLED in line and _FILL.match(line)):
+                yield line
         elif line.startswith(_CHECK):
             is_in_check = True
             yield from (line.split("#")[0] + "alwaysinline {\n", "  ret void\n", "}\n")
@@ -115,6 +119,6 @@ def without_checks(lines: Iterable[str], inlining: Inlining) -> Iterator[str]:
             yield line.replace(" #0 {", " #%d {" % groups.number(words)) if words else line
         elif line.startswith("attributes #"):
             yield _as_built(line)
-        elif line.strip() != _TRAP and not _FILL.match(line):
+        else:
             yield line
     yield from groups.lines()

@@ -83,7 +83,8 @@ def _is_proved(begun: int) -> Optional[str]:
 def _unproved(folder: str) -> str:
     """Returns the path of the program of these sources; builds it if the cache has none."""
     # A program depends on its sources and on its build tools.
-    builders = [path_of("dev", name) for name in ("kit.py", "module_parts.py", "module_text.py", "unproved.py")]
+    names = ("clauses.py", "kit.py", "module_parts.py", "module_text.py", "unproved.py")
+    builders = [path_of("dev", name) for name in names]
     key = hashlib.sha256((as_text(sums("src")) + "".join(map(sum_of, builders))).encode()).hexdigest()
     program = os.path.join(folder, "%s-%s" % (PROGRAM, key[:16]))
     if os.path.exists(program):

@@ -171,7 +171,7 @@ fn sextet(byte: u8) -> u8
     if value > 40 { value - 8 } else { value }
 }
 
-/// Returns the sum of two numbers of bits. It always fits a `usize`, because no memory is larger.
+/// Returns the sum of two numbers of bits; `None` if a `usize` cannot count it, which no memory has room for.
 fn grown(len: usize, more: usize) -> Option<usize>
     requires { more ≤ 6144 }
     ensures sum { IfSome result (λ grown. grown ≡ len + more) }

@@ -47,7 +47,7 @@ def name_of(pair: Pair) -> str:
 
 
 def lasts(fleet: Fleet, pair: Pair, end: int, tick: int) -> bool:
-    """Returns whether a meeting whose row ends at a time is still current: both vessels have no later report."""
+    """Returns whether a meeting whose row ends at a time is still current: the two have no later common report."""
     ships = [fleet.ships.get(mmsi) for mmsi in pair]
     return all(ship is not None and end + BEHIND * tick >= min(one.latest for one in ships if one) for ship in ships)
 
