@@ -1,10 +1,10 @@
-//! How many marks of each sort a track has, and how many stretches of broken ones.
+//! The numbers of a track's marks by kind, and of its stretches of broken marks.
 ghost use Rattle.std.specs.Prelude.{◌≡◌};
 ghost use Rattle.audit_rows.specs.Inner.Lanes.{no_counts, with_more};
 
 use crate::mark::Mark;
 
-/// How many marks a track has, how many of them are of the sorts that a rule's track has, and how many stretches of broken marks.
+/// The numbers of a track's marks, of its marks by kind for a rule's track, and of its stretches of broken marks.
 #[derive(Clone, Copy, Debug, PartialEq, Eq)]
 pub struct MarkCounts {
     /// All marks.
@@ -20,7 +20,7 @@ pub struct MarkCounts {
 }
 
 impl MarkCounts {
-    /// No marks yet.
+    /// Returns the counts of no marks.
     pub(crate) fn none() -> MarkCounts
         ensures { result ≡ no_counts }
     {
@@ -33,7 +33,8 @@ impl MarkCounts {
         }
     }
 
-    /// The same with a stretch of this many marks more, all of this mark's sort. A count stands still at its type's end.
+    /// Returns the counts with one more stretch of this many marks, all of this mark's kind. Counts saturate at the
+    /// maximum of their type.
     pub(crate) fn with(self, mark: Mark, many: u32) -> MarkCounts
         ensures { result ≡ with_more self mark many }
     {

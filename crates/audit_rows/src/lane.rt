@@ -12,8 +12,8 @@ use crate::row::Row;
 use crate::stretch::Opened;
 use crate::topic::Topic;
 
-/// Takes the marks of one track, one after the other. It keeps the stretch that they end in, whatever its sort, and the counts of
-/// the marks before it.
+/// Takes the marks of one track, one after the other. It stores the stretch in which they end, of any kind, and the
+/// counts of the marks before it.
 #[derive(Clone, Copy)]
 pub(crate) struct Lane {
     topic: Topic,
@@ -72,7 +72,7 @@ impl Lane {
         self.counts = self.counts.with(stretch.mark, stretch.length(step));
     }
 
-    /// The row of the stretch that the track's end, before the step, ends.
+    /// Returns the row of the stretch that the track's end, before the step, ends.
     pub(crate) fn end(&self, step: u32) -> Option<Row>
         ensures { (track : Track) → Stands self.now track → step ≡ next_step track
             → Closes track Nothing result }
@@ -81,14 +81,14 @@ impl Lane {
         stretch.ended(step).row(self.topic)
     }
 
-    /// What the track's marks are of.
+    /// Returns the topic of the track's marks.
     pub(crate) fn topic(&self) -> Topic
         ensures { (track : Track) → Stands self.now track → result ≡ track.topic }
     {
         self.topic
     }
 
-    /// The counts of all marks of the track, whose next one would be for the step.
+    /// Returns the counts of all marks of the track, whose next one would be for the step.
     pub(crate) fn counts(&self, step: u32) -> MarkCounts
         ensures { (track : Track) → Stands self.now track → step ≡ next_step track
             → AreCounts result track.marks }

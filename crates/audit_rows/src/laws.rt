@@ -5,13 +5,14 @@ ghost use Rattle.audit_rows.specs.declared.row.Row.{Row};
 ghost use Rattle.audit_rows.specs.Rows.{AreRows, AreRowsBelow};
 ghost use Rattle.audit_rows.specs.Tracks.{AreSettled, Continue, Track, next_step};
 
-/// Tracks have one list of rows at most.
+/// Tracks have at most one list of rows.
 pub fn one_list()
     ensures { (tracks : List Track) (rows others : List Row) → AreRows tracks rows
         → AreRows tracks others → rows ≡ others }
 {}
 
-/// What ends below a bound up to which the tracks are settled is the front of the list of rows of whatever the tracks become.
+/// If the tracks are settled up to a bound, the rows that end below it are a prefix of the rows of any continuation of
+/// the tracks.
 pub fn front_of_all()
     ensures { (bound : ℕ) (tracks later : List Track) (rows all : List Row)
         → AreSettled bound tracks → Continue bound tracks later → AreRowsBelow bound tracks rows

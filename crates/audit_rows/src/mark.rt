@@ -1,13 +1,13 @@
-//! What stands at one step of a track.
+//! The mark at one step of a track.
 ghost use Rattle.std.specs.Prelude.{◌≡◌, ◌↔◌, IsTrue};
 ghost use Rattle.audit_rows.specs.Inner.Sorts.{join, sort_of};
 
 use sectors::Class;
 
-/// What stands at one step of a track.
+/// The mark at one step of a track.
 #[derive(Clone, Copy, Debug, PartialEq, Eq)]
 pub enum Mark {
-    /// Nothing that rows report.
+    /// Nothing to report.
     Nothing,
     /// The rule is broken there.
     Broken,
@@ -23,7 +23,7 @@ pub enum Mark {
 }
 
 impl Mark {
-    /// Whether both, as neighbours, stand in one stretch.
+    /// Returns whether both, as neighbours, belong to the same stretch.
     #[inline(always)]
     pub(crate) fn is_like(self, other: Mark) -> bool
         ensures { IsTrue result ↔ (sort_of self ≡ sort_of other) }
@@ -37,7 +37,7 @@ impl Mark {
         }
     }
 
-    /// Both as one: the kind of the first, and the lesser distance.
+    /// Returns both as one mark: the kind of the first, and the smaller distance.
     #[inline(always)]
     pub(crate) fn join(self, next: Mark) -> Mark
         ensures { result ≡ join self next }

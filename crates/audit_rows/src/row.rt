@@ -25,7 +25,7 @@ pub enum Row {
     },
     /// A rule is broken at each step of the stretch, or its outcome is open at each, and it is not so at either neighbour.
     Verdict {
-        /// Whose duties are audited, and towards whom.
+        /// The vessel whose duties are audited, and the other vessel.
         pair: Pair,
         /// The rule's index.
         rule: u32,
@@ -39,7 +39,7 @@ pub enum Row {
 }
 
 impl Row {
-    /// Where the row stands among all rows.
+    /// Returns the sort key of the row.
     pub(crate) fn place(&self) -> SortKey
         ensures { result ≡ sort_key_of self.now }
     {

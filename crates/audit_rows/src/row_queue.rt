@@ -20,7 +20,7 @@ use out_of_memory::Memory;
 use std::alloc::Global;
 use std::collections::BTreeMap;
 
-/// Takes the first rows off, as far as they end below the bound.
+/// Removes the first rows that end below the bound, and returns them.
 fn pop_below(
     alloc: Global,
     pending: &mut BTreeMap<SortKey, Row>,
@@ -42,7 +42,7 @@ fn pop_below(
     Ok(rows)
 }
 
-/// Takes all rows off, and appends them to others.
+/// Removes all rows, and appends them to others.
 fn pop_all(pending: &mut BTreeMap<SortKey, Row>, rows: &mut Vec<Row>) -> Result<(), Memory>
     ensures { OnOk result (rows.new.items ≡ rows.old.items ++ values_of pending.old.entries) }
 {
@@ -67,19 +67,19 @@ fn end_all(lanes: &[Lane], end: u32, pending: &mut BTreeMap<SortKey, Row>) -> Re
     Ok(())
 }
 
-/// Takes the marks of many tracks, one after the other, and hands out their rows in one order, each as soon as no further mark
-/// can change what stands before it. It stands for the tracks, a bound, and the rows that it has given: those that end below the
-/// bound. After an `Err` it may only be dropped.
+/// Takes the marks of many tracks, one after the other, and returns their rows in order, each as soon as no further
+/// mark can change the rows before it. Its model is the tracks, a bound, and the rows that it has returned: those that
+/// end below the bound. After an `Err` the caller may only drop it.
 #[derive(Drop)]
 pub struct RowQueue {
     alloc: Global,
     lanes: Vec<Lane>,
-    /// The rows that no further mark changes and that were not handed out yet.
+    /// The rows that no further mark changes and that were not returned yet.
     pending: BTreeMap<SortKey, Row>,
 }
 
 impl RowQueue {
-    /// No tracks yet. This takes no memory.
+    /// Returns a queue without tracks. This takes no memory.
     pub fn new(alloc: Global) -> RowQueue
         ensures { QueueStandsFor result [] 0 [] }
     {
@@ -90,8 +90,8 @@ impl RowQueue {
         }
     }
 
-    /// Begins a track and gives its index: how many were begun before it. No other track may be of its topic, and it may begin
-    /// at no step below the bound of the rows that were handed out.
+    /// Begins a track and returns its index: the number of tracks before it. No other track may have its topic, and it
+    /// must not begin below the bound of the rows returned so far.
     pub fn begin(&mut self, topic: Topic) -> Result<usize, Memory>
         ensures index { IfOk result
             (λ index. (tracks : List Track) (bound : ℕ) (given : List Row)
@@ -123,7 +123,8 @@ impl RowQueue {
         Ok(())
     }
 
-    /// Hands out the further rows that end below the bound, up to which the tracks must be settled. The bound may not sink.
+    /// Returns the next rows that end below the bound, up to which the tracks must be settled. The bound must not
+    /// decrease.
     pub fn rows_below(&mut self, bound: u32) -> Result<Vec<Row>, Memory>
         ensures stands { IfOk result
             (λ rows. (tracks : List Track) (old : ℕ) (given : List Row)
@@ -137,7 +138,7 @@ impl RowQueue {
         pop_below(self.alloc, &mut self.pending, bound)
     }
 
-    /// How many tracks there are.
+    /// Returns the number of tracks.
     pub fn track_count(&self) -> usize
         ensures { (tracks : List Track) (bound : ℕ) (given : List Row)
             → QueueStandsFor self.now tracks bound given → result ≡ length tracks }
@@ -145,8 +146,8 @@ impl RowQueue {
         self.lanes.len()
     }
 
-    /// What the marks of the track at the index are of, how many it has of each sort and how many stretches of broken ones, if the
-    /// next mark of each track would be for the step. `None` if there is no such track.
+    /// Returns the topic and the counts of the track at the index, if the next mark of each track would be for the
+    /// step. `None` if there is no such track.
     pub fn counts(&self, index: usize, end: u32) -> Option<(Topic, MarkCounts)>
         ensures { (tracks : List Track) (bound : ℕ) (given : List Row)
             → QueueStandsFor self.now tracks bound given → EndAt end tracks
@@ -156,7 +157,7 @@ impl RowQueue {
         Some((lane.topic(), lane.counts(end)))
     }
 
-    /// Ends all tracks, whose next marks would be for the step, and hands out the rows that are left.
+    /// Ends all tracks, whose next marks would be for the step, and returns the remaining rows.
     pub fn finish(self, end: u32) -> Result<Vec<Row>, Memory>
         ensures { IfOk result
             (λ rows. (tracks : List Track) (bound : ℕ) (given : List Row)

@@ -1,7 +1,7 @@
-//! Where a row stands among all rows.
+//! The sort key of rows.
 use crate::topic::Topic;
 
-/// Where a row stands among all rows: by its last step, then by its topic.
+/// The sort key of rows: the last step, then the topic.
 #[derive(Clone, Copy, PartialEq, Eq, PartialOrd, Ord)]
 pub(crate) struct SortKey {
     pub(crate) last: u32,

@@ -7,8 +7,8 @@ use crate::mark::Mark;
 use crate::row::Row;
 use crate::topic::Topic;
 
-/// An open stretch of marks of one sort, which are joined to one. Where it will end is not kept, so a further mark of
-/// its sort, unless it marks an engagement, leaves it unchanged.
+/// An open stretch of marks of one kind, which are joined to one. It does not store its end, so a further mark of its
+/// kind, unless it marks an engagement, leaves it unchanged.
 #[derive(Clone, Copy)]
 pub(crate) struct Opened {
     pub(crate) first: u32,
@@ -16,7 +16,7 @@ pub(crate) struct Opened {
 }
 
 impl Opened {
-    /// Takes one mark more of its sort.
+    /// Takes one more mark of its kind.
     #[inline(always)]
     pub(crate) fn go_on(&mut self, mark: Mark)
         ensures { self.new ≡ record self.old { mark = join self.old.mark mark } }
@@ -24,7 +24,7 @@ impl Opened {
         self.mark = self.mark.join(mark);
     }
 
-    /// The stretch, if the next mark, which is not of it, is for the step.
+    /// Returns the stretch, if the next mark, which is not of it, is for the step.
     pub(crate) fn ended(self, step: u32) -> Stretch
         ensures { result ≡ ended self step }
     {
@@ -35,7 +35,7 @@ impl Opened {
         }
     }
 
-    /// How many marks it has, if the next mark is for the step.
+    /// Returns the number of its marks, if the next mark is for the step.
     pub(crate) fn length(self, step: u32) -> u32
         ensures { result ≡ step - self.first }
     {

@@ -1,8 +1,8 @@
-//! What rows report.
+//! The topics of rows.
 use meetings::Pair;
 
-/// What a track's marks are about, and its rows report. Meetings come before verdicts; then the order is by the subject,
-/// by the other, and by the rule.
+/// The topic of a track's marks and rows. Meetings come before verdicts; then the order is by the subject, by the
+/// other, and by the rule.
 #[derive(Clone, Copy, Debug, PartialEq, Eq, PartialOrd, Ord)]
 pub enum Topic {
     /// The meeting of an ordered pair.

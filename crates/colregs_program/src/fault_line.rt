@@ -16,7 +16,8 @@ pub(crate) enum FaultLine {
     Made(String),
 }
 
-/// The line of a fault whose words hold no number, so that no memory is needed for it; nothing where the run is finished.
+/// Returns the line of a fault whose words hold no number, so that no memory is needed for it; nothing where the run is
+/// finished.
 fn fixed_line(status: &Status) -> Option<&'static str>
     ensures { MatchOption result (IsTrue (is_made status.now))
         (λ line. line.now ≡ fault_line status.now) }
@@ -67,7 +68,7 @@ impl Error for Status {}
 impl FaultLine {
     ghost use Rattle.colregs_program.specs.Inner.LineBytes.{line_bytes};
 
-    /// The line of a fault. Only one that is made of numbers or names needs memory.
+    /// Returns the line of a fault. Only one that is made of numbers or names needs memory.
     pub(crate) fn of(alloc: Global, status: &Status) -> Result<FaultLine, AllocError>
         ensures text { IfOk result (λ line. line_bytes line ≡ fault_line status.now) }
         ensures memory { OnErr result (IsTrue (is_made status.now)) }

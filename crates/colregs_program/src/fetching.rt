@@ -17,7 +17,7 @@ pub(crate) enum FetchFault {
     Memory,
 }
 
-/// The text under the name, if it has at most `limit` bytes.
+/// Returns the text under the name, if it has at most `limit` bytes.
 pub(crate) fn fetch_text<H: Shelf>(
     alloc: Global,
     name: &Word,

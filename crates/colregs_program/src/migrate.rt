@@ -24,7 +24,7 @@ use outside::{Shelf, Sink, Word, put_all};
 use scenario::migrate;
 use std::alloc::Global;
 
-/// The scenario of a name, as one of version 2.
+/// Returns the scenario of a name, as one of version 2.
 fn migrated<H: Shelf>(alloc: Global, name: &Word, shelf: &mut H) -> Result<Vec<u8>, SetUpFault>
     ensures migrated { IfOk result
         (λ text. HoldsMigrated (H.files shelf.old) name.now (λ migrated. migrated ≡ text.items)) }

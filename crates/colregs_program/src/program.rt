@@ -60,10 +60,10 @@ pub fn run<H: Shelf, S: Source, K: Sink, E: Sink>(
     out: &mut K,
     err: &mut E,
 ) -> Status
-    // The headline: for every scenario and log, however the reads are cut, a finished run has read the log to its end, unless it is a drill,
-    // which makes its log, and `out` gained exactly the report, which is that of the answer: `NoManoeuvre` comes exactly where every plan
-    // fails. A printed plan is safe.
-    // A finished migration wrote the same scenario in version 2.
+    // The headline: for every scenario and log, however the reads are cut, a finished run has read the log to its end,
+    // unless it is a drill, which makes its log, and has appended exactly the report of its answer to `out`. The answer
+    // is `NoManoeuvre` exactly if every plan fails. A printed plan is safe. A finished migration wrote the same
+    // scenario in version 2.
     ensures headline { IsTrue (IsFinished result)
         → Runs words.now (H.files shelf.old)
         (λ request. IsReadBy (task_mode request.task) (S.left log.new))
@@ -75,14 +75,15 @@ pub fn run<H: Shelf, S: Source, K: Sink, E: Sink>(
         × Migrates words.now (H.files shelf.old)
         (λ text. Appends (K.contents out.old) (K.contents out.new) text)) }
 
-    // Completeness: the answer that words, shelf and log call for comes, where no call fails. Memory alone is free.
+    // Completeness: if no call fails, the answer is the one that arguments, shelf and log require. Only out-of-memory
+    // needs no cause.
     ensures due { (due : Status) → IsDue words.now (H.files shelf.old) (S.left log.old) due
         → ¬ Rose (H.faults shelf.old) (H.faults shelf.new)
         → ¬ Rose (S.faults log.old) (S.faults log.new)
         → ¬ Rose (K.faults out.old) (K.faults out.new)
         → (result ≡ due) ⊎ (result ≡ Status.Memory) }
 
-    // When each other answer comes.
+    // The cause of each other answer.
     ensures usage { result ≡ Status.Usage → AskForNothing words.now }
     ensures no_usage { (request : Request) → AskFor words.now request → result ≢ Status.Usage }
     ensures shelf_fault { result ≡ Status.ShelfFault
@@ -104,8 +105,8 @@ pub fn run<H: Shelf, S: Source, K: Sink, E: Sink>(
         → Requested words.now
         (λ request. HoldsUnder (H.files shelf.old) (scenario_name request)
         (λ text. (length text ≤ greatest_scenario) × IsRefusedBy request text key cause)) }
-    // A run that a fault or a refusal stops has written what the bytes before it settle. Own ship's lacks, her targets and an entry that is not
-    // right come at the log's end.
+    // A run that a fault or a refusal stops has written what the bytes before it settle. Faults of own ship, of her
+    // targets and of a wrong entry occur only at the log's end.
     ensures read_fault { result ≡ Status.ReadFault
         → (S.faults log.new ≡ one_more (S.faults log.old))
         × Runs words.now (H.files shelf.old)
@@ -161,7 +162,7 @@ pub fn run<H: Shelf, S: Source, K: Sink, E: Sink>(
     ensures migration { (name : List ℕ) → AskForMigration words.now name
         → IsTrue (IsOfMigration result) }
 
-    // What is asked for and what is written then.
+    // The output of a request for information.
     ensures unfetched { AskForNothing words.now → H.fetches shelf.new ≡ H.fetches shelf.old }
     ensures fetched { (request : Request) → AskFor words.now request → asks_rows request ≡ false
         → (H.fetches shelf.new ≡ one_more (H.fetches shelf.old))
@@ -177,11 +178,11 @@ pub fn run<H: Shelf, S: Source, K: Sink, E: Sink>(
         → Keeps (S.left log.old) (S.left log.new) × (S.faults log.new ≡ S.faults log.old) }
     ensures unwritten { IsTrue (WritesNothing result)
         → Keeps (K.contents out.old) (K.contents out.new) }
-    // The count of faults of each device rises with its answer alone, and so shows which of them has failed.
+    // The count of faults of each device rises only with its answer, and so shows which device failed.
     ensures calm { result ≢ Status.WriteFault → K.faults out.new ≡ K.faults out.old }
     ensures log_calm { result ≢ Status.ReadFault → S.faults log.new ≡ S.faults log.old }
     ensures shelf_calm { result ≢ Status.ShelfFault → H.faults shelf.new ≡ H.faults shelf.old }
-    // Whatever is known, a limit that no scenario sets has its number.
+    // In every case, a limit that no scenario sets has its number.
     ensures limits { TellsLimit result }
     ensures line { Gains (record { bytes = E.contents err.old; faults = E.faults err.old })
         (record { bytes = E.contents err.new; faults = E.faults err.new }) (fault_line result) }

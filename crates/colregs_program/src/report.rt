@@ -19,7 +19,7 @@ use outside::{Sink, Source};
 use sessions::{Asked, SessionFault};
 use std::alloc::Global;
 
-/// The fault of a run whose log is made: where it cannot be read, there is no memory to make it.
+/// Returns the fault of a run that makes its log: if it cannot be read, memory ran out.
 fn made_fault(fault: StreamFault) -> StreamFault
     ensures { result ≡ made_fault fault }
 {

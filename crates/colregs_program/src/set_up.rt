@@ -95,7 +95,7 @@ fn with_options(mut scenario: Scenario, options: &WindowOptions) -> Scenario
     scenario
 }
 
-/// The fault of rows that were not had.
+/// Returns the fault of rows that were not had.
 fn rows_fault(fault: FetchFault) -> SetUpFault
     ensures { result ≡ rows_fault fault }
 {
@@ -106,7 +106,7 @@ fn rows_fault(fault: FetchFault) -> SetUpFault
     }
 }
 
-/// The scenario of a request, with own ship if its task needs her.
+/// Returns the scenario of a request, with own ship if its task needs her.
 fn scenario_of<H: Shelf>(
     alloc: Global,
     request: &ReportRequest,
@@ -139,7 +139,7 @@ fn scenario_of<H: Shelf>(
     }
 }
 
-/// The text of the rows that the task of a request checks, or an empty one if it checks none.
+/// Returns the text of the rows that the task of a request checks, or an empty one if it checks none.
 fn rows_of<H: Shelf>(
     alloc: Global,
     request: &ReportRequest,
@@ -179,7 +179,7 @@ pub(crate) struct SetUp {
     pub(crate) rows: Vec<u8>,
 }
 
-/// The scenario of a request, and then the rows that it needs.
+/// Returns the scenario of a request, and then the rows that it needs.
 pub(crate) fn set_up<H: Shelf>(
     alloc: Global,
     request: &ReportRequest,

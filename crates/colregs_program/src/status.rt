@@ -71,7 +71,7 @@ pub enum Status {
 }
 
 impl Status {
-    /// The exit status of the program.
+    /// Returns the exit status of the program.
     pub fn number(&self) -> u8
         ensures { result ≡ exit_status_of self.now }
     {

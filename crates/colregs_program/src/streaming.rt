@@ -67,7 +67,7 @@ impl From<AllocError> for StreamFault {
     }
 }
 
-/// A block of zeros. Its length is an argument, so that no proof lists its bytes.
+/// Returns a block of zeros. Its length is an argument, so that no proof lists its bytes.
 fn zeros(alloc: Global, count: usize) -> Result<Vec<u8>, AllocError>
     ensures { IfOk result (λ block. vec_len block ≡ count) }
 {

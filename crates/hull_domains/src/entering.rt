@@ -25,14 +25,14 @@ fn side_of(step: &Step, ahead: Point, shape: &Shape, k: usize) -> Side
     side_beside(step, ahead, shape.edge(k))
 }
 
-/// Whether own ship is outside an edge all the time, beside which she moves.
+/// Returns whether own ship is outside an edge all the time, beside which she moves.
 fn stays_outside(side: Side) -> bool
     ensures { IsTrue result ↔ ((side.change ≡ pos 0) × (pos 0 ≤ℤ side.start)) }
 {
     side.change == 0 && side.start >= 0
 }
 
-/// The moment between two times.
+/// Returns the moment between two times.
 fn mediant(from: Fraction, to: Fraction) -> Moment
     requires from { IsBound from }
     requires to { IsBound to }
@@ -46,7 +46,8 @@ fn mediant(from: Fraction, to: Fraction) -> Moment
     }
 }
 
-/// Whether the distance along an axis is at least so much all the time: at the beginning it is more than that by the whole change.
+/// Returns whether the distance along an axis is at least so much all the time: at the beginning it is more than that
+/// by the whole change.
 fn keeps_off(p: i64, w: i64, radius: u64) -> bool
     requires p { unsigned_abs p ≤ 2 ^ 34 }
     requires w { unsigned_abs w ≤ 2 ^ 26 }
@@ -56,7 +57,7 @@ fn keeps_off(p: i64, w: i64, radius: u64) -> bool
     radius + w.unsigned_abs() <= p.unsigned_abs()
 }
 
-/// Whether the distance along one of the axes is at least so much all the time, in tenths of a millimetre.
+/// Returns whether the distance along one of the axes is at least so much all the time, in tenths of a millimetre.
 #[tactic(auto, using(crate::proofs::Far::separated_along, crate::proofs::Far::separated_across))]
 fn keeps_off_by_an_axis(step: &Step, radius: u64) -> bool
     requires { radius < 2 ^ 31 }
@@ -66,7 +67,8 @@ fn keeps_off_by_an_axis(step: &Step, radius: u64) -> bool
     keeps_off(p.x, w.x, radius) || keeps_off(p.y, w.y, radius)
 }
 
-/// Whether a step is separated by a radius in tenths of a millimetre. If it keeps off along an axis, that is seen at once.
+/// Returns whether a step is separated by a radius in tenths of a millimetre. If it keeps off along an axis, that is
+/// seen at once.
 fn is_separated(step: &Step, radius: u64) -> bool
     requires { radius < 2 ^ 31 }
     ensures { IsTrue result ↔ IsSeparated step.now radius }
@@ -77,7 +79,7 @@ fn is_separated(step: &Step, radius: u64) -> bool
     separated(step, radius)
 }
 
-/// The radius of a circle in which the whole shape lies, whatever the direction, in tenths of a millimetre.
+/// Returns the radius of a circle in which the whole shape lies, whatever the direction, in tenths of a millimetre.
 pub fn radius_about(shape: &Shape) -> u64
     ensures small { result < 2 ^ 31 }
     ensures outside { (step : RelativeMove) → IsSeparated step result → (direction : ℕ)
@@ -86,8 +88,8 @@ pub fn radius_about(shape: &Shape) -> u64
     10_000 * (u64::from(shape.longest_way()) + 2)
 }
 
-/// Whether own ship keeps off the whole shape along one of the axes, whatever the direction. This decides most steps of a search at once; for the
-/// others [`enters`] decides.
+/// Returns whether own ship keeps off the whole shape along one of the axes, whatever the direction. This decides most
+/// steps of a search at once; for the others [`enters`] decides.
 #[inline(always)]
 pub fn keeps_clear(step: &Step, shape: &Shape) -> bool
     ensures { IsTrue result → (direction : ℕ) → direction < 3600
@@ -96,9 +98,9 @@ pub fn keeps_clear(step: &Step, shape: &Shape) -> bool
     keeps_off_by_an_axis(step, radius_about(shape))
 }
 
-/// A moment of the step at which own ship is inside the shape of a target that heads in this direction, tenths of a degree below 3600;
-/// `None` if there is none. It lies between the latest crossing inwards, or the beginning, and the first one outwards, or the end:
-/// `(c1 + c2) / (d1 + d2)`, not reduced.
+/// Returns a moment of the step at which own ship is inside the shape of a target that heads in this direction, tenths
+/// of a degree below 3600; `None` if there is none. It lies between the latest crossing inwards, or the beginning, and
+/// the first one outwards, or the end: `(c1 + c2) / (d1 + d2)`, not reduced.
 pub fn enters(step: &Step, direction: u16, shape: &Shape) -> Option<Moment>
     requires { direction < 3600 }
     ensures none { IsNone result ↔ StaysOutside step.now direction shape.now }
@@ -138,7 +140,7 @@ fn sum(a: i128, b: i128) -> i128
     a + b
 }
 
-/// Whether own ship is inside an edge at a moment.
+/// Returns whether own ship is inside an edge at a moment.
 fn is_inside(side: Side, moment: Moment) -> bool
     requires side { IsLow side }
     requires a { moment.a ≤ moment.b }
@@ -149,7 +151,8 @@ fn is_inside(side: Side, moment: Moment) -> bool
     sum(times(side.start, moment.b), times(side.change, moment.a)) < 0
 }
 
-/// Whether own ship is inside the shape at a moment of the step. The target heads in this direction, tenths of a degree below 3600.
+/// Returns whether own ship is inside the shape at a moment of the step. The target heads in this direction, tenths of
+/// a degree below 3600.
 pub fn inside(step: &Step, direction: u16, shape: &Shape, moment: &Moment) -> bool
     requires direction { direction < 3600 }
     requires a { moment.now.a ≤ moment.now.b }

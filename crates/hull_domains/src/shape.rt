@@ -34,7 +34,7 @@ fn difference(from: i32, to: i32) -> i64
     i64::from(to) - i64::from(from)
 }
 
-/// The edge that begins at a vertex.
+/// Returns the edge that begins at a vertex.
 #[tactic(auto, unfolding(crate::specs::Shapes::edge_of))]
 fn edge_at(vertices: &[(i32, i32); 6], k: usize) -> Edge
     requires { k < 6 }
@@ -66,7 +66,7 @@ fn are_near(vertices: &[(i32, i32); 6]) -> bool
     vertices.iter().all(|vertex| is_near(*vertex))
 }
 
-/// Whether the next edge turns to starboard at the end of this one.
+/// Returns whether the next edge turns to starboard at the end of this one.
 fn turns(edge: Edge, next: Edge) -> bool
     requires edge { IsShort edge }
     requires next { IsShort next }
@@ -75,7 +75,7 @@ fn turns(edge: Edge, next: Edge) -> bool
     turn(edge.along, next.along) > 0
 }
 
-/// Whether the vessel is strictly inside an edge.
+/// Returns whether the vessel is strictly inside an edge.
 fn has_inside(edge: Edge) -> bool
     requires { IsShort edge }
     ensures { IsTrue result ↔ HasInside edge }
@@ -83,7 +83,7 @@ fn has_inside(edge: Edge) -> bool
     turn(edge.along, edge.from) < 0
 }
 
-/// An edge of vertices that are near.
+/// Returns an edge of vertices that are near.
 fn short_edge(vertices: &[(i32, i32); 6], k: usize) -> Edge
     requires k { k < 6 }
     requires near { All IsNearVertex vertices.now }
@@ -93,7 +93,7 @@ fn short_edge(vertices: &[(i32, i32); 6], k: usize) -> Edge
     edge_at(vertices, k)
 }
 
-/// The way to a vertex in metres: forward or aft, and then abeam.
+/// Returns the way to a vertex in metres: forward or aft, and then abeam.
 fn way_to(vertex: (i32, i32)) -> u32
     requires { IsNearVertex vertex }
     ensures value { result ≡ way_to vertex }
@@ -102,7 +102,7 @@ fn way_to(vertex: (i32, i32)) -> u32
     vertex.0.unsigned_abs() + vertex.1.unsigned_abs()
 }
 
-/// The way to a vertex of a list.
+/// Returns the way to a vertex of a list.
 fn way_to_one(vertices: &[(i32, i32); 6], k: usize) -> u32
     requires k { k < 6 }
     requires near { All IsNearVertex vertices.now }
@@ -112,7 +112,7 @@ fn way_to_one(vertices: &[(i32, i32); 6], k: usize) -> u32
     way_to(vertex(vertices, k))
 }
 
-/// The longest way to a vertex, in metres.
+/// Returns the longest way to a vertex, in metres.
 #[tactic(auto, unfolding(crate::specs::Inner::Ways::longest_way))]
 fn longest_way(vertices: &[(i32, i32); 6]) -> u32
     requires { All IsNearVertex vertices.now }
@@ -126,7 +126,7 @@ fn longest_way(vertices: &[(i32, i32); 6]) -> u32
     longest
 }
 
-/// Whether vertices stand clockwise about the vessel.
+/// Returns whether vertices stand clockwise about the vessel.
 fn are_around(vertices: &[(i32, i32); 6]) -> bool
     requires { All IsNearVertex vertices.now }
     ensures { IsTrue result
@@ -171,7 +171,8 @@ impl Model for Shape {
 }
 
 impl Shape {
-    /// The shape of these vertices, each by its metres forward of the vessel and to starboard, or `None` if they are none.
+    /// Returns the shape of these vertices, each by its metres forward of the vessel and to starboard, or `None` if
+    /// they are none.
     #[tactic(auto, using(crate::proofs::Tested::shaped, crate::proofs::Tested::unshaped))]
     pub fn new(vertices: &[(i32, i32); 6]) -> Option<Shape>
         ensures value { IfSome result (λ shape. shape ≡ vertices.now) }
@@ -188,7 +189,7 @@ impl Shape {
         }
     }
 
-    /// The longest way to a vertex, in metres.
+    /// Returns the longest way to a vertex, in metres.
     pub(crate) fn longest_way(&self) -> u32
         ensures value { result ≡ longest_way self.now 6 }
         ensures short { result ≤ 4000 }
@@ -197,7 +198,7 @@ impl Shape {
         self.longest
     }
 
-    /// The edge that begins at a vertex.
+    /// Returns the edge that begins at a vertex.
     pub(crate) fn edge(&self, k: usize) -> Edge
         requires { k < 6 }
         ensures value { result ≡ edge_of self.now k }

@@ -39,7 +39,7 @@ fn negated(z: i128) -> i128
     -z
 }
 
-/// The vector at right angles to an edge, if the target heads `ahead`.
+/// Returns the vector at right angles to an edge, if the target heads `ahead`.
 fn normal(along: Point, ahead: Point) -> Point
     requires along { IsWithin 4000 along }
     requires ahead { IsWithin 1000000 ahead }
@@ -69,7 +69,7 @@ fn minus(a: i128, b: i128) -> i128
     a - b
 }
 
-/// The dot product of the displacement at the beginning with a vector at right angles to an edge.
+/// Returns the dot product of the displacement at the beginning with a vector at right angles to an edge.
 fn dot_at_start(step: &Step, normal: Point) -> i128
     requires { unsigned_abs normal.x + unsigned_abs normal.y ≤ 8000000000 }
     ensures value { result ≡ dot_of step.now.p normal }
@@ -133,7 +133,7 @@ pub(crate) fn is_less(x: Fraction, y: Fraction) -> bool
     times(x.over, y.under) < times(y.over, x.under)
 }
 
-/// The bound that an edge sets from below.
+/// Returns the bound that an edge sets from below.
 fn lower(side: Side) -> Fraction
     requires low { IsLow side }
     requires falls { side.change <ℤ pos 0 }
@@ -146,7 +146,7 @@ fn lower(side: Side) -> Fraction
     }
 }
 
-/// The bound that an edge sets from above.
+/// Returns the bound that an edge sets from above.
 fn upper(side: Side) -> Fraction
     requires low { IsLow side }
     requires rises { pos 0 <ℤ side.change }
@@ -159,7 +159,7 @@ fn upper(side: Side) -> Fraction
     }
 }
 
-/// The later of two bounds from below.
+/// Returns the later of two bounds from below.
 #[tactic(auto, unfolding(crate::specs::Crossings::later))]
 pub(crate) fn later(from: Fraction, side: Side) -> Fraction
     requires from { IsBound from }
@@ -176,7 +176,7 @@ pub(crate) fn later(from: Fraction, side: Side) -> Fraction
     from
 }
 
-/// The earlier of two bounds from above.
+/// Returns the earlier of two bounds from above.
 #[tactic(auto, unfolding(crate::specs::Crossings::earlier))]
 pub(crate) fn earlier(to: Fraction, side: Side) -> Fraction
     requires to { IsBound to }

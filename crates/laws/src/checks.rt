@@ -5,7 +5,8 @@ ghost use Rattle.refutation_check.specs.CheckedRows.{AreRight, IsFirstBadRow};
 
 use plan_situations::Situation;
 
-/// Rows that say rightly why there is no plan have no first row that is not right. So a finished recheck writes `none` exactly if the rows are right.
+/// Rows with the right reasons why there is no plan have no first wrong row. So a finished recheck writes `none`
+/// exactly if the rows are right.
 pub fn right_rows_have_no_bad_row(situation: &Situation)
     ensures { (rows : List Fields) (k : ℕ) → AreRight situation.now rows
         → ¬ IsFirstBadRow situation.now rows k }

@@ -1,6 +1,6 @@
-//! Laws of existence, which stand over the definitions alone: that there is no list of rows, alarms, totals or entries, no settled text and no
-//! report is refuted. That there is at most one of each is a law of `reports`, or of the crate that defines it. So no run ends out of memory because
-//! no report meets its definition.
+//! Laws of existence, which follow from the definitions alone: some list of rows, alarms, totals or entries, some
+//! settled text and some report always exist (in double negation). That there is at most one of each is a law of
+//! `reports`, or of the crate that defines it. So no run ends out of memory because no report meets its definition.
 ghost use Rattle.laws.specs.Endings.{SomeEnding, SomeSettledText};
 ghost use Rattle.laws.specs.Findings.{SomeAlarms, SomeAuditRows, SomeTotals};
 ghost use Rattle.laws.specs.Reasons.{SomeCanonicalList};

@@ -1,4 +1,4 @@
-//! What a log without a line comes to.
+//! The report of a log without one of its lines.
 ghost use Rattle.std.specs.Prelude.{◌++◌, ℕ, List};
 ghost use Rattle.aivdm.specs.declared.sentence.LineCause.{LineCause};
 ghost use Rattle.laws.specs.InertLines.{IsInert, IsOneLine, IsWithoutLine};
@@ -9,8 +9,9 @@ ghost use Rattle.scenario_values.specs.declared.values.Scenario.{Scenario};
 ghost use Rattle.sessions.specs.Endings.{IsEnding};
 ghost use Rattle.sessions.specs.Tasks.{Task};
 
-/// A line without a stamp that is dropped for what it is changes only a count: for every task, the log without it, and without the carriage
-/// return and the line feed that end it, has the same report, except that the count of the line's outcome, if it is reported, is smaller by one.
+/// A line without a stamp that is dropped for its form changes only a count: for every task, the log without it, and
+/// without the carriage return and the line feed that end it, has the same report, except that the count of the line's
+/// outcome, if it is reported, is smaller by one.
 pub fn inert_lines()
     ensures { (task : Task) (scenario : Scenario) (before part ending after text : List ℕ)
         (cause : LineCause) → IsOneLine before part ending after

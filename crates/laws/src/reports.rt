@@ -1,4 +1,4 @@
-//! Laws of reports and answers, which stand over the definitions alone.
+//! Laws of reports and answers, which follow from the definitions alone.
 ghost use Rattle.std.specs.Prelude.{◌≡◌, ◌++◌, ℕ, List};
 ghost use Rattle.std.specs.declared.option.Option.{Option};
 ghost use Rattle.colregs_program.specs.Answers.{IsDue};
@@ -37,13 +37,13 @@ pub fn one_ending()
         IsEnding task scenario log text → IsEnding task scenario log other → text ≡ other }
 {}
 
-/// A log has an outcome: that it has none is refuted.
+/// Every log has an outcome: it is refuted that it has none.
 pub fn some_answer()
     ensures { (task : Task) (scenario : Scenario) (log : List ℕ)
         → ¬ ((came : Came) → ¬ IsMet task scenario log came) }
 {}
 
-/// The settled bytes of a front of a log are one text at most.
+/// A prefix of a log has at most one settled text.
 pub fn one_settled_text()
     ensures { (mode : Mode) (scenario : Scenario) (front text other : List ℕ)
         → IsSettledText mode scenario front text → IsSettledText mode scenario front other
@@ -53,7 +53,8 @@ pub fn one_settled_text()
     one_list_of_decided_alarms();
 }
 
-/// The settled bytes of a front are a front of those of each longer front, and of the report of every log that begins with it.
+/// The settled text of a prefix is a prefix of that of each longer prefix, and of the report of every log that begins
+/// with it.
 pub fn settled_bytes_stay()
     ensures longer { (mode : Mode) (scenario : Scenario) (front more text later : List ℕ)
         → IsSettledText mode scenario front text → IsSettledText mode scenario (front ++ more) later
@@ -79,7 +80,8 @@ pub fn one_due()
     one_answer();
 }
 
-/// If the contents of shelf and log are known, some answer is due to a run, whatever its arguments: that none is is refuted.
+/// If the contents of shelf and log are known, some answer is due to a run with any arguments: it is refuted that none
+/// is.
 pub fn some_due()
     ensures { SomeDue }
 {

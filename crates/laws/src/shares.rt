@@ -1,4 +1,4 @@
-//! Laws of shares, which stand over the definitions alone.
+//! Laws of shares, which follow from the definitions alone.
 ghost use Rattle.std.specs.Prelude.{ℕ, ◌≡◌, ◌↔◌, ◌+◌, ◌*◌, ◌<◌, ◌≤◌, ◌++◌, length, List, [], None};
 ghost use Rattle.std.specs.List.{Contains};
 ghost use Rattle.audit_rows.specs.Order.{first_step_of, last_step_of};
@@ -17,7 +17,8 @@ ghost use Rattle.laws.specs.Subjects.{AreJoined, AreShares, CoverAllSeen, Share,
 ghost use Rattle.laws.specs.Vessels.{HasSentAlike, IsSeenAs};
 ghost use Rattle.laws.specs.Windows.{BeginsAnew, ComeIntoContactBehind, HaveMetBy, IsJudgedAlike, IsMeeting, IsRankedAlike, IsSeenAlike, IsTypedAlike, LooksBackTo, moved, over, with_window};
 
-/// A row whose subject is in a group is an audit's with the group as subjects exactly where it is the audit's of all pairs.
+/// A row whose subject is in a group belongs to the audit with this group as subjects exactly if it belongs to the
+/// audit of all pairs.
 pub fn rows_of_a_subject()
     ensures { (numbers : AuditNumbers) (ticks : List Sighting) (group : List ℕ) (row : Row)
         → Contains group (pair_of row).subject
@@ -25,8 +26,8 @@ pub fn rows_of_a_subject()
         ↔ IsAuditRow (for_subjects [] numbers) ticks row }
 {}
 
-/// Of shares whose groups cover all vessels that are seen, the rows kept of each and merged in order are the rows of all pairs. There is
-/// such a list for all shares, and the report of all pairs begins with its text.
+/// If the groups of shares cover all vessels seen, the rows of each group's own subjects, merged in order, are the rows
+/// of all pairs. There is such a list for all shares, and the report of all pairs begins with its text.
 pub fn shares_by_subjects()
     ensures whole { (scenario : Scenario) (log : List ℕ) (shares : List Share) (rows : List Row)
         → AreShares scenario log shares → CoverAllSeen scenario log shares
@@ -40,8 +41,9 @@ pub fn shares_by_subjects()
         → (behind : List ℕ) × (text ≡ stretch_rows scenario.rules rows ++ behind) }
 {}
 
-/// Where two windows see the two vessels of a pair alike, a meeting of theirs that ends early enough in both and begins after both have
-/// is one of the earlier window exactly where it is one of the later, and none is under way in the earlier where it begins.
+/// If two windows see the two vessels of a pair alike, a meeting of theirs that ends early enough in both, and begins
+/// after both windows have begun, belongs to the earlier window exactly if it belongs to the later one, and no meeting
+/// is under way in the earlier one when it begins.
 pub fn meetings_of_two_windows()
     ensures { (numbers : AuditNumbers) (behind : ℕ) (earlier later : List Sighting) (row : Row)
         → IsSeenAlike behind earlier later (pair_of row).subject
@@ -52,8 +54,8 @@ pub fn meetings_of_two_windows()
         × BeginsAnew numbers earlier (pair_of row) (behind + first_step_of row)) }
 {}
 
-/// Where two windows see the two vessels of a pair alike and rank them alike, and the two first come into contact when both have begun,
-/// their rows that the windows decide are the same in both.
+/// If two windows see the two vessels of a pair alike and rank them alike, and the two first come into contact after
+/// both windows have begun, the rows that the windows decide are the same in both.
 pub fn rows_of_two_windows()
     ensures { (numbers : AuditNumbers) (behind : ℕ) (earlier later : List Sighting) (row : Row)
         → IsSeenAlike behind earlier later (pair_of row).subject
@@ -67,8 +69,9 @@ pub fn rows_of_two_windows()
         ↔ IsAuditRow (over later numbers) later row }
 {}
 
-/// Where two windows see the two vessels of a pair alike and rank them alike, a verdict that both windows decide is the same in both, if its
-/// rule looks back no further than to a step by which the two had met in the later window, and before which none of their meetings was under way.
+/// If two windows see the two vessels of a pair alike and rank them alike, a verdict that both windows decide is the
+/// same in both, provided that its rule looks back no further than to a step by which the two had met in the later
+/// window, and before which none of their meetings was under way.
 pub fn verdicts_of_two_windows()
     ensures { (numbers : AuditNumbers) (behind : ℕ) (earlier later : List Sighting) (step : ℕ)
         (row : Row) → IsSeenAlike behind earlier later (pair_of row).subject
@@ -83,7 +86,7 @@ pub fn verdicts_of_two_windows()
         ↔ IsAuditRow (over later numbers) later row }
 {}
 
-/// Where two windows judge a vessel's reports alike, they see her alike.
+/// If two windows judge a vessel's reports alike, they see her alike.
 pub fn windows_see_alike()
     ensures { (scenario : Scenario) (log : List ℕ) (start ticks behind more mmsi : ℕ)
         → scenario.own ≡ None
@@ -94,9 +97,10 @@ pub fn windows_see_alike()
         mmsi }
 {}
 
-/// Two windows that judge the reports of a pair's vessels alike. A meeting that ends two ticks before the end of either and begins when both
-/// have begun is reported of the earlier exactly where it is of the later, and none is under way in the earlier where it begins. Of a pair
-/// that first comes into contact when both have begun, each row that both windows decide is reported of the one exactly where it is of the other.
+/// Two windows that judge the reports of a pair's vessels alike. A meeting that ends two ticks before the end of either
+/// and begins after both have begun is in the report of the earlier one exactly if it is in that of the later one, and
+/// no meeting is under way in the earlier one when it begins. If a pair first comes into contact after both have begun,
+/// each row that both windows decide is in the report of the one exactly if it is in that of the other.
 pub fn shares_by_time()
     ensures meetings { (scenario : Scenario) (log : List ℕ) (start ticks behind more : ℕ)
         (row : Row) → scenario.own ≡ None
@@ -130,7 +134,7 @@ pub fn shares_by_time()
         ↔ IsReported (with_window (start + behind * scenario.window.tick) more scenario) log row }
 {}
 
-/// A row of a pair is an audit's by the states and ranks of its two vessels alone.
+/// Whether an audit has a row of a pair depends only on the states and ranks of its two vessels.
 pub fn rows_of_two_vessels()
     ensures { (numbers : AuditNumbers) (ticks others : List Sighting) (row : Row)
         → length ticks ≡ length others → IsSeenAs ticks others (pair_of row).subject
@@ -138,7 +142,8 @@ pub fn rows_of_two_vessels()
         → IsAuditRow numbers ticks row ↔ IsAuditRow numbers others row }
 {}
 
-/// Where the two vessels of a pair have sent alike by two logs, a row of theirs is reported of the one exactly where it is of the other.
+/// If the two vessels of a pair have sent the same in two logs, a row of theirs is in the report of the one exactly if
+/// it is in that of the other.
 pub fn shares_by_vessels()
     ensures { (scenario : Scenario) (log other : List ℕ) (row : Row)
         → HasSentAlike scenario log other (pair_of row).subject
@@ -146,7 +151,7 @@ pub fn shares_by_vessels()
         → IsReported scenario log row ↔ IsReported scenario other row }
 {}
 
-/// Whether a line's sentence is in time, and at which time it is sent, hangs on the stamps of the lines before it alone.
+/// Whether a line's sentence is in time, and its time, depend only on the stamps up to the line.
 pub fn stamps_keep_the_clock()
     ensures { (scenario : Scenario) (before others : List (List ℕ)) (line : List ℕ)
         → stamps_of before ≡ stamps_of others

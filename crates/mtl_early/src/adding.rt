@@ -14,7 +14,7 @@ use crate::sweeper::{Sweep, SweepNode};
 use mtl_formulas::{Formula, Node, PairKind, future_reach};
 use out_of_memory::Memory;
 
-/// The index of the last node.
+/// Returns the index of the last node.
 fn last(building: &Building) -> usize
     requires { 0 < length building.now.nodes.items }
     ensures { result ≡ last_of building.now }

@@ -34,7 +34,7 @@ impl SweepProgram {
     ghost use Rattle.mtl_early.specs.Standing.{IsSweepProgramOf};
     ghost use Rattle.mtl_early.specs.Sweepable.{IsSweepable};
 
-    /// The program of a formula. `None` where O, H or S in it has an operand that looks ahead.
+    /// Returns the program of a formula. `None` where O, H or S in it has an operand that looks ahead.
     pub fn of(alloc: Global, formula: &Formula) -> Result<Option<SweepProgram>, Memory>
         requires { IsValid (tree_of formula.now) }
         ensures program { IfOk result

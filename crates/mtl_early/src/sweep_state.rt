@@ -1,4 +1,4 @@
-//! What is known early of one trace.
+//! The early state of one trace.
 ghost use Rattle.std.specs.Prelude.{◌≡◌, ◌≤◌, ◌^◌};
 ghost use Rattle.mtl_monitor.specs.Following.{fed_of, past_of};
 
@@ -45,7 +45,7 @@ impl SweepState {
     ghost use Rattle.mtl_early.specs.Standing.{Continues, HasGivenAll, IsAt, IsGiving, IsStateOf, IsSweepProgramOf, left_to_look, rows_fed};
     ghost use Rattle.mtl_early.specs.Inner.Looking.{IsLooked, IsLooking};
 
-    /// Returns the state over a trace before its first row. It takes all its memory here.
+    /// Returns the state over a trace before its first row. It allocates all its memory here.
     pub fn new(alloc: Global, program: &SweepProgram) -> Result<SweepState, Memory>
         ensures of { IfOk result (IsStateOf program.now) }
         ensures at { IfOk result
@@ -69,7 +69,8 @@ impl SweepState {
         })
     }
 
-    /// Feeds the next row, once `next` has given all that the row before decides. At most 2^31 rows are fed. It takes no memory.
+    /// Feeds the next row, after `next` has returned all positions that the row before decides. Takes at most 2^31
+    /// rows. It takes no memory.
     pub fn feed<A: Atoms>(&mut self, program: &SweepProgram, row: &A)
         requires of { IsStateOf program.now self.old }
         requires done { HasGivenAll self.old }
@@ -103,8 +104,8 @@ impl SweepState {
         self.size = open + 1;
     }
 
-    /// The next position that exactly the rows fed so far decide, with its value: in ascending order, and each once. `None`
-    /// where all were given. It takes no memory.
+    /// Returns the next position that exactly the rows fed so far decide, with its value: in ascending order, and each
+    /// once. `None` where all were given. It takes no memory.
     pub fn next(&mut self, program: &SweepProgram) -> Option<(u32, Verdict)>
         requires of { IsStateOf program.now self.old }
         ensures of { IsStateOf program.now self.new }
@@ -127,7 +128,7 @@ impl SweepState {
         None
     }
 
-    /// Looks at the next place: the answer is its position, if the last row has decided that.
+    /// Checks the next position; returns it if the last row has decided it.
     fn look(&mut self, program: &SweepProgram) -> Option<(u32, Verdict)>
         requires of { IsStateOf program.now self.old }
         requires more { 0 < self.old.place }

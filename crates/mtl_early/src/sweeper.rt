@@ -31,7 +31,7 @@ pub(crate) struct SweepNode {
     pub sweep: Sweep,
 }
 
-/// The value of a formula that looks no position ahead, at the last row.
+/// Returns the value of a formula that looks no position ahead, at the last row.
 fn value_now(program: &Program, state: &TraceState, formula: usize) -> Verdict
     requires fits { Fits program.now state.now }
     requires inside { formula < count_of program.now }
@@ -137,7 +137,7 @@ pub(crate) fn sweep_all(
     }
 }
 
-/// Whether the cells are the same.
+/// Returns whether the cells are the same.
 fn are_same(cells: &[Verdict], before: &[Verdict]) -> bool
     ensures { result ≡ true → cells.now ≡ before.now }
 {

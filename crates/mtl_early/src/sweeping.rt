@@ -47,7 +47,7 @@ fn joined(kind: PairKind, a: Verdict, b: Verdict) -> Verdict
     }
 }
 
-/// A value as a window sees it: the least value is the greatest of the values turned round, turned round.
+/// Returns a value as a window sees it: the least value is the greatest of the values turned round, turned round.
 fn seen(turned: bool, value: Verdict) -> Verdict
     ensures { result ≡ sensed turned value }
 {
@@ -88,7 +88,7 @@ pub(crate) fn sweep_pair(
     }
 }
 
-/// The value at an operand's position that lies so many positions further ahead: Open where its row is not fed.
+/// Returns the value at an operand's position that lies so many positions further ahead: Open where its row is not fed.
 fn value_ahead(cells: &[Verdict], operand: usize, age: usize, lower: usize) -> Verdict
     requires { operand + age < length cells.now }
     ensures unfed { age < lower → result ≡ Verdict.Open }

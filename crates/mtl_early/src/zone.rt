@@ -17,7 +17,7 @@ pub(crate) fn root_of(nodes: &[SweepNode]) -> usize
     nodes[nodes.len() - 1].at
 }
 
-/// Whether nothing is decided.
+/// Returns whether nothing is decided.
 pub(crate) fn is_open(value: Verdict) -> bool
     ensures open { result ≡ true → value ≡ Verdict.Open }
     ensures decided { result ≡ false → value ≢ Verdict.Open }
@@ -45,7 +45,7 @@ pub(crate) fn open_ages(cells: &[Verdict], at: usize, size: usize, reach: usize)
     0
 }
 
-/// Whether a row changed no last value, and as many ages may still be decided as after the row before.
+/// Returns whether a row changed no last value, and as many ages may still be decided as after the row before.
 pub(crate) fn is_counted(changed: bool, ages: usize, size: usize) -> bool
     ensures { result ≡ true → (changed ≡ false) × (ages + 1 ≡ size) }
 {
@@ -63,7 +63,7 @@ pub(crate) fn keep_old(cells: &[Verdict], at: usize, was: &mut [Verdict], size: 
     }
 }
 
-/// The value that was kept of the position that now has this age: Open where it is the last row's.
+/// Returns the value that was kept of the position that now has this age: Open where it is the last row's.
 pub(crate) fn old_at(was: &[Verdict], age: usize) -> Verdict
     requires { age ≤ length was.now }
     ensures { result ≡ old_value was.now age }

@@ -72,7 +72,7 @@ pub trait Atoms {
 
     ghost answer: { Self → Atom → Verdict };
 
-    /// The answer to a valid atom: at most 7200 seconds, at most 100,000 metres.
+    /// Returns the answer to a valid atom: at most 7200 seconds, at most 100,000 metres.
     fn value(&self, atom: Atom) -> Verdict
         requires { IsValidAtom atom }
         ensures { result ≡ answer self.now atom };

@@ -5,7 +5,7 @@ ghost use Rattle.mtl_formulas.specs.VerdictOrder.{turned_round, least, greatest}
 use crate::verdict::Verdict;
 
 impl Verdict {
-    /// The lesser of two values.
+    /// Returns the lesser of two values.
     pub(crate) fn and(self, other: Verdict) -> Verdict
         ensures { result ≡ least self other }
     {
@@ -16,7 +16,7 @@ impl Verdict {
         }
     }
 
-    /// The greater of two values.
+    /// Returns the greater of two values.
     pub(crate) fn or(self, other: Verdict) -> Verdict
         ensures { result ≡ greatest self other }
     {

@@ -32,7 +32,8 @@ pub fn value<A: Atoms>(formula: &Formula, rows: &[A], i: usize) -> Verdict
     }
 }
 
-/// The value of an operator without an interval. The second operand is asked only if the first one leaves the value open to it.
+/// Returns the value of an operator without an interval. It evaluates the second operand only if the first one does not
+/// decide the value.
 #[cycle(evaluation)]
 fn pair_value<A: Atoms>(kind: PairKind, a: &Formula, b: &Formula, rows: &[A], i: usize) -> Verdict
     requires valid_a { IsValid (tree_of a.now) }
@@ -50,7 +51,7 @@ fn pair_value<A: Atoms>(kind: PairKind, a: &Formula, b: &Formula, rows: &[A], i:
     }
 }
 
-/// The value of an operator of one operand over an interval.
+/// Returns the value of an operator of one operand over an interval.
 #[cycle(evaluation)]
 fn span_value<A: Atoms>(
     kind: SpanKind,
@@ -74,7 +75,7 @@ fn span_value<A: Atoms>(
     }
 }
 
-/// The value of an operator of two operands over an interval.
+/// Returns the value of an operator of two operands over an interval.
 #[cycle(evaluation)]
 fn link_value<A: Atoms>(
     kind: LinkKind,
@@ -100,7 +101,7 @@ fn link_value<A: Atoms>(
     }
 }
 
-/// The value at this many positions ahead of `i`. The trace's end stands for all that lies beyond it.
+/// Returns the value at this many positions ahead of `i`. The trace's end stands for all that lies beyond it.
 #[cycle(evaluation)]
 fn value_ahead<A: Atoms>(formula: &Formula, rows: &[A], i: usize, distance: u32) -> Verdict
     requires { IsValid (tree_of formula.now) }
@@ -110,7 +111,7 @@ fn value_ahead<A: Atoms>(formula: &Formula, rows: &[A], i: usize, distance: u32)
     value(formula, rows, position)
 }
 
-/// The greatest value at `i + lower` to `i + upper`.
+/// Returns the greatest value at `i + lower` to `i + upper`.
 #[cycle(evaluation)]
 fn greatest_ahead<A: Atoms>(
     formula: &Formula,
@@ -132,7 +133,7 @@ fn greatest_ahead<A: Atoms>(
     greatest
 }
 
-/// The least value at the positions from `i + from` on and before `i + end`.
+/// Returns the least value at the positions from `i + from` on and before `i + end`.
 #[cycle(evaluation)]
 fn least_ahead<A: Atoms>(formula: &Formula, rows: &[A], i: usize, from: u32, end: u32) -> Verdict
     requires valid { IsValid (tree_of formula.now) }
@@ -147,7 +148,7 @@ fn least_ahead<A: Atoms>(formula: &Formula, rows: &[A], i: usize, from: u32, end
     least
 }
 
-/// The greatest value at the positions from `i - upper` to `i - lower` that are not below 0.
+/// Returns the greatest value at the positions from `i - upper` to `i - lower` that are not below 0.
 #[cycle(evaluation)]
 fn greatest_back<A: Atoms>(
     formula: &Formula,
@@ -168,7 +169,8 @@ fn greatest_back<A: Atoms>(
     greatest
 }
 
-/// The least value at the positions, none below 0, that lie `from` positions back from `i` or more, and fewer than `end`.
+/// Returns the least value at the positions, none below 0, that lie `from` positions back from `i` or more, and fewer
+/// than `end`.
 #[cycle(evaluation)]
 fn least_back<A: Atoms>(formula: &Formula, rows: &[A], i: usize, from: u32, end: u32) -> Verdict
     requires valid { IsValid (tree_of formula.now) }
@@ -185,7 +187,7 @@ fn least_back<A: Atoms>(formula: &Formula, rows: &[A], i: usize, from: u32, end:
     least
 }
 
-/// The value of `a U[lower,upper] b`. What the `a` before each position gives is carried along.
+/// Returns the value of `a U[lower,upper] b`. It carries along the value of `a` before each position.
 #[cycle(evaluation)]
 fn until<A: Atoms>(
     a: &Formula,
@@ -212,7 +214,7 @@ fn until<A: Atoms>(
     greatest
 }
 
-/// The value of `a S[lower,upper] b`. What the `a` after each position gives is carried along.
+/// Returns the value of `a S[lower,upper] b`. It carries along the value of `a` after each position.
 #[cycle(evaluation)]
 fn since<A: Atoms>(
     a: &Formula,

@@ -40,8 +40,8 @@ pub enum LinkKind {
     S,
 }
 
-/// A formula of metric temporal logic (Koymans 1990). It is seen as its tree; its bounds are counted in positions of one
-/// tick each, `lower <= upper <= 7200`. A valid one is at most 64 deep, has at most 256 nodes and reaches at most 7200
+/// A formula of metric temporal logic (Koymans 1990). Its model is its tree; its bounds are in positions of one tick
+/// each, `lower <= upper <= 7200`. A valid one is at most 64 deep, has at most 256 nodes and reaches at most 7200
 /// positions ahead.
 #[derive(Drop)]
 #[cycle(formula)]
@@ -87,7 +87,7 @@ pub enum Node<'a> {
 }
 
 impl Formula {
-    /// The formula of one atom.
+    /// Returns the formula of one atom.
     pub fn leaf(atom: Atom) -> Formula
         requires { IsValid (leaf atom) }
         ensures { tree_of result ≡ leaf atom }
@@ -156,7 +156,7 @@ impl Formula {
         })
     }
 
-    /// The root with its operands.
+    /// Returns the root with its operands.
     pub fn node(&self) -> Node<'_>
         ensures { tree_of self.now ≡ node_tree result }
     {

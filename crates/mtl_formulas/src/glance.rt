@@ -18,7 +18,7 @@ pub enum Glance {
 }
 
 impl Atom {
-    /// Whether a glance leaves the answer to this atom open, so that it is to be asked.
+    /// Returns whether a glance leaves the answer to this atom open, so that it is to be asked.
     pub fn is_untold(self, glance: Glance) -> bool
         ensures { result ≡ is_none (told_by glance self) }
     {
@@ -29,7 +29,7 @@ impl Atom {
         }
     }
 
-    /// Whether it is of a distance or a bearing.
+    /// Returns whether it is of a distance or a bearing.
     fn is_measured(self) -> bool
         ensures { result ≡ is_none (apart_answer self) }
     {

@@ -1,4 +1,4 @@
-//! Laws of values, which follow from the definitions alone. A row of a trace is here what it answers to each atom.
+//! Laws of values, which follow from the definitions alone. A row of a trace is here its values of the atoms.
 ghost use Rattle.std.specs.Prelude.{◌≡◌, ◌≢◌, ℕ, ◌+◌, ◌≤◌, List, ◌++◌, slice_get, map};
 ghost use Rattle.mtl_formulas.specs.declared.atom.Atom.{Atom};
 ghost use Rattle.mtl_formulas.specs.declared.verdict.Verdict.{Verdict};
@@ -24,7 +24,7 @@ pub fn reach()
         value_of (λ row. row) rows t i ≡ value_of (λ row. row) others t i }
 {}
 
-/// Of rows of any type, values take no more than what they answer: so the other laws hold of such rows too.
+/// Values depend only on the rows' values of the atoms, for rows of any type, so the other laws hold for such rows too.
 pub fn answers_suffice<A: Atoms>()
     ensures { (rows : List A) (t : FormulaTree) (i : ℕ) →
         value_of A.answer rows t i ≡ value_of (λ row. row) (map A.answer rows) t i }

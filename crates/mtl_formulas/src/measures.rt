@@ -1,11 +1,12 @@
-//! How large and how far-reaching a formula is.
+//! The size and the reach of a formula.
 ghost use Rattle.std.specs.Prelude.{◌≡◌};
 ghost use Rattle.mtl_formulas.specs.FormulaTree.{tree_of};
 ghost use Rattle.mtl_formulas.specs.FormulaMeasures.{IsValid, reach_of, node_count, window_cells, weight_of};
 
 use crate::formula::{Formula, LinkKind, Root, SpanKind};
 
-/// How many positions ahead the value at a position can look: 0 to 7200. An F, G or U adds its upper bound.
+/// Returns the number of positions ahead that the value at a position can look: 0 to 7200. An F, G or U adds its upper
+/// bound.
 pub fn future_reach(formula: &Formula) -> u32
     requires { IsValid (tree_of formula.now) }
     ensures { result ≡ reach_of (tree_of formula.now) }
@@ -21,7 +22,7 @@ pub fn future_reach(formula: &Formula) -> u32
     }
 }
 
-/// How many atoms and operators the formula has: 1 to 256.
+/// Returns the number of atoms and operators of the formula: 1 to 256.
 pub fn nodes(formula: &Formula) -> u32
     requires { IsValid (tree_of formula.now) }
     ensures { result ≡ node_count (tree_of formula.now) }
@@ -35,8 +36,8 @@ pub fn nodes(formula: &Formula) -> u32
     }
 }
 
-/// What the formula may cost a monitor, as a number without a unit: its nodes times its reach plus one, and for each
-/// temporal operator its upper bound in positions plus one.
+/// Returns the cost of the formula for a monitor, as a number without a unit: its nodes times its reach plus one, and
+/// for each temporal operator its upper bound in positions plus one.
 pub fn weight(formula: &Formula) -> u64
     requires { IsValid (tree_of formula.now) }
     ensures { result ≡ weight_of (tree_of formula.now) }
@@ -45,7 +46,7 @@ pub fn weight(formula: &Formula) -> u64
     cells + windows(formula)
 }
 
-/// The upper bounds of the temporal operators in positions, each plus one.
+/// Returns the upper bounds of the temporal operators in positions, each plus one.
 #[tactic(auto, using(crate::proofs::Windows::window_cells_fit))]
 fn windows(formula: &Formula) -> u64
     requires { IsValid (tree_of formula.now) }

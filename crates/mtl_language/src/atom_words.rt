@@ -4,7 +4,7 @@ ghost use Rattle.mtl_language.specs.AtomWords.{word_of};
 
 use mtl_formulas::Atom;
 
-/// The word that the language has for the atom; an atom with a number has it in parentheses after the word.
+/// Returns the word that the language has for the atom; an atom with a number has it in parentheses after the word.
 pub(crate) fn word(atom: Atom) -> &'static str
     ensures { result.now ≡ word_of atom }
 {

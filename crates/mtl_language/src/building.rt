@@ -179,7 +179,7 @@ fn add(alloc: Global, parts: &mut Vec<Part>, item: PostfixItem, tick: u32) -> Re
     }
 }
 
-/// The formula that a postfix form builds, its bounds in positions of `tick` seconds.
+/// Returns the formula that a postfix form builds, its bounds in positions of `tick` seconds.
 pub(crate) fn build(
     alloc: Global,
     postfix: &[PostfixItem],

@@ -9,7 +9,7 @@ const SECONDS: u32 = 7200;
 
 const METRES: u32 = 100_000;
 
-/// The index of the first refused number of a formula.
+/// Returns the index of the first refused number of a formula.
 pub(crate) fn first_refused(tokens: &[IndexedToken], tick: u32) -> Option<usize>
     requires { 1 ≤ tick }
     ensures { let refused = refused_indices tick [] tokens.now in
@@ -27,7 +27,7 @@ pub(crate) fn first_refused(tokens: &[IndexedToken], tick: u32) -> Option<usize>
     None
 }
 
-/// Whether the token is a refused number, by the two tokens before it.
+/// Returns whether the token is a refused number, by the two tokens before it.
 fn is_refused_token(earlier: Token, previous: Token, token: Token, tick: u32) -> bool
     requires { 1 ≤ tick }
     ensures { result ≡ is_refused_token tick (previous ∷ earlier ∷ []) token }

@@ -60,8 +60,8 @@ pub(crate) enum Expected {
     ShutNumber(Atom),
 }
 
-/// The postfix form of a formula, or the index at which the tokens are wrong: `end` if none is wrong and
-/// they end too early.
+/// Returns the postfix form of a formula, or the index at which the tokens are wrong: `end` if none is wrong and they
+/// end too early.
 pub(crate) fn arrange(
     alloc: Global,
     tokens: &[IndexedToken],

@@ -12,9 +12,9 @@ use out_of_memory::Memory;
 use std::alloc::{AllocError, Global};
 use std::fmt::Write;
 
-/// The text of a formula, with its bounds in seconds at a tick of 1 to 60 seconds: an atom as its word, `!` before its
-/// operand, `F[0,20] a`, and the operators of two operands in parentheses with spaces, as `(a U[0,20] b)`. A formula that
-/// some text means at this tick is parsed from it again as the same tree, if it has at most 1024 bytes.
+/// Returns the text of a formula, with its bounds in seconds at a tick of 1 to 60 seconds: an atom as its word, `!`
+/// before its operand, `F[0,20] a`, and the operators of two operands in parentheses with spaces, as `(a U[0,20] b)`. A
+/// formula that some text means at this tick is parsed from it again as the same tree, if it has at most 1024 bytes.
 pub fn print(alloc: Global, formula: &Formula, tick: u32) -> Result<Vec<u8>, Memory>
     requires valid { IsValid (tree_of formula.now) }
     requires tick { IsTick tick }

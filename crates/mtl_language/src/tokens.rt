@@ -20,7 +20,7 @@ pub(crate) enum Measure {
 }
 
 impl Measure {
-    /// The atom with this word and number.
+    /// Returns the atom with this word and number.
     pub(crate) fn of(self, n: u32) -> Atom
         ensures { result ≡ measured self n }
     {
@@ -86,7 +86,7 @@ const PLAIN: [Atom; 24] = [
     Atom::BothPower,
 ];
 
-/// The tokens of a text, each with its index.
+/// Returns the tokens of a text, each with its index.
 pub(crate) fn split(alloc: Global, text: &[u8]) -> Result<Vec<IndexedToken>, AllocError>
     ensures { IfOk result (λ tokens. tokens.items ≡ tokens_of text.now) }
 {
@@ -104,7 +104,7 @@ pub(crate) fn split(alloc: Global, text: &[u8]) -> Result<Vec<IndexedToken>, All
     Ok(tokens)
 }
 
-/// The token at the front, and how many bytes it has.
+/// Returns the token at the front, and how many bytes it has.
 fn front(bytes: &[u8]) -> (Token, usize)
     requires { 0 < length bytes.now }
     ensures token { result.0 ≡ run_token (front_run bytes.now) }
@@ -161,7 +161,7 @@ fn word(run: &[u8]) -> Token
     }
 }
 
-/// The atom with this word.
+/// Returns the atom with this word.
 fn find_word(atoms: &[Atom], word: &[u8]) -> Option<Atom>
     ensures { result ≡ find (λ a. bytes_eq word.now (word_of a)) atoms.now }
 {

@@ -15,14 +15,14 @@ pub(crate) struct Operand {
     pub late: u32,
 }
 
-/// The index of the first node like this one.
+/// Returns the index of the first node like this one.
 fn find(nodes: &[ProgramNode], node: &ProgramNode) -> Option<usize>
     ensures { result ≡ position (λ other. same_node other node.now) nodes.now }
 {
     nodes.iter().position(|other| other.is_same(node))
 }
 
-/// A node, which is put at the end if there is none like it.
+/// Returns a node, which is put at the end if there is none like it.
 fn put(nodes: &mut Vec<ProgramNode>, operator: Operator, late: u32) -> Result<Operand, Memory>
     ensures late { IfOk result (λ o. o.late ≡ late) }
     ensures made { IfOk result
@@ -39,7 +39,7 @@ fn put(nodes: &mut Vec<ProgramNode>, operator: Operator, late: u32) -> Result<Op
     }
 }
 
-/// The operand, so many rows later.
+/// Returns the operand, so many rows later.
 fn delayed(nodes: &mut Vec<ProgramNode>, a: Operand, by: u32) -> Result<Operand, Memory>
     requires small { a.late + by < 65536 }
     ensures late { IfOk result (λ o. o.late ≡ a.late + by) }
@@ -51,7 +51,7 @@ fn delayed(nodes: &mut Vec<ProgramNode>, a: Operand, by: u32) -> Result<Operand,
     put(nodes, Operator::Late(by, a.late, a.index), a.late + by)
 }
 
-/// A node over two operands, both as late as the later of them.
+/// Returns a node over two operands, both as late as the later of them.
 fn join(
     nodes: &mut Vec<ProgramNode>,
     kind: PairKind,
@@ -69,7 +69,7 @@ fn join(
     put(nodes, Operator::Pair(kind, x.index, y.index), late)
 }
 
-/// A node over a window ahead.
+/// Returns a node over a window ahead.
 fn look_ahead(
     nodes: &mut Vec<ProgramNode>,
     kind: SpanKind,
@@ -92,7 +92,7 @@ fn look_ahead(
     )
 }
 
-/// A node over a window behind.
+/// Returns a node over a window behind.
 fn look_back(
     nodes: &mut Vec<ProgramNode>,
     kind: SpanKind,
@@ -115,7 +115,7 @@ fn look_back(
     )
 }
 
-/// A node for S.
+/// Returns a node for S.
 fn look_since(
     nodes: &mut Vec<ProgramNode>,
     lower: u32,
@@ -149,7 +149,7 @@ fn behind_window(lower: u32, width: u32) -> u32
     if lower == 0 { 0 } else { width }
 }
 
-/// A node for U.
+/// Returns a node for U.
 fn look_until(
     nodes: &mut Vec<ProgramNode>,
     lower: u32,

@@ -97,7 +97,7 @@ fn delay(
     }
 }
 
-/// The value that all cells hold, if they hold one alone.
+/// Returns the value that all cells hold, if they hold one alone.
 fn only_value(delayed: &Delayed) -> Option<Verdict>
     ensures { IfSome result (IsFullOf delayed.now) }
 {
@@ -144,7 +144,7 @@ impl DelayLine {
         }
     }
 
-    /// Whether all cells are known to hold this value alone.
+    /// Returns whether all cells are known to hold this value alone.
     fn holds_only(&self, value: Verdict) -> bool
         ensures { result ≡ true → IsFullAs self.now value }
     {
@@ -154,7 +154,7 @@ impl DelayLine {
         }
     }
 
-    /// Whether both are known to be full of the same value: then they are equal, if they have as many cells.
+    /// Returns whether both are known to be full of the same value: then they are equal, if they have as many cells.
     fn is_full_alike(&self, other: &DelayLine) -> bool
         ensures { result ≡ true → self.now.ring.capacity ≡ other.now.ring.capacity
             → self.now ≡ other.now }

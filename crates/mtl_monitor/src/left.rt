@@ -1,4 +1,4 @@
-//! Counts of what a window still holds.
+//! Counts of the values that still matter in a window.
 ghost use Rattle.std.specs.Prelude.{◌≡◌};
 ghost use Rattle.mtl_monitor.specs.WindowCounts.{same_left, left_after, left_under, left_value};
 
@@ -22,7 +22,7 @@ impl Left {
         self.yes == other.yes && self.some == other.some
     }
 
-    /// Reads one value more into a window of so many.
+    /// Reads one more value into a window of `width` values.
     pub fn read(&mut self, value: Verdict, width: u32)
         ensures { self.new ≡ left_after self.old width value }
     {
@@ -56,7 +56,7 @@ impl Left {
         }
     }
 
-    /// The greatest value in the window.
+    /// Returns the greatest value in the window.
     pub fn value(self) -> Verdict
         ensures { result ≡ left_value self }
     {

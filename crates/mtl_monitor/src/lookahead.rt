@@ -66,7 +66,7 @@ impl Lookahead {
         }
     }
 
-    /// The value over the whole window, once all of it was read.
+    /// Returns the value over the whole window, once all of it was read.
     pub(crate) fn value(&self) -> Verdict
         ensures { result ≡ lookahead_value self.now }
     {

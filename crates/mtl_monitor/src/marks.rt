@@ -4,7 +4,7 @@ ghost use Rattle.std.specs.Prelude.{◌≡◌, ℕ, true, false};
 ghost use Rattle.std.specs.Int.{bit_at};
 ghost use Rattle.mtl_monitor.specs.Inner.Marks.{IsMarked, IsUnmarked};
 
-/// The marks with that of the node at this index.
+/// Returns the marks with that of the node at this index.
 pub(crate) fn marked(marks: u64, index: usize) -> u64
     ensures here { IsMarked result index }
     ensures others { (k : ℕ) → bit_at result k ≡ 0 → bit_at marks k ≡ 0 }
@@ -13,7 +13,7 @@ pub(crate) fn marked(marks: u64, index: usize) -> u64
     marks | 1 << (index % 64)
 }
 
-/// The marks with that of the node at this index, if its value has changed.
+/// Returns the marks with that of the node at this index, if its value has changed.
 pub(crate) fn noted(marks: u64, index: usize, changed: bool) -> u64
     ensures here { IsUnmarked result index → changed ≡ false }
     ensures others { (k : ℕ) → bit_at result k ≡ 0 → bit_at marks k ≡ 0 }
@@ -21,7 +21,7 @@ pub(crate) fn noted(marks: u64, index: usize, changed: bool) -> u64
     if changed { marked(marks, index) } else { marks }
 }
 
-/// Whether none of some marks is set.
+/// Returns whether none of some marks is set.
 pub(crate) fn are_unset(marks: u64, some: u64) -> bool
     ensures { result ≡ true → (k : ℕ) → bit_at some k ≡ 1 → bit_at marks k ≡ 0 }
 {

@@ -8,7 +8,7 @@ use mtl_formulas::{Atoms, Formula, Verdict};
 use out_of_memory::Memory;
 use std::alloc::Global;
 
-/// A formula over a trace whose rows come one by one: each position's value comes once it can no longer change.
+/// A formula over a trace whose rows arrive one by one. It returns each position's value once it can no longer change.
 #[derive(Drop)]
 pub struct Monitor {
     program: Program,
@@ -27,7 +27,7 @@ impl Monitor {
     ghost use Rattle.mtl_monitor.specs.Following.{IsFed};
     ghost use Rattle.mtl_monitor.specs.Monitoring.{IsMonitorOf, AreOfOneFormula, IsFollowing, IsClosing, IsNext, answered, fed_rows, past_rows};
 
-    /// The monitor of a formula, of whose trace no row was fed. It takes all its memory here.
+    /// Returns the monitor of a formula, of whose trace no row was fed. It takes all its memory here.
     pub fn new(alloc: Global, formula: &Formula) -> Result<Monitor, Memory>
         requires { IsValid (tree_of formula.now) }
         ensures of { IfOk result (λ m. IsMonitorOf m (tree_of formula.now)) }
@@ -59,8 +59,8 @@ impl Monitor {
         self.state.answer(&self.program, 0)
     }
 
-    /// The next position that is not answered, with its value over the trace that was fed; none where all are answered. It
-    /// takes no memory.
+    /// Returns the next position that is not answered, with its value over the trace that was fed; none where all are
+    /// answered. It takes no memory.
     pub fn finish_next(&mut self) -> Option<(u32, Verdict)>
         ensures begins { (t : FormulaTree) (rows : Trace) → IsFollowing self.old t rows
             → IsClosing self.new t rows }
@@ -85,7 +85,7 @@ impl Monitor {
         self.state.answer(&self.program, 0)
     }
 
-    /// Takes over what another monitor of an equal formula was fed and has answered. It takes no memory.
+    /// Copies the state of another monitor of an equal formula. It takes no memory.
     pub fn copy_from(&mut self, other: &Monitor)
         requires { AreOfOneFormula self.old other.now }
         ensures follows { (t : FormulaTree) (rows : Trace) → IsFollowing other.now t rows

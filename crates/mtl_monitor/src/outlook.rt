@@ -78,7 +78,7 @@ impl Outlook {
         }
     }
 
-    /// The value of U, once the whole window was read.
+    /// Returns the value of U, once the whole window was read.
     pub(crate) fn value(&self) -> Verdict
         ensures { result ≡ least (turned_round (left_value self.now.bars))
             (lookahead_value self.now.window) }

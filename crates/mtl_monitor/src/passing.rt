@@ -157,8 +157,8 @@ fn pass(
     }
 }
 
-/// Whether the operands of a node give values at row `i`, and it gives one itself. What an U keeps moves at each row, so it
-/// never rests.
+/// Returns whether the operands of a node give values at row `i`, and it gives one itself. What an U keeps moves at
+/// each row, so it never rests.
 fn is_awake(node: &ProgramNode, i: u32) -> bool
     ensures { result ≡ true → IsAwake node.now.operator i × (node.now.late ≤ i) }
 {
@@ -204,8 +204,8 @@ fn crossing(i: u32, end: u32) -> u32
     if i >= end { i - end } else { u32::MAX }
 }
 
-/// The first node from `start` on that may not be left as it is, or the number of nodes. The marks are those of the nodes whose
-/// values have changed.
+/// Returns the first node from `start` on that may not be left as it is, or the number of nodes. The marks are those of
+/// the nodes whose values have changed.
 fn next_passed(
     nodes: &[ProgramNode],
     triggers: &[Trigger],
@@ -236,7 +236,7 @@ fn next_passed(
     nodes.len()
 }
 
-/// Whether this node too is not said to move.
+/// Returns whether this node too is not said to move.
 fn rests(still: bool, moving: &[bool], k: usize) -> bool
     requires { k < length moving.now }
     ensures { result ≡ true → (still ≡ true) × (flag_at moving.now k ≡ false) }

@@ -15,8 +15,8 @@ use mtl_formulas::{Formula, Glance};
 use out_of_memory::Memory;
 use std::alloc::Global;
 
-/// The formulas that are evaluated together over each trace. Equal parts of them stand once, and what is known of one trace is
-/// a `TraceState` beside it, so one program serves many traces.
+/// The formulas that are evaluated together over each trace. Equal parts of them exist once. The state of one trace is
+/// a separate `TraceState`, so one program serves many traces.
 #[derive(Drop)]
 pub struct Program {
     pub(crate) nodes: Vec<ProgramNode>,
@@ -47,7 +47,7 @@ impl Program {
     ghost use Rattle.mtl_monitor.specs.Growing.{IsEmpty, GrowsBy};
     ghost use Rattle.mtl_monitor.specs.Inner.Reading.{AreToBeRead};
 
-    /// The program of no formula. It takes no memory.
+    /// Returns the program of no formula. It takes no memory.
     pub fn new(alloc: Global) -> Program
         ensures formulas { IsProgramOf result [] }
         ensures count { count_of result ≡ 0 }
@@ -64,7 +64,8 @@ impl Program {
         }
     }
 
-    /// The program with a further formula, whose index is the number of those before it. At `Memory` all is dropped.
+    /// Returns the program with a further formula, whose index is the number of those before it. At `Memory` all is
+    /// dropped.
     pub fn with(self, formula: &Formula) -> Result<Program, Memory>
         requires { IsValid (tree_of formula.now) }
         ensures formulas { (formulas : List FormulaTree) → IsProgramOf self formulas →
@@ -113,7 +114,7 @@ impl Program {
         }
     }
 
-    /// How many formulas.
+    /// Returns the number of formulas.
     pub fn formula_count(&self) -> usize
         ensures count { result ≡ count_of self.now }
         ensures formulas { (formulas : List FormulaTree) → IsProgramOf self.now formulas

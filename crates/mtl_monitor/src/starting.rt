@@ -41,7 +41,7 @@ pub(crate) struct Begun {
     pub moving: Vec<bool>,
 }
 
-/// A list with room for so many, and no more.
+/// Returns a list with room for so many, and no more.
 fn roomy<T>(alloc: Global, count: usize) -> Result<Vec<T>, Memory>
     ensures { IfOk result (λ list. list.items ≡ []) }
 {

@@ -188,9 +188,9 @@ impl TraceState {
         }
     }
 
-    /// The answer of the formula with this index to the row that passed last: a position, and its value there. Each
-    /// position of the trace is answered once, in order, where each row is followed by this call, and as many rows pass
-    /// beyond the end as the formula reaches.
+    /// Returns the answer of the formula with this index to the row that passed last: a position, and its value there.
+    /// Each position of the trace is answered once, in order, where each row is followed by this call, and as many rows
+    /// pass beyond the end as the formula reaches.
     pub fn answer(&self, program: &Program, formula: usize) -> Option<(u32, Verdict)>
         requires fits { Fits program.now self.now }
         requires inside { formula < count_of program.now }

@@ -45,7 +45,8 @@ pub(crate) fn joined(kind: PairKind, a: Verdict, b: Verdict) -> Verdict
     }
 }
 
-/// A value as the window of an operator sees it: the least value is the greatest of the values turned round, turned round.
+/// Returns a value as the window of an operator sees it: the least value is the greatest of the values turned round,
+/// turned round.
 pub(crate) fn sensed(kind: SpanKind, value: Verdict) -> Verdict
     ensures { result ≡ sensed kind value }
 {

@@ -22,7 +22,8 @@ pub struct Domain {
     pub radius: u64,
 }
 
-/// The square of the change of the displacement. It is the denominator of the moment of least distance between the ends of a step.
+/// Returns the square of the change of the displacement. It is the denominator of the moment of least distance between
+/// the ends of a step.
 fn change2(step: &Step) -> u128
     ensures value { pos result ≡ norm2_of step.now.w }
     ensures small { result ≤ 2 ^ 53 }
@@ -30,8 +31,8 @@ fn change2(step: &Step) -> u128
     norm2(step.w())
 }
 
-/// The moment of least distance of a step, if the vessels are nearer than the radius at some instant of it. Its numbers are below 2^60, which is
-/// checked only if there is one.
+/// Returns the moment of least distance of a step, if the vessels are nearer than the radius at some instant of it. Its
+/// numbers are below 2^60, which is checked only if there is one.
 fn nearest_within(step: &Step, radius: u64) -> Option<Moment>
     requires { radius < 2 ^ 31 }
     ensures none { IsNone result ↔ IsSeparated step.now radius }
@@ -45,7 +46,8 @@ fn nearest_within(step: &Step, radius: u64) -> Option<Moment>
     Some(moment)
 }
 
-/// Whether own ship enters a shape in a step. It stands apart, so that the search's loop over steps keeps none of a moment's places.
+/// Returns whether own ship enters a shape in a step. It stands apart, so that the search's loop over steps keeps none
+/// of a moment's places.
 #[inline(never)]
 fn enters_shape(step: Step, direction: u16, shape: &Shape) -> bool
     requires { direction < 3600 }
@@ -57,8 +59,9 @@ fn enters_shape(step: Step, direction: u16, shape: &Shape) -> bool
 }
 
 impl Situation {
-    /// A moment of a step of both at which own ship is inside the target's domain, given by numbers below 2^60: for a shape one between
-    /// the crossings of its edges, for a circle that of least distance. `None` if she is inside at no instant of the step.
+    /// Returns a moment of a step of both at which own ship is inside the target's domain, given by numbers below 2^60:
+    /// for a shape one between the crossings of its edges, for a circle that of least distance. `None` if she is inside
+    /// at no instant of the step.
     pub fn entry(&self, target: &Target, pair: &PairStep) -> Option<Moment>
         requires target { IsTarget self.now target.now }
         requires heads { HaveDirections pair.now }
@@ -71,7 +74,7 @@ impl Situation {
         }
     }
 
-    /// Whether she enters it. The search asks this at each step: no moment is made.
+    /// Returns whether she enters it. The search asks this at each step: no moment is made.
     pub fn enters(&self, target: &Target, pair: &PairStep) -> bool
         requires target { IsTarget self.now target.now }
         requires heads { HaveDirections pair.now }

@@ -12,7 +12,7 @@ use out_of_memory::Memory;
 use std::alloc::Global;
 
 impl Situation {
-    /// Whether a plan fails towards a target.
+    /// Returns whether a plan fails towards a target.
     fn fails_towards(&self, alloc: Global, plan: &Plan, target: &Target) -> Result<bool, Memory>
         requires situation { IsSituation self.now }
         requires plan { IsPlan (choices_of self.now.lattice) self.now.lattice.legs plan.now }
@@ -29,7 +29,7 @@ impl Situation {
         Ok(broken.is_some())
     }
 
-    /// Whether a plan fails.
+    /// Returns whether a plan fails.
     fn fails(&self, alloc: Global, plan: &Plan) -> Result<bool, Memory>
         requires situation { IsSituation self.now }
         requires plan { IsPlan (choices_of self.now.lattice) self.now.lattice.legs plan.now }
@@ -44,8 +44,8 @@ impl Situation {
     }
 }
 
-/// The lowest-numbered plan that does not fail, or `None` if every plan fails: it tries the plans one after the other, each over
-/// its whole trace.
+/// Returns the lowest-numbered plan that does not fail, or `None` if every plan fails: it tries the plans one after the
+/// other, each over its whole trace.
 pub fn least_plan(alloc: Global, situation: &Situation) -> Result<Option<Plan>, Memory>
     requires { IsSituation situation.now }
     ensures { IfOk result

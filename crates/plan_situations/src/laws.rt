@@ -1,4 +1,4 @@
-//! Laws of plans. They do no work.
+//! Laws of plans, which do nothing at run time.
 ghost use Rattle.std.specs.Prelude.{ℕ, ◌≡◌, ◌<◌, ◌≤◌, ◌↔◌, List, length, take};
 ghost use Rattle.std.specs.Int.Digits.{AllBelowBase};
 ghost use Rattle.lattice.specs.Grids.{choices_of};

@@ -3,7 +3,7 @@ use crate::situation::Target;
 use motion::TickState;
 use std::marker::Model;
 
-/// How a vessel was seen at the ticks up to now: `None` if she was not. It is seen as a list.
+/// The states of a vessel at the ticks up to now: `None` if she was not seen. Their model is a list.
 #[derive(Drop)]
 pub struct Past {
     list: Vec<Option<TickState>>,
@@ -21,14 +21,14 @@ impl Model for Past {
 impl Past {
     ghost use Rattle.std.specs.Prelude.{◌≡◌};
 
-    /// The states of a list. This takes no memory.
+    /// Returns the states of a list. This takes no memory.
     pub fn new(list: Vec<Option<TickState>>) -> Past
         ensures { result ≡ list.items }
     {
         Past { list }
     }
 
-    /// The list.
+    /// Returns the list.
     pub fn as_slice(&self) -> &[Option<TickState>]
         ensures { result.now ≡ self.now }
     {
@@ -36,7 +36,7 @@ impl Past {
     }
 }
 
-/// A vessel's states at the ticks from now on. It is seen as a list.
+/// A vessel's states at the ticks from now. Their model is a list.
 #[derive(Drop)]
 pub struct Ahead {
     list: Vec<TickState>,
@@ -54,14 +54,14 @@ impl Model for Ahead {
 impl Ahead {
     ghost use Rattle.std.specs.Prelude.{◌≡◌};
 
-    /// The states of a list. This takes no memory.
+    /// Returns the states of a list. This takes no memory.
     pub fn new(list: Vec<TickState>) -> Ahead
         ensures { result ≡ list.items }
     {
         Ahead { list }
     }
 
-    /// The list.
+    /// Returns the list.
     pub fn as_slice(&self) -> &[TickState]
         ensures { result.now ≡ self.now }
     {
@@ -69,7 +69,7 @@ impl Ahead {
     }
 }
 
-/// The targets. It is seen as a list.
+/// The targets. Their model is a list.
 #[derive(Drop)]
 pub struct Targets {
     list: Vec<Target>,
@@ -87,14 +87,14 @@ impl Model for Targets {
 impl Targets {
     ghost use Rattle.std.specs.Prelude.{◌≡◌};
 
-    /// The targets of a list. This takes no memory.
+    /// Returns the targets of a list. This takes no memory.
     pub fn new(list: Vec<Target>) -> Targets
         ensures { result ≡ list.items }
     {
         Targets { list }
     }
 
-    /// The list.
+    /// Returns the list.
     pub fn as_slice(&self) -> &[Target]
         ensures { result.now ≡ self.now }
     {

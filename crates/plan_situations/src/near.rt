@@ -36,7 +36,7 @@ pub(crate) fn point_now(now: u64, latest: &Accepted) -> Point
     predicted(latest, &[], now, now).point
 }
 
-/// Whether two points lie at most so far apart.
+/// Returns whether two points lie at most so far apart.
 fn is_within(range: u64, a: Point, b: Point) -> bool
     requires a { IsWithin 7900640400 a }
     requires b { IsWithin 7900640400 b }
@@ -56,7 +56,7 @@ pub(crate) struct Circle {
 }
 
 impl Circle {
-    /// The latest accepted report of a vessel, if she is near.
+    /// Returns the latest accepted report of a vessel, if she is near.
     fn near_by(&self, gap: u32, mmsi: u32, latest: Option<&Accepted>) -> Option<Near>
         requires gap { gap ≤ 3600 }
         requires early { self.now.time ≤ 100000000000 }
@@ -83,7 +83,7 @@ impl Circle {
         })
     }
 
-    /// The vessels that are near, in the order of their MMSIs.
+    /// Returns the vessels that are near, in the order of their MMSIs.
     pub(crate) fn vessels(&self, alloc: Global, gap: u32, book: &Book) -> Result<Vec<Near>, Memory>
         requires gap { gap ≤ 3600 }
         requires early { self.now.time ≤ 100000000000 }

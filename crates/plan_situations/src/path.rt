@@ -44,7 +44,7 @@ impl Situation {
             .fill_motion(&self.start, plan, self.tick, first, own, path);
     }
 
-    /// The step of a path that begins at a tick, counted from now, and of a target, this many ticks later.
+    /// Returns the step of a path that begins at a tick, counted from now, and of a target, this many ticks later.
     #[inline(always)]
     pub fn step_on(
         &self,
@@ -74,7 +74,8 @@ impl Situation {
         )
     }
 
-    /// The step of both from a tick to the next, by own ship's path from now on. The search does not ask this: it stands apart, so that hers stays as it is.
+    /// Returns the step of both from a tick to the next, by own ship's path from now on. The search does not ask this:
+    /// it stands apart, so that hers stays as it is.
     #[inline(never)]
     pub fn step_along(
         &self,
@@ -102,7 +103,7 @@ impl Situation {
         }
     }
 
-    /// Whether both are in contact there.
+    /// Returns whether both are in contact there.
     pub fn is_contact_on(&self, path: &[TickState], target: &Target, first: u32, j: usize) -> bool
         requires situation { IsSituation self.now }
         requires target { IsTarget self.now target.now }
@@ -117,7 +118,7 @@ impl Situation {
         contact(&path[j], &other, self.detect.watch)
     }
 
-    /// Whether own ship enters the target's domain in that step.
+    /// Returns whether own ship enters the target's domain in that step.
     fn enters_on(&self, path: &[TickState], target: &Target, first: u32, j: usize) -> bool
         requires situation { IsSituation self.now }
         requires target { IsTarget self.now target.now }
@@ -133,7 +134,7 @@ impl Situation {
         }
     }
 
-    /// Whether she enters it in some step of the path.
+    /// Returns whether she enters it in some step of the path.
     pub fn enters_along(&self, path: &[TickState], target: &Target, first: u32) -> bool
         requires situation { IsSituation self.now }
         requires target { IsTarget self.now target.now }

@@ -1,4 +1,4 @@
-//! What is predicted of another vessel.
+//! The prediction of another vessel.
 ghost use Rattle.std.specs.Prelude.{ℕ, ◌≡◌, ◌+◌, ◌-◌, ◌*◌, ◌<◌, ◌≤◌, min, IfSome, pos, ◌+ℤ◌, ◌*ℤ◌, unsigned_abs};
 ghost use Rattle.ais_messages.specs.MessageFields.{IsReport};
 ghost use Rattle.fixed_geometry.specs.Sizes.{IsWithin};
@@ -14,10 +14,10 @@ use motion::TickState;
 use predictions::Change;
 use tracks::{Accepted, reported_direction};
 
-/// How a vessel moves for a while.
+/// The motion of a vessel for some time.
 #[derive(Clone, Copy, PartialEq, Eq)]
 pub(crate) struct Motion {
-    /// Her displacement in a second, in tenths of a millimetre.
+    /// Her displacement per second, in tenths of a millimetre.
     velocity: Point,
     direction: Option<u16>,
     speed: Option<u16>,
@@ -79,7 +79,7 @@ fn product(seconds: u64, velocity: i64) -> i64
     seconds as i64 * velocity
 }
 
-/// How far a vessel gets in this many seconds, in one component.
+/// Returns one component of a vessel's displacement in this many seconds.
 fn scale(velocity: i64, seconds: u64) -> i64
     requires velocity { unsigned_abs velocity ≤ 525763 }
     requires seconds { seconds ≤ 10800 }
@@ -112,7 +112,7 @@ fn gone_by(point: Point, velocity: Point, seconds: u64) -> Point
 }
 
 impl Run {
-    /// Goes on as before to a time.
+    /// Returns the place at a time, if she continues as before.
     fn on_to(self, time: u64) -> Point
         requires later { self.since ≤ time }
         requires near { IsWithin 7900640400 self.point }

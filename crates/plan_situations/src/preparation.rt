@@ -1,4 +1,4 @@
-//! The situation in which a plan of own ship is searched for.
+//! The situation for the search of own ship's plan.
 ghost use Rattle.std.specs.Prelude.{ℕ, ◌≡◌, ◌≤◌, ◌<◌, ◌+◌, ◌*◌, List, [], length, map, All, IfOk, IfSome, IsSome, Err, Ok, Some};
 ghost use Rattle.lattice.specs.Grids.{positions_of};
 ghost use Rattle.motion.specs.TickStates.{IsTickState};
@@ -32,7 +32,7 @@ use tracks::Book;
 /// The greatest number of targets.
 pub const MOST_TARGETS: usize = 64;
 
-/// Why there is no situation in which to seek a plan.
+/// Why there is no situation for a search.
 #[derive(Clone, Copy, PartialEq, Eq)]
 pub enum PrepareFault {
     /// Own ship is not ready.
@@ -64,7 +64,7 @@ impl From<Unready> for PrepareFault {
     }
 }
 
-/// Own ship at now, and what a plan of hers is searched for in.
+/// Own ship at now, and the situation of the search.
 #[derive(Drop)]
 pub struct Prepared {
     pub ready: Ready,

@@ -38,7 +38,7 @@ impl fmt::Display for Unready {
 
 impl Error for Unready {}
 
-/// What own ship is planned from.
+/// The data of own ship that a plan starts from.
 #[derive(Clone, Copy, PartialEq, Eq)]
 pub struct Ready {
     /// Her latest accepted report.
@@ -49,7 +49,7 @@ pub struct Ready {
     pub speed: u16,
 }
 
-/// Whether a report came at most the gap before now, and no later.
+/// Returns whether a report came at most the gap before now, and no later.
 pub(crate) fn is_fresh(gap: u32, now: u64, report: &Accepted) -> bool
     requires { now ≤ 100000000000 }
     ensures { result ≡ is_fresh gap now report.now }

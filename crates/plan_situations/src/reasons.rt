@@ -43,7 +43,7 @@ pub struct DomainEntry {
     pub moment: Moment,
 }
 
-/// The value of a formula at a position of a trace.
+/// Returns the value of a formula at a position of a trace.
 fn value_at(formula: &Formula, rows: &[AtomRow], position: usize) -> Verdict
     requires { IsValid (tree_of formula.now) }
     ensures { result ≡ value_in (map answer_of rows.now) (tree_of formula.now) position }
@@ -51,7 +51,7 @@ fn value_at(formula: &Formula, rows: &[AtomRow], position: usize) -> Verdict
     value(formula, rows, position)
 }
 
-/// Whether it is No there.
+/// Returns whether it is No there.
 fn is_broken(formula: &Formula, rows: &[AtomRow], position: usize) -> bool
     requires { IsValid (tree_of formula.now) }
     ensures { IsTrue result
@@ -60,7 +60,7 @@ fn is_broken(formula: &Formula, rows: &[AtomRow], position: usize) -> bool
     value_at(formula, rows, position) == Verdict::No
 }
 
-/// Whether it is No there, and is not if the trace is cut off after this many positions.
+/// Returns whether it is No there, and is not if the trace is cut off after this many positions.
 fn is_newly_broken(formula: &Formula, rows: &[AtomRow], cut: usize, position: usize) -> bool
     requires valid { IsValid (tree_of formula.now) }
     requires cut { cut ≤ length rows.now }
@@ -76,7 +76,7 @@ fn is_newly_broken(formula: &Formula, rows: &[AtomRow], cut: usize, position: us
 impl Situation {
     ghost use Rattle.plan_situations.specs.Reasons.{IsFirstBroken, IsFirstEntry};
 
-    /// The tick at which the planned trace towards a target begins, if there is one up to the horizon.
+    /// Returns the tick at which the planned trace towards a target begins, if there is one up to the horizon.
     pub fn trace_start(&self, plan: &Plan, target: &Target, until: u32) -> Option<u32>
         requires situation { IsSituation self.now }
         requires plan { IsPlan (choices_of self.now.lattice) self.now.lattice.legs plan.now }
@@ -113,7 +113,7 @@ impl Situation {
         Ok(path)
     }
 
-    /// The rows of that trace.
+    /// Returns the rows of that trace.
     fn trace_rows(
         &self,
         alloc: Global,
@@ -142,7 +142,8 @@ impl Situation {
         Ok(rows)
     }
 
-    /// Whether the rule with an index is newly broken at a position of a trace that has these rows. The cut keeps those of the steps before now.
+    /// Returns whether the rule with an index is newly broken at a position of a trace that has these rows. The cut
+    /// keeps those of the steps before now.
     pub fn is_newly_broken_in(
         &self,
         rows: &[AtomRow],
@@ -159,7 +160,7 @@ impl Situation {
         is_newly_broken(self.rules.formula(rule), rows, cut, position)
     }
 
-    /// The first rule that is newly broken at a position of a trace.
+    /// Returns the first rule that is newly broken at a position of a trace.
     fn first_rule(&self, rows: &[AtomRow], cut: usize, position: usize) -> Option<usize>
         requires { cut ≤ length rows.now }
         ensures { MatchOption result
@@ -174,7 +175,7 @@ impl Situation {
         None
     }
 
-    /// The first position of a trace at which a rule is newly broken, and the first such rule.
+    /// Returns the first position of a trace at which a rule is newly broken, and the first such rule.
     fn first_broken(&self, rows: &[AtomRow], cut: usize) -> Option<(usize, usize)>
         requires { cut ≤ length rows.now }
         ensures first { MatchOption result
@@ -191,7 +192,8 @@ impl Situation {
         None
     }
 
-    /// The rule that is newly broken first towards a target, by the step and then by the rule's index. `None` exactly if none is.
+    /// Returns the rule that is newly broken first towards a target, by the step and then by the rule's index. `None`
+    /// exactly if none is.
     pub fn newly_broken(
         &self,
         alloc: Global,
@@ -222,7 +224,8 @@ impl Situation {
         }
     }
 
-    /// The moment at which own ship is in the target's domain in a step, by her path from now on, if she enters it there.
+    /// Returns the moment at which own ship is in the target's domain in a step, by her path from now on, if she enters
+    /// it there.
     fn entry_at(
         &self,
         plan: &Plan,
@@ -246,7 +249,7 @@ impl Situation {
         self.entry(target, &pair)
     }
 
-    /// The first step from now on in which own ship enters a target's domain. `None` exactly if there is none.
+    /// Returns the first step from now on in which own ship enters a target's domain. `None` exactly if there is none.
     pub fn entered(
         &self,
         alloc: Global,

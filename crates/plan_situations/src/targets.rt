@@ -34,7 +34,7 @@ pub(crate) struct Setting<'a> {
 }
 
 impl Setting<'_> {
-    /// The track of a vessel for which these changes are predicted.
+    /// Returns the track of a vessel for which these changes are predicted.
     fn track<'b>(&'b self, vessel: &Near, changes: &'b [Change]) -> KnownTrack<'b>
         requires setting { IsSetting self.now }
         requires near { IsNear (window_end self.now.window) self.now.book.now vessel.now }
@@ -70,7 +70,7 @@ impl Setting<'_> {
         self.track(vessel, &[]).past(alloc)
     }
 
-    /// A vessel's domain.
+    /// Returns a vessel's domain.
     fn domain(&self, vessel: &Near) -> Domain
         requires setting { IsSetting self.now }
         requires near { IsNear (window_end self.now.window) self.now.book.now vessel.now }
@@ -87,7 +87,7 @@ impl Setting<'_> {
         }
     }
 
-    /// A vessel as a target.
+    /// Returns a vessel as a target.
     fn target(&self, alloc: Global, vessel: &Near) -> Result<Target, Memory>
         requires setting { IsSetting self.now }
         requires near { IsNear (window_end self.now.window) self.now.book.now vessel.now }
@@ -108,7 +108,7 @@ impl Setting<'_> {
         })
     }
 
-    /// The targets among the vessels near own ship: all but herself.
+    /// Returns the targets among the vessels near own ship: all but herself.
     pub(crate) fn targets(&self, alloc: Global, near: &[Near]) -> Result<Vec<Target>, Memory>
         requires setting { IsSetting self.now }
         requires near { All (IsNear (window_end self.now.window) self.now.book.now) near.now }

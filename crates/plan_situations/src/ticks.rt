@@ -15,7 +15,7 @@ use meetings::{contact, step_between};
 use motion::TickState;
 
 impl Situation {
-    /// The tick of now.
+    /// Returns the tick of now.
     pub fn now(&self) -> u32
         requires { IsSituation self.now }
         ensures value { result ≡ now_of self.now }
@@ -25,7 +25,7 @@ impl Situation {
         self.own_past.as_slice().len() as u32 - 1
     }
 
-    /// The last planned tick.
+    /// Returns the last planned tick.
     pub fn end(&self) -> u32
         requires { IsSituation self.now }
         ensures value { result ≡ end_of self.now }
@@ -68,7 +68,7 @@ impl Situation {
         }
     }
 
-    /// A target's state this many ticks after now.
+    /// Returns a target's state this many ticks after now.
     pub(crate) fn target_ahead(&self, target: &Target, k: u32) -> TickState
         requires target { IsTarget self.now target.now }
         requires planned { k ≤ positions_of self.now.lattice }
@@ -77,7 +77,7 @@ impl Situation {
         target.ahead.as_slice()[k as usize]
     }
 
-    /// A target's state at a tick.
+    /// Returns a target's state at a tick.
     pub fn target_at(&self, target: &Target, k: u32) -> Option<TickState>
         requires situation { IsSituation self.now }
         requires target { IsTarget self.now target.now }
@@ -92,7 +92,7 @@ impl Situation {
         }
     }
 
-    /// The step of both from a tick to the next.
+    /// Returns the step of both from a tick to the next.
     pub fn step_at(&self, plan: &Plan, target: &Target, k: u32) -> Option<PairStep>
         requires situation { IsSituation self.now }
         requires plan { IsPlan (choices_of self.now.lattice) self.now.lattice.legs plan.now }
@@ -114,7 +114,7 @@ impl Situation {
         )
     }
 
-    /// Whether both are seen at a tick, near enough that a trace begins.
+    /// Returns whether both are seen at a tick, near enough that a trace begins.
     pub fn are_in_contact(&self, plan: &Plan, target: &Target, k: u32) -> bool
         requires situation { IsSituation self.now }
         requires plan { IsPlan (choices_of self.now.lattice) self.now.lattice.legs plan.now }

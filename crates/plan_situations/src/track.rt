@@ -28,7 +28,7 @@ fn predict_for(predictions: &[Predict], mmsi: u32) -> Option<&Predict>
     predictions.iter().find(|predict| predict.mmsi == mmsi)
 }
 
-/// The changes that are predicted of a vessel.
+/// Returns the changes that are predicted of a vessel.
 pub(crate) fn changes_for(predictions: &[Predict], mmsi: u32) -> &[Change]
     ensures { result.now ≡ changes_for predictions.now mmsi }
 {

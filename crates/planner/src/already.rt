@@ -1,4 +1,4 @@
-//! What is broken at now.
+//! The rules that are already broken at now.
 ghost use Rattle.std.specs.Prelude.{ℕ, ◌≡◌, ◌+◌, ◌<◌, ◌≤◌, ◌^◌, ◌↔◌, IfOk, IsTrue, List, OnOk, false, length};
 ghost use Rattle.mtl_formulas.specs.FormulaTree.{FormulaTree};
 ghost use Rattle.mtl_formulas.specs.declared.verdict.Verdict.TheVariants.{No};
@@ -25,7 +25,7 @@ fn is_value_no(value: Verdict) -> bool
     value == Verdict::No
 }
 
-/// Whether the latest row has decided a position of a formula as broken.
+/// Returns whether the latest row has decided a position of a formula as broken.
 fn is_no(program: &Program, values: &TraceState, rule: usize) -> bool
     requires fits { Fits program.now values.now }
     requires inside { rule < count_of program.now }
@@ -40,7 +40,7 @@ fn is_no(program: &Program, values: &TraceState, rule: usize) -> bool
 }
 
 impl Already {
-    /// Adds the answers to one more row past the end.
+    /// Adds the values after one more row past the end.
     fn add_row(&mut self, program: &Program, values: &TraceState) -> Result<(), Memory>
         requires { Fits program.now values.now }
         ensures rules { self.new.rules ≡ self.old.rules }
@@ -84,7 +84,7 @@ impl Already {
         Ok(already)
     }
 
-    /// Whether the formula is broken there already.
+    /// Returns whether the formula is broken there already.
     fn tells(&self, index: u32, rule: usize) -> bool
         requires index { index < 2 ^ 31 }
         requires rules { self.now.rules ≤ 17 }
@@ -97,7 +97,7 @@ impl Already {
         }
     }
 
-    /// Whether the latest row has decided a position of a formula as broken that was not broken at now.
+    /// Returns whether the latest row has decided a position of a formula as broken that was not broken at now.
     fn is_rule_newly_broken(
         &self,
         program: &Program,
@@ -118,7 +118,8 @@ impl Already {
         is_no(program, values, rule) && !self.tells(index, rule)
     }
 
-    /// Whether the latest row has decided some position as broken that was not broken at now. So many rows came between now and it.
+    /// Returns whether the latest row has decided some position as broken that was not broken at now. So many rows came
+    /// between now and it.
     pub(crate) fn is_newly_broken(&self, program: &Program, values: &TraceState, index: u32) -> bool
         requires fits { Fits program.now values.now }
         requires index { index < 2 ^ 31 }

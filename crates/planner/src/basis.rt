@@ -1,4 +1,4 @@
-//! What stays the same while plans are tried.
+//! The data that stays the same while plans are tried.
 ghost use Rattle.std.specs.Prelude.{ℕ, ◌≡◌, ◌+◌, ◌-◌, ◌*◌, ◌^◌, ◌<◌, ◌≤◌, ◌↔◌, IfOk, IsTrue, [], map, take};
 ghost use Rattle.mtl_monitor.specs.Following.{IsProgramOf};
 ghost use Rattle.planner.specs.Inner.Breaking.{formulas_of};
@@ -21,7 +21,7 @@ pub struct SearchBasis {
     pub(crate) already: Vec<Already>,
 }
 
-/// What is kept of a target at now: any plan has the same steps before.
+/// Returns the state of a target at now, which is the same for every plan.
 pub(crate) fn watched_at_now(
     alloc: Global,
     situation: &Situation,
@@ -59,7 +59,7 @@ pub(crate) fn watched_at_now(
 impl SearchBasis {
     ghost use Rattle.planner.specs.Inner.Levels.{IsBasis};
 
-    /// What is kept of a target before the first step.
+    /// Returns the state of a target before the first step.
     pub(crate) fn unwatched(&self, alloc: Global, situation: &Situation) -> Result<Watched, Memory>
         requires { IsBasis situation.now self.now }
         ensures { IfOk result (IsReady self.now.program) }

@@ -11,8 +11,8 @@ use crate::legs::{PlannedLeg, own_at_leg};
 use crate::level::{Extended, Level};
 use plan_situations::Situation;
 
-/// The number of the first plan that extends a prefix and does not fail. `number` is that of the prefix, which has this many legs,
-/// and `below` has places for each leg that is left.
+/// Returns the number of the first plan that extends a prefix and does not fail. `number` is that of the prefix, which
+/// has this many legs, and `below` has places for each leg that is left.
 pub(crate) fn explore(
     situation: &Situation,
     basis: &SearchBasis,

@@ -1,4 +1,4 @@
-//! The legs of a situation's plans: when each begins and how long it lasts, and where own ship is then.
+//! The legs of a situation's plans: the start and length of each, and own ship's place then.
 ghost use Rattle.std.specs.Prelude.{◌≡◌, ◌+◌, ◌*◌, ◌/◌, ◌^◌, ◌<◌, ◌≤◌, ◌↔◌, IsTrue, take};
 ghost use Rattle.lattice.specs.Grids.{choices_of};
 ghost use Rattle.lattice.specs.PlanNumbers.{plan_of, IsPlan};
@@ -20,13 +20,13 @@ pub(crate) struct PlannedLeg {
     pub(crate) plan: Plan,
     /// The tick at which it begins, counted from now.
     pub(crate) begins: u32,
-    /// Where own ship is then, and how she heads and moves.
+    /// Own ship's place, heading and speed then.
     pub(crate) own: UnderWay,
     /// Whether no leg follows it.
     pub(crate) is_last: bool,
 }
 
-/// The first of the plans that begin with the legs of this number, which are this many.
+/// Returns the first of the plans that begin with the legs of this number, which are this many.
 fn first_plan(situation: &Situation, legs: u8, number: u32) -> Plan
     requires legs { legs ≤ situation.now.lattice.legs }
     requires number { number < choices_of situation.now.lattice ^ legs }
@@ -58,7 +58,7 @@ pub(crate) fn own_at_leg(situation: &Situation, leg: u8, number: u32) -> UnderWa
     situation.own_after(&plan, leg_begins(situation, leg))
 }
 
-/// Whether no leg follows it.
+/// Returns whether no leg follows it.
 fn is_last(situation: &Situation, leg: u8) -> bool
     requires { leg < situation.now.lattice.legs }
     ensures { IsTrue result ↔ (leg + 1 ≡ situation.now.lattice.legs) }
@@ -82,7 +82,7 @@ pub(crate) fn leg_lasts(situation: &Situation, leg: u8) -> u32
 }
 
 impl PlannedLeg {
-    /// The last leg of the prefix that has this number. `own` is where own ship is after the legs before it.
+    /// Returns the last leg of the prefix that has this number. `own` is where own ship is after the legs before it.
     pub(crate) fn new(situation: &Situation, index: u8, number: u32, own: UnderWay) -> PlannedLeg
         requires situation { IsSituation situation.now }
         requires index { index < situation.now.lattice.legs }

@@ -1,4 +1,4 @@
-//! What is kept after a prefix of the legs of a plan.
+//! The state after a prefix of the legs of a plan.
 ghost use Rattle.std.specs.Prelude.{ℕ, ◌≡◌, ◌+◌, ◌-◌, ◌*◌, ◌/◌, ◌<◌, ◌≤◌, ◌^◌, ◌⊎◌, ◌↔◌, IfOk, IsSome, IsTrue, List, false, true, length, get_or, All};
 ghost use Rattle.lattice.specs.Grids.{choices_of};
 ghost use Rattle.mtl_monitor.specs.Following.{Fits, HasRoom};
@@ -45,7 +45,7 @@ const NOWHERE: TickState = TickState {
     speed: None,
 };
 
-/// A path of this many ticks, to be filled in.
+/// Returns a path of this many ticks, to be filled in.
 fn path_of(alloc: Global, ticks: usize) -> Result<Vec<TickState>, Memory>
     ensures { IfOk result (λ path. length path.items ≡ ticks) }
 {
@@ -56,7 +56,7 @@ fn path_of(alloc: Global, ticks: usize) -> Result<Vec<TickState>, Memory>
     Ok(path)
 }
 
-/// The first target whose domain own ship enters in a leg, by its index.
+/// Returns the first target whose domain own ship enters in a leg, by its index.
 fn entered(situation: &Situation, leg: &PlannedLeg, path: &[TickState]) -> Option<usize>
     requires situation { IsSituation situation.now }
     requires path { IsPathIn situation.now leg.now path.now }
@@ -73,7 +73,7 @@ fn entered(situation: &Situation, leg: &PlannedLeg, path: &[TickState]) -> Optio
     None
 }
 
-/// Whether own ship enters the domain of the target with this index in a leg, if there is one.
+/// Returns whether own ship enters the domain of the target with this index in a leg, if there is one.
 fn enters_one(situation: &Situation, leg: &PlannedLeg, path: &[TickState], index: usize) -> bool
     requires situation { IsSituation situation.now }
     requires path { IsPathIn situation.now leg.now path.now }
@@ -88,8 +88,8 @@ fn enters_one(situation: &Situation, leg: &PlannedLeg, path: &[TickState], index
     false
 }
 
-/// Whether own ship enters some target's domain in a leg. The target whose domain was entered last is asked first: plans that
-/// begin alike mostly fail for the same one.
+/// Returns whether own ship enters some target's domain in a leg. The target whose domain was entered last is asked
+/// first: plans that begin alike mostly fail for the same one.
 fn enters(situation: &Situation, leg: &PlannedLeg, path: &[TickState], latest: &mut usize) -> bool
     requires situation { IsSituation situation.now }
     requires path { IsPathIn situation.now leg.now path.now }
@@ -203,7 +203,7 @@ fn follow_all(
     )
 }
 
-/// Whether some position is newly broken towards some target if the traces end here.
+/// Returns whether some position is newly broken towards some target if the traces end here.
 fn ends_broken(
     situation: &Situation,
     basis: &SearchBasis,
@@ -248,7 +248,7 @@ pub(crate) enum Extended {
 }
 
 impl Level {
-    /// The state at now, before any leg.
+    /// Returns the state at now, before any leg.
     pub(crate) fn at_now(
         alloc: Global,
         program: &Program,
@@ -267,7 +267,7 @@ impl Level {
         })
     }
 
-    /// The places for a leg that lasts this many ticks.
+    /// Returns the places for a leg that lasts this many ticks.
     pub(crate) fn new(
         alloc: Global,
         situation: &Situation,
@@ -294,8 +294,8 @@ impl Level {
         })
     }
 
-    /// Whether some position is newly broken towards some target if the traces end after the legs of this level. What is kept of the
-    /// targets stays as it is.
+    /// Returns whether some position is newly broken towards some target if the traces end after the legs of this
+    /// level. What is kept of the targets stays as it is.
     pub(crate) fn ends_broken(&mut self, situation: &Situation, basis: &SearchBasis) -> bool
         requires basis { IsBasis situation.now basis.now }
         requires targets { HasTargets situation.now basis.now self.old.watched.items }
@@ -324,7 +324,7 @@ impl Level {
         situation.fill_path(&leg.plan, leg.begins, leg.own, &mut self.path);
     }
 
-    /// Whether own ship enters some target's domain in the leg whose path is filled in.
+    /// Returns whether own ship enters some target's domain in the leg whose path is filled in.
     fn enters(&mut self, situation: &Situation, leg: &PlannedLeg) -> bool
         requires situation { IsSituation situation.now }
         requires leg { IsPlannedLeg situation.now leg.now }
@@ -340,8 +340,8 @@ impl Level {
         enters(situation, leg, &self.path, &mut self.entered)
     }
 
-    /// Whether some position is newly broken towards some target if the traces end before the leg. This is checked once: `ended` says
-    /// whether it was.
+    /// Returns whether some position is newly broken towards some target if the traces end before the leg. This is
+    /// checked once: `ended` says whether it was.
     fn ends_broken_before(
         &mut self,
         situation: &Situation,
@@ -399,7 +399,7 @@ impl Level {
         )
     }
 
-    /// Whether no leg follows, and some position is newly broken towards some target if the traces end.
+    /// Returns whether no leg follows, and some position is newly broken towards some target if the traces end.
     fn ends_broken_at_last(
         &mut self,
         situation: &Situation,

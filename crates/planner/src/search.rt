@@ -30,8 +30,8 @@ impl Search {
         Ok(Search { situation, walk })
     }
 
-    /// The lowest-numbered plan that does not fail, or `None` if every plan fails. It takes no memory, and a second call
-    /// gives the same answer.
+    /// Returns the lowest-numbered plan that does not fail, or `None` if every plan fails. It takes no memory, and a
+    /// second call gives the same answer.
     pub fn run(&mut self) -> Option<Plan>
         requires { IsSound self.old }
         ensures sound { IsSound self.new }
@@ -50,7 +50,7 @@ impl Search {
         Some(self.situation.lattice.plan(number))
     }
 
-    /// The situation that the search was made of.
+    /// Returns the situation that the search was made of.
     pub fn situation(&self) -> &Situation
         ensures { result.now ≡ searched_situation self.now }
     {

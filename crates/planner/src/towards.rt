@@ -78,8 +78,9 @@ impl Towards<'_> {
         self.follow(leg, path, watched)
     }
 
-    /// Whether a plan fails towards the target by the end of one of its legs, if own ship did not enter the domain before. What is kept of the
-    /// target after other legs is taken over first. `ending` is another state of the program, whose places serve for a look at the trace's end.
+    /// Returns whether a plan fails towards the target by the end of one of its legs, if own ship did not enter the
+    /// domain before. What is kept of the target after other legs is taken over first. `ending` is another state of the
+    /// program, whose places serve for a look at the trace's end.
     pub(crate) fn fails_by(
         &self,
         leg: &PlannedLeg,

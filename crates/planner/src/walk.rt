@@ -59,7 +59,7 @@ fn watch_each(
     Ok(())
 }
 
-/// The rules as one program and what is broken at now, and what is kept there.
+/// Returns the rules as one program and what is broken at now, and what is kept there.
 fn prepared(alloc: Global, situation: &Situation) -> Result<(SearchBasis, Level), Memory>
     requires { IsSituation situation.now }
     ensures { IfOk result (λ pair. IsPrepared situation.now pair.0 pair.1) }
@@ -86,7 +86,7 @@ fn prepared(alloc: Global, situation: &Situation) -> Result<(SearchBasis, Level)
     }
 }
 
-/// The places for each leg.
+/// Returns the places for each leg.
 fn places(alloc: Global, situation: &Situation, basis: &SearchBasis) -> Result<Vec<Level>, Memory>
     requires { IsBasis situation.now basis.now }
     ensures { IfOk result (λ below. ArePlaces situation.now basis.now 0 below.items) }
@@ -121,8 +121,8 @@ impl Walk {
     }
 }
 
-/// The first target towards which a plan fails by the end of one of its legs, by its index. All targets before it are followed, from what is kept of them
-/// before the leg.
+/// Returns the first target towards which a plan fails by the end of one of its legs, by its index. All targets before
+/// it are followed, from what is kept of them before the leg.
 fn first_failing(
     situation: &Situation,
     basis: &SearchBasis,
@@ -171,8 +171,8 @@ fn first_failing(
 }
 
 impl Level {
-    /// The first target towards which a prefix of one leg more fails, by its index. The prefix has this number, and `from` is kept after the legs
-    /// before. If it fails towards none, this is kept after it.
+    /// Returns the first target towards which a prefix of one leg more fails, by its index. The prefix has this number,
+    /// and `from` is kept after the legs before. If it fails towards none, this is kept after it.
     pub fn first_failing(
         &mut self,
         situation: &Situation,

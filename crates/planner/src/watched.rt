@@ -1,4 +1,4 @@
-//! What is kept of a target while a plan is followed.
+//! The state of a target while a plan is followed.
 ghost use Rattle.std.specs.Prelude.{ℕ, ◌≡◌, ◌+◌, ◌<◌, ◌≤◌, ◌^◌, ◌↔◌, ◌||◌, IfOk, IfSome, IsTrue, List, false, true};
 ghost use Rattle.std.specs.Option.{option_copied};
 ghost use Rattle.encounters.specs.Directions.{HaveDirections};
@@ -31,7 +31,7 @@ pub(crate) struct Watched {
     since_now: u32,
 }
 
-/// Whether the trace has begun once a step is taken.
+/// Returns whether the trace has begun once a step is taken.
 fn has_begun(before: bool, in_contact: bool) -> bool
     ensures { result ≡ (before || in_contact) }
 {
@@ -39,7 +39,7 @@ fn has_begun(before: bool, in_contact: bool) -> bool
 }
 
 impl Watched {
-    /// Before the first step.
+    /// Returns the state before the first step.
     pub(crate) fn new(
         alloc: Global,
         program: &Program,
@@ -128,8 +128,8 @@ impl Watched {
             .is_newly_broken(towards.program, &self.values, index)
     }
 
-    /// Whether some position is newly broken if the trace ends here. `ending` is another state of the program, whose places
-    /// serve here.
+    /// Returns whether some position is newly broken if the trace ends here. `ending` is another state of the program,
+    /// whose places serve here.
     pub(crate) fn ends_newly_broken(&self, towards: &Towards<'_>, ending: &mut TraceState) -> bool
         requires towards { IsTowards towards.now }
         requires ready { IsReady towards.now.program.now self.now }

@@ -15,7 +15,7 @@ use out_of_memory::Memory;
 use plan_situations::Situation;
 use std::alloc::Global;
 
-/// Where the block of an entry ends, if the entry is good and its block begins with a number.
+/// Returns the end of an entry's block, if the entry is good and its block begins with a number.
 fn sound_end(
     alloc: Global,
     situation: &Situation,
@@ -46,7 +46,7 @@ fn sound_end(
     }
 }
 
-/// Checks the entries one after the other, over what is kept from each to the next.
+/// Checks the entries one after the other, with the state that each passes to the next.
 fn check_each(
     alloc: Global,
     situation: &Situation,

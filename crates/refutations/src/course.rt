@@ -24,7 +24,7 @@ pub(crate) struct Course<'a> {
 impl<'a> Course<'a> {
     ghost use Rattle.refutations.specs.Inner.Replays.{situation_in, IsCourse};
 
-    /// That of the first plan.
+    /// Returns the course of the first plan.
     pub(crate) fn first(alloc: Global, situation: &'a Situation) -> Result<Course<'a>, Memory>
         requires { IsSituation situation.now }
         ensures course { IfOk result IsCourse }
@@ -42,7 +42,7 @@ impl<'a> Course<'a> {
         })
     }
 
-    /// Goes over to another plan. This takes no memory.
+    /// Switches to another plan. This takes no memory.
     pub(crate) fn turn_to(&mut self, plan: Plan)
         requires course { IsCourse self.old }
         requires plan { IsPlan (choices_of (situation_in self.old).lattice)
@@ -56,7 +56,7 @@ impl<'a> Course<'a> {
         self.plan = plan;
     }
 
-    /// The step of both from a tick to the next.
+    /// Returns the step of both from a tick to the next.
     pub(crate) fn step_at(&self, target: &Target, k: u32) -> Option<PairStep>
         requires course { IsCourse self.now }
         requires target { IsTarget (situation_in self.now) target.now }

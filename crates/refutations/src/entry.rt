@@ -25,7 +25,7 @@ pub struct WhyEntry {
 pub enum Checked {
     /// The list is right.
     Right,
-    /// It is not, and this is the least index of an entry that is not good or whose block does not begin where the blocks before it end; if there is
-    /// no such entry, the number of entries.
+    /// It is wrong; this is the least index of an entry that is not good, or has a block that does not begin at the end
+    /// of the blocks before it; if there is no such entry, the number of entries.
     Bad(u32),
 }

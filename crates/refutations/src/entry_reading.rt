@@ -21,7 +21,7 @@ use rule_set::RuleSet;
 use smallvec::SmallVec;
 use std::alloc::Global;
 
-/// The number of at most so much that is written so, in decimal and with no zero in front.
+/// Returns the number of at most so much that is written so, in decimal and with no zero in front.
 fn number_in(text: &[u8], most: u64) -> Option<u64>
     ensures { MatchOption result ((number : ℕ) → ¬ IsNumberIn text.now most number)
         (IsNumberIn text.now most) }
@@ -49,7 +49,7 @@ fn first_point(text: &[u8]) -> Option<usize>
     text.iter().position(|byte| *byte == b'.')
 }
 
-/// The bytes before the first point, and those after it, if there is one.
+/// Returns the bytes before the first point, and those after it, if there is one.
 fn first_part(text: &[u8]) -> (&[u8], Option<&[u8]>)
     ensures { slice_split (λ byte. byte == 46) text.now ≡ result.0.now ∷ parts_left result.1 }
 {
@@ -59,7 +59,7 @@ fn first_part(text: &[u8]) -> (&[u8], Option<&[u8]>)
     }
 }
 
-/// The prefix of at most this many legs, each of this many choices, that is written so.
+/// Returns the prefix of at most this many legs, each of this many choices, that is written so.
 fn choices_in(alloc: Global, text: &[u8], choices: u32, legs: u8) -> Option<Prefix>
     requires some { 1 ≤ choices }
     requires few { choices ≤ 512 }
@@ -83,7 +83,7 @@ fn choices_in(alloc: Global, text: &[u8], choices: u32, legs: u8) -> Option<Pref
     Some(Prefix::of(alloc, list.as_slice()))
 }
 
-/// The index of the rule with a name.
+/// Returns the index of the rule with a name.
 fn rule_in(rules: &RuleSet, name: &[u8]) -> Option<u32>
     ensures { MatchOption result
         ((index : ℕ) → index < length rules.now → (rule_at rules.now index).name ≢ name.now)
@@ -97,7 +97,7 @@ fn rule_in(rules: &RuleSet, name: &[u8]) -> Option<u32>
     None
 }
 
-/// The moment of a domain, whose name this has to be.
+/// Returns the moment of a domain, whose name this has to be.
 fn moment_in(name: &[u8], a: &[u8], b: &[u8]) -> Option<Moment>
     ensures { MatchOption result ((moment : Moment) → ¬ IsMomentIn name.now a.now b.now moment)
         (IsMomentIn name.now a.now b.now) }
@@ -114,7 +114,8 @@ fn moment_in(name: &[u8], a: &[u8], b: &[u8]) -> Option<Moment>
     }
 }
 
-/// The reason that is written so. A rule may be named `domain` too: with a moment it is a domain, without one the rule of that name.
+/// Returns the reason that is written so. A rule may be named `domain` too: with a moment it is a domain, without one
+/// the rule of that name.
 fn reason_in(situation: &Situation, name: &[u8], step: &[u8], a: &[u8], b: &[u8]) -> Option<Reason>
     ensures { MatchOption result
         ((reason : Reason)
@@ -152,7 +153,7 @@ struct Row<'a> {
     b: &'a [u8],
 }
 
-/// The fields of a record, if it has seven.
+/// Returns the fields of a record, if it has seven.
 fn row_of(fields: &ByteRecord) -> Option<Row<'_>>
     ensures { MatchOption result (length (fields_of fields.now) ≢ 7)
         (λ row. fields_of fields.now
@@ -173,7 +174,7 @@ fn row_of(fields: &ByteRecord) -> Option<Row<'_>>
     })
 }
 
-/// The entry whose row has exactly these fields; `None` if there is none. It is one that a check may be given.
+/// Returns the entry whose row has exactly these fields; `None` if there is none. It is one that a check may be given.
 pub fn read_entry(alloc: Global, situation: &Situation, fields: &ByteRecord) -> Option<WhyEntry>
     ensures entry { MatchOption result
         ((entry : WhyEntry) → ¬ IsEntryOf situation.now (fields_of fields.now) entry)

@@ -11,7 +11,7 @@ use plan_situations::Situation;
 use report_csv::digits;
 use std::alloc::Global;
 
-/// The choices with a point between each two.
+/// Returns the choices with a point between each two.
 fn choices_text(alloc: Global, choices: &[u16]) -> Result<Vec<u8>, Memory>
     ensures { IfOk result (λ text. text.items ≡ choices_text choices.now) }
 {
@@ -37,7 +37,7 @@ impl EntryRows {
     ghost use Rattle.report_csv.specs.CsvRows.{row_of};
     ghost use Rattle.refutations.specs.EntryTexts.{HasRows};
 
-    /// The text of no rows. This takes no memory.
+    /// Returns the text of no rows. This takes no memory.
     pub fn new(alloc: Global) -> EntryRows
         ensures { HasRows result [] }
     {
@@ -97,7 +97,7 @@ impl EntryRows {
         }
     }
 
-    /// The text of all rows.
+    /// Returns the text of all rows.
     pub fn into_bytes(self) -> Result<Vec<u8>, Memory>
         ensures { IfOk result (λ bytes. (text : List ℕ) → HasRows self text → bytes.items ≡ text) }
     {

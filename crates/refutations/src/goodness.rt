@@ -27,14 +27,14 @@ use plan_situations::laws::prefixes_are_blocks;
 use plan_situations::{Situation, Target};
 use std::alloc::Global;
 
-/// Whether a moment is an instant of a step, with numbers that are small enough to compute with.
+/// Returns whether a moment is an instant of a step, with numbers that are small enough to compute with.
 fn is_instant(moment: &Moment) -> bool
     ensures { IsTrue result ↔ IsInstant moment.now }
 {
     moment.a <= moment.b && 0 < moment.b && moment.b < 1 << 60
 }
 
-/// Whether own ship is inside a target's domain at an instant of a step of both.
+/// Returns whether own ship is inside a target's domain at an instant of a step of both.
 fn is_inside(situation: &Situation, target: &Target, pair: &PairStep, moment: &Moment) -> bool
     requires target { IsTarget situation.now target.now }
     requires heads { HaveDirections pair.now }
@@ -48,7 +48,7 @@ fn is_inside(situation: &Situation, target: &Target, pair: &PairStep, moment: &M
     }
 }
 
-/// Whether she is at an instant of the step that begins at a tick.
+/// Returns whether she is inside at an instant of the step that begins at a tick.
 fn is_inside_then(course: &Course<'_>, target: &Target, step: u32, moment: &Moment) -> bool
     requires course { IsCourse course.now }
     requires target { IsTarget (situation_in course.now) target.now }
@@ -63,7 +63,7 @@ fn is_inside_then(course: &Course<'_>, target: &Target, step: u32, moment: &Mome
     }
 }
 
-/// Whether the step is one from now up to a horizon, the moment an instant of it, and she is inside then.
+/// Returns whether the step is one from now up to a horizon, the moment an instant of it, and she is inside then.
 fn is_inside_in(
     course: &Course<'_>,
     target: &Target,
@@ -83,7 +83,7 @@ fn is_inside_in(
     is_inside_then(course, target, step, moment)
 }
 
-/// Whether a reason holds under the latest plan towards the target with an index, up to a horizon.
+/// Returns whether a reason holds under the latest plan towards the target with an index, up to a horizon.
 fn holds(
     alloc: Global,
     replay: &mut Replay<'_>,
@@ -114,7 +114,7 @@ fn holds(
     }
 }
 
-/// The horizon of this number of legs of a plan: the tick up to which they determine the steps.
+/// Returns the horizon of this number of legs of a plan: the tick up to which they determine the steps.
 pub fn horizon(situation: &Situation, legs: usize) -> u32
     requires { IsSituation situation.now }
     ensures value { result ≡ reached situation.now legs }
@@ -129,7 +129,7 @@ pub fn horizon(situation: &Situation, legs: usize) -> u32
     }
 }
 
-/// The first plan that extends a prefix.
+/// Returns the first plan that extends a prefix.
 pub(crate) fn first_plan(situation: &Situation, prefix: &[u16]) -> Plan
     requires few { length prefix.now ≤ situation.now.lattice.legs }
     requires below { AllBelowBase (choices_of situation.now.lattice) prefix.now }
@@ -142,7 +142,7 @@ pub(crate) fn first_plan(situation: &Situation, prefix: &[u16]) -> Plan
     situation.lattice.plan(first)
 }
 
-/// The index of the target with an MMSI, in whose order they are.
+/// Returns the index of the target with an MMSI, in whose order they are.
 fn index_of(targets: &[Target], mmsi: u32) -> Option<usize>
     requires { AllPairs (λ (a b : Target). a.mmsi < b.mmsi) targets.now }
     ensures { MatchOption result
@@ -166,7 +166,7 @@ fn index_of(targets: &[Target], mmsi: u32) -> Option<usize>
     None
 }
 
-/// Whether an entry is good.
+/// Returns whether an entry is good.
 pub(crate) fn is_good(
     alloc: Global,
     situation: &Situation,

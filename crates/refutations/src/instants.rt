@@ -7,7 +7,7 @@ use closest_approach::Moment;
 use fixed_geometry::{dot, norm2, turn};
 use motion::Step;
 
-/// Whether `(q b + m)^2 < b^2 d`, if `q^2 < d < (q + 1)^2`.
+/// Returns whether `(q b + m)^2 < b^2 d`, if `q^2 < d < (q + 1)^2`.
 fn is_rest_below(q: u128, m: u128, b: u128, d: u128) -> bool
     requires m_small { m < b }
     requires b_small { b < 2 ^ 60 }
@@ -25,7 +25,7 @@ fn is_rest_below(q: u128, m: u128, b: u128, d: u128) -> bool
     z >= b || m * m < b * z
 }
 
-/// Whether `x^2 < b^2 d`.
+/// Returns whether `x^2 < b^2 d`.
 fn is_square_below(x: u128, b: u128, d: u128) -> bool
     requires some { 0 < b }
     requires b_small { b < 2 ^ 60 }
@@ -44,7 +44,7 @@ fn is_square_below(x: u128, b: u128, d: u128) -> bool
     is_rest_below(q, m, b, d)
 }
 
-/// The dot product of the displacement and its change.
+/// Returns the dot product of the displacement and its change.
 fn along(step: &Step) -> i128
     ensures value { result ≡ dot_of step.now.p step.now.w }
     ensures small { unsigned_abs result ≤ 2 ^ 61 }
@@ -52,7 +52,7 @@ fn along(step: &Step) -> i128
     dot(step.p(), step.w())
 }
 
-/// The square of the change.
+/// Returns the square of the change.
 fn length2(step: &Step) -> u128
     ensures value { pos result ≡ norm2_of step.now.w }
     ensures small { result ≤ 2 ^ 53 }
@@ -60,7 +60,7 @@ fn length2(step: &Step) -> u128
     norm2(step.w())
 }
 
-/// The size of their cross product.
+/// Returns the size of their cross product.
 fn aside(step: &Step) -> u128
     ensures value { result ≡ unsigned_abs (turn_of step.now.p step.now.w) }
     ensures small { result ≤ 2 ^ 61 }
@@ -86,7 +86,7 @@ fn size_of_sum(x: i128, y: i128) -> u128
     (x + y).unsigned_abs()
 }
 
-/// The size of `b p.w + a |w|^2`.
+/// Returns the size of `b p.w + a |w|^2`.
 fn along_at(step: &Step, moment: Moment) -> u128
     requires a { moment.a ≤ moment.b }
     requires b { moment.b < 2 ^ 60 }
@@ -101,7 +101,7 @@ fn along_at(step: &Step, moment: Moment) -> u128
     )
 }
 
-/// Whether the distance at an instant of the step is less than `r` tenths of a millimetre.
+/// Returns whether the distance at an instant of the step is less than `r` tenths of a millimetre.
 pub(crate) fn is_nearer(step: &Step, r: u64, moment: Moment) -> bool
     requires r { r < 2 ^ 31 }
     requires a { moment.a ≤ moment.b }

@@ -1,4 +1,4 @@
-//! Laws of refutations. They do no work.
+//! Laws of refutations, which do nothing at run time.
 ghost use Rattle.std.specs.Prelude.{ℕ, ◌≡◌, ◌↔◌, All, List, length, take};
 ghost use Rattle.plan_situations.specs.LeastPlans.{AllFail};
 ghost use Rattle.plan_situations.specs.Prefixes.{reached};

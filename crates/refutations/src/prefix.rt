@@ -5,7 +5,8 @@ use smallvec::SmallVec;
 use std::alloc::Global;
 use std::marker::Model;
 
-/// The choices of the first legs of a plan, 1 to 8 of them, the first leg's first. It is seen as their list. It lies inline and takes no memory.
+/// The choices of the first legs of a plan, 1 to 8 of them, the first leg's first. Its model is their list. It is
+/// stored inline and takes no memory.
 #[derive(Drop)]
 pub struct Prefix {
     choices: SmallVec<u16, 8>,
@@ -22,7 +23,7 @@ impl Model for Prefix {
 }
 
 impl Prefix {
-    /// The prefix of these choices.
+    /// Returns the prefix of these choices.
     pub fn of(alloc: Global, choices: &[u16]) -> Prefix
         requires some { 1 ≤ length choices.now }
         requires few { length choices.now ≤ 8 }
@@ -33,7 +34,7 @@ impl Prefix {
         }
     }
 
-    /// The choices.
+    /// Returns the choices.
     pub fn choices(&self) -> &[u16]
         ensures choices { result.now ≡ self.now }
         ensures some { 1 ≤ length result.now }

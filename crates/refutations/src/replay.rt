@@ -1,4 +1,4 @@
-//! What is kept from one entry of a list to the next: neighbours have most legs in common.
+//! The state that is reused from one entry of a list to the next, because neighbours have most legs in common.
 ghost use Rattle.std.specs.Prelude.{◌≡◌, ◌<◌, ◌≤◌, ◌↔◌, get_or, IfOk, IfSome, IsTrue, OnOk, length};
 ghost use Rattle.encounters.specs.Directions.{HaveDirections};
 ghost use Rattle.lattice.specs.Grids.{choices_of};
@@ -25,7 +25,7 @@ pub(crate) struct Replay<'a> {
 impl<'a> Replay<'a> {
     ghost use Rattle.refutations.specs.Inner.Replays.{situation_in, IsReplay};
 
-    /// Before the first entry.
+    /// Returns the state before the first entry.
     pub(crate) fn new(alloc: Global, situation: &'a Situation) -> Result<Replay<'a>, Memory>
         requires { IsSituation situation.now }
         ensures replay { IfOk result IsReplay }
@@ -39,7 +39,7 @@ impl<'a> Replay<'a> {
         Ok(Replay { course, traces })
     }
 
-    /// Goes over to another plan.
+    /// Switches to another plan.
     pub(crate) fn turn_to(&mut self, plan: Plan)
         requires replay { IsReplay self.old }
         requires plan { IsPlan (choices_of (situation_in self.old.course).lattice)
@@ -51,7 +51,8 @@ impl<'a> Replay<'a> {
         self.course.turn_to(plan);
     }
 
-    /// Whether the rule with an index is newly broken, towards the target with an index, at the position of the step that begins at a tick.
+    /// Returns whether the rule with an index is newly broken, towards the target with an index, at the position of the
+    /// step that begins at a tick.
     pub(crate) fn breaks_at(
         &mut self,
         alloc: Global,

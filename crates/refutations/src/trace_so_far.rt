@@ -1,4 +1,4 @@
-//! The trace of own ship and a target, as far as it was asked for.
+//! The trace of own ship and a target, as far as it was needed.
 ghost use Rattle.std.specs.Prelude.{ℕ, ◌≡◌, ◌+◌, ◌-◌, ◌<◌, ◌≤◌, ◌↔◌, List, IfOk, IfSome, IsTrue, MatchOption, OnOk, length, take};
 ghost use Rattle.std.specs.Option.{option_copied};
 ghost use Rattle.meetings.specs.Standing.{Follows};
@@ -44,7 +44,7 @@ fn legs_in_common(plan: &[u16], other: &[u16]) -> usize
 impl TraceSoFar {
     ghost use Rattle.refutations.specs.Inner.Replays.{situation_in, told_to, IsCourse, IsTraceSoFar};
 
-    /// One with no row yet.
+    /// Returns a trace without rows.
     pub(crate) fn new(alloc: Global, course: &Course<'_>) -> TraceSoFar
         requires { IsCourse course.now }
         ensures { (target : Target)
@@ -58,7 +58,7 @@ impl TraceSoFar {
         }
     }
 
-    /// Keeps the rows of the steps up to a tick alone.
+    /// Drops the rows of the steps after a tick.
     fn shorten(&mut self, end: u32)
         ensures trace { (situation : Situation) (plan : List ℕ) (target : Target)
             → IsTraceSoFar situation plan target self.old
@@ -90,7 +90,7 @@ impl TraceSoFar {
         self.plan = Prefix::of(alloc, course.plan.choices());
     }
 
-    /// The tick at which the trace begins, if there is one up to the horizon.
+    /// Returns the tick at which the trace begins, if there is one up to the horizon.
     fn begun(&mut self, course: &Course<'_>, target: &Target, until: u32) -> Option<u32>
         requires course { IsCourse course.now }
         requires target { IsTarget (situation_in course.now) target.now }
@@ -156,7 +156,7 @@ impl TraceSoFar {
         Ok(())
     }
 
-    /// The rows up to a horizon.
+    /// Returns the rows up to a horizon.
     fn rows_up_to(&self, until: u32) -> &[AtomRow]
         requires from { self.now.start ≤ until }
         requires long { until ≤ told_to self.now }
@@ -165,7 +165,8 @@ impl TraceSoFar {
         &self.rows[..(until - self.start) as usize]
     }
 
-    /// Whether the rule with an index is newly broken at the position of the step that begins at a tick. The trace is that under the course's plan.
+    /// Returns whether the rule with an index is newly broken at the position of the step that begins at a tick. The
+    /// trace is that under the course's plan.
     pub(crate) fn breaks_at(
         &mut self,
         course: &Course<'_>,

@@ -1,4 +1,4 @@
-//! How many rows after a position a value of Yes or No needs at least.
+//! The least number of rows after a position for a value of Yes or No.
 ghost use Rattle.std.specs.Prelude.{◌≡◌, ◌≤◌, IsTrue, ◌↔◌, All, map};
 ghost use Rattle.mtl_formulas.specs.FormulaTree.{tree_of, negation, pair, span, link};
 ghost use Rattle.mtl_formulas.specs.FormulaMeasures.{IsValid, reach_of};
@@ -8,7 +8,7 @@ ghost use Rattle.rule_program.specs.Lags.{lags_of, here, IsNoLast};
 use mtl_formulas::{Formula, LinkKind, Node, PairKind, SpanKind, future_reach};
 use rule_set::RuleSet;
 
-/// How many rows after a position are fed at least before its value can be No, and before it can be Yes.
+/// The least numbers of rows after a position before its value can be No, and before it can be Yes.
 #[derive(Clone, Copy, PartialEq, Eq)]
 pub struct Lags {
     /// Before No.
@@ -17,7 +17,7 @@ pub struct Lags {
     pub yes: u32,
 }
 
-/// An operator that looks back looks at its own position if its lower bound is 0.
+/// Returns the lag of an operator that looks back: it looks at its own position if its lower bound is 0.
 fn here(lower: u32, lag: u32) -> u32
     ensures value { result ≡ here lower lag }
     ensures small { result ≤ lag }
@@ -25,7 +25,7 @@ fn here(lower: u32, lag: u32) -> u32
     if lower == 0 { lag } else { 0 }
 }
 
-/// How many rows after a position are needed at least, by the formula's operators. Neither lag exceeds its reach.
+/// Returns the least numbers of rows after a position, by the formula's operators. Neither lag exceeds its reach.
 #[cycle(lagging)]
 pub fn lags_of(formula: &Formula) -> Lags
     requires { IsValid (tree_of formula.now) }
@@ -136,8 +136,8 @@ fn link_lags(kind: LinkKind, lower: u32, upper: u32, a: &Formula, b: &Formula) -
     }
 }
 
-/// Whether no No of the formula can come before all rows that it reaches: then each comes with the last of them, and a monitor that
-/// answers late answers it in time.
+/// Returns whether no No of the formula can come before all rows that it reaches. Then each No comes with the last of
+/// them, and an ordinary monitor answers it in time.
 pub fn is_no_last(formula: &Formula) -> bool
     requires { IsValid (tree_of formula.now) }
     ensures { IsTrue result
@@ -146,7 +146,8 @@ pub fn is_no_last(formula: &Formula) -> bool
     lags_of(formula).no == future_reach(formula)
 }
 
-/// Whether that is so of each rule: then no position of a trace is broken before all rows came that its rule reaches.
+/// Returns whether this holds for each rule: then no position of a trace is broken before all rows that its rule
+/// reaches.
 pub fn are_no_last(rules: &RuleSet) -> bool
     ensures lags { IsTrue result
         ↔ All (λ (rule : NamedTree). (lags_of rule.tree).no ≡ reach_of rule.tree) rules.now }

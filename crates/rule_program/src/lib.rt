@@ -1,9 +1,9 @@
-//! The rules of an audit as one program, which gives the values of all of them along a trace; and how many rows their formulas need at
-//! least before a value of Yes or No.
+//! The rules of an audit as one program, which returns the values of all of them along a trace; and the least numbers
+//! of rows that their formulas need before a value of Yes or No.
 //!
-//! A Yes of `F[0,20] risk` at a tick of 10 seconds may come with the position's own row, and a No needs two rows after it: the last that the
-//! formula reaches. For `G[0,20] risk` it is the other way round: a No may come early.
-//! How a value is found is out of scope: `mtl_monitor` defines that.
+//! A Yes of `F[0,20] risk` at a tick of 10 seconds may come with the position's own row, and a No needs two rows after
+//! it: the last that the formula reaches. For `G[0,20] risk` it is the other way round: a No may come early. Computing
+//! a value is out of scope: see `mtl_monitor`.
 #![tactic(auto)]
 
 mod lags;
@@ -20,7 +20,7 @@ use out_of_memory::Memory;
 use rule_set::RuleSet;
 use std::alloc::Global;
 
-/// The formulas of all rules in order, each at the index of its rule, as one program.
+/// Returns the formulas of all rules in order, each at the index of its rule, as one program.
 pub fn program_of(alloc: Global, rules: &RuleSet) -> Result<Program, Memory>
     ensures formulas { IfOk result
         (λ program. IsProgramOf program (map (λ (rule : NamedTree). rule.tree) rules.now)) }

@@ -30,7 +30,7 @@ fn no_lines(alloc: Global) -> Result<StreamedLines, Fail> {
     }
 }
 
-/// Whether one line has come to the outcome at this index, once these bytes are taken.
+/// Returns whether one line has come to the outcome at this index, once these bytes are taken.
 fn has_one(
     rt: &impl Abort,
     lines: &mut StreamedLines,
@@ -87,7 +87,7 @@ static STATIC_REPORTS: [(&[u8], Option<ToldStatic>); 4] = [
     (b"!AIVDM,1,1,,A,15P5TL0P2l00001wwHt000000000,0*5C\n", None),
 ];
 
-/// Whether these lines have the outcomes that stand beside them.
+/// Returns whether these lines have the outcomes that stand beside them.
 fn tell(
     rt: &impl Abort,
     lines: &mut StreamedLines,

@@ -36,7 +36,7 @@ const REPORT: &[u8] = b"!AIVDM,1,1,,A,15P5TL0P2l00001wwHt000000000,0*5C\n";
 
 const POINT: &[u8] = b"point,369190000,1700000000,0,-18520000,180,0\n";
 
-/// The scenario with these lines after it.
+/// Returns the scenario with these lines after it.
 fn scenario_with(alloc: Global, more: &str) -> Result<Scenario, Fail>
     ensures { IfOk result IsInRange }
 {
@@ -47,7 +47,7 @@ fn scenario_with(alloc: Global, more: &str) -> Result<Scenario, Fail>
     }
 }
 
-/// A session of a mode on the scenario with these lines after it.
+/// Returns a session of a mode on the scenario with these lines after it.
 fn session(alloc: Global, more: &str, mode: Mode) -> Result<Session, Fail>
     requires { needs_own mode ≡ false }
     ensures { IfOk result IsInUse }
@@ -72,7 +72,7 @@ fn feed_all(session: &mut Session, alloc: Global, log: &[u8], count: usize) -> R
     Ok(given)
 }
 
-/// The head-on log, and a last line.
+/// Returns the head-on log, and a last line.
 fn head_on_with(alloc: Global, last: &[u8]) -> Result<Vec<u8>, Fail> {
     let mut log = HEAD_ON.to_vec(alloc)?;
     log.extend_from_slice(last)?;
@@ -109,7 +109,7 @@ struct Settled {
     ends: &'static [u8],
 }
 
-/// Whether a mode gives these of the head-on log and their last lines, in pieces of this many bytes.
+/// Returns whether a mode gives these of the head-on log and their last lines, in pieces of this many bytes.
 fn are_given(
     rt: &impl Abort,
     alloc: Global,
@@ -228,7 +228,7 @@ fn lines_in(bytes: &[u8]) -> usize {
     bytes.iter().filter(|byte| **byte == b'\n').count()
 }
 
-/// A log of `count` reports of one place, and the head-on log after them.
+/// Returns a log of `count` reports of one place, and the head-on log after them.
 fn long_log(alloc: Global, count: u32) -> Result<Vec<u8>, Fail> {
     let mut log = Vec::new(alloc);
     for _ in 0..count {

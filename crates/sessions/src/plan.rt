@@ -133,7 +133,8 @@ fn write_search(
     }
 }
 
-/// The report, from its first rows and what the search found. With `why` it says why every plan fails, if every plan does.
+/// Returns the report, from its first rows and what the search found. With `why` it says why every plan fails, if every
+/// plan does.
 fn plan_report(
     alloc: Global,
     mut text: ReportText,

@@ -6,20 +6,21 @@ use std::error::Error;
 use std::fmt;
 use tracks::{BookFault, MOST_VESSELS};
 
-/// Why a session gives no report. It prints as the beginning of the program's line for it: `limit: vessels 4096`, `own: no point`, `memory`.
+/// Why a session gives no report. It prints as the start of the program's line for it: `limit: vessels 4096`, `own: no
+/// point`, `memory`.
 #[derive(Clone, Copy, Debug, PartialEq, Eq)]
 pub enum SessionFault {
-    /// A line makes a 4097th vessel held.
+    /// A line adds a 4097th vessel.
     Vessels,
     /// A tick begins a 4097th trace.
     Pairs,
     /// The log has more bytes than the scenario allows.
     LogBytes,
-    /// Own ship cannot be planned for: this is what she lacks.
+    /// There can be no plan for own ship; this is what she lacks.
     Own(Unready),
     /// More than 64 vessels are targets.
     Targets,
-    /// The rows that say why there is no plan are not right: this is the least index at which one is not, or how many there are.
+    /// The rows with the reasons why there is no plan are wrong: the index of the first wrong one, or their number.
     Entry(u32),
     /// Memory ran out.
     Memory,

@@ -28,11 +28,12 @@ use ranks::Rank;
 use std::alloc::Global;
 use std::collections::BTreeSet;
 
-/// The greatest number of traces that are followed.
+/// The greatest number of traces.
 pub const MOST_TRACES: usize = 4096;
 
-/// All traces of a window, of the pairs in which one vessel is a subject, or of all pairs if there are no subjects. They stand for
-/// the vessels seen at the ticks that were given, and for what is known of each trace. After an `Err` they may only be dropped.
+/// All traces of a window, of the pairs in which one vessel is a subject, or of all pairs if there are no subjects.
+/// Their model is the vessels seen at the ticks so far, and the state of each trace. After an `Err` the caller may only
+/// drop them.
 #[derive(Drop)]
 pub struct AllTraces {
     alloc: Global,
@@ -43,7 +44,7 @@ pub struct AllTraces {
     subjects: Vec<u32>,
     /// The vessels seen at the latest tick.
     latest: Vec<(u32, TickState)>,
-    /// Their ranks, where ranks count.
+    /// Their ranks, if ranks count.
     ranks: Vec<Rank>,
     /// How many ticks were given.
     given: u32,
@@ -52,7 +53,7 @@ pub struct AllTraces {
 }
 
 impl AllTraces {
-    /// No traces yet, of a window whose last tick has this number. A tick lasts so many seconds.
+    /// Returns no traces, for a window whose last tick has this number. A tick lasts `tick` seconds.
     pub fn new(
         alloc: Global,
         detect: Detect,
@@ -88,7 +89,7 @@ impl AllTraces {
         })
     }
 
-    /// How many traces there are: none is ever taken away, and those that begin come behind the others.
+    /// Returns the number of traces. None is ever removed, and new ones follow the others.
     pub fn len(&self) -> usize
         ensures { result ≡ traces_of self.now }
     {
@@ -102,14 +103,14 @@ impl AllTraces {
         self.given
     }
 
-    /// The number of the window's last tick.
+    /// Returns the number of the window's last tick.
     pub fn last_tick(&self) -> u32
         ensures { result ≡ last_tick_of self.now }
     {
         self.last_tick
     }
 
-    /// The pair of the trace with this index.
+    /// Returns the pair of the trace with this index.
     pub fn pair(&self, index: usize) -> Pair
         requires { index < traces_of self.now }
         ensures { (numbers : AuditNumbers) (ticks : List Sighting) (front : List Known)
@@ -120,8 +121,8 @@ impl AllTraces {
         self.traces[index].pair
     }
 
-    /// The next step of the trace with this index: from the latest tick to the one at which these vessels are seen. `None` where
-    /// either vessel is not seen at either.
+    /// Returns the next step of the trace with this index: from the latest tick to the one at which these vessels are
+    /// seen. `None` if either vessel is not seen at either tick.
     #[inline(always)]
     pub fn next_step(&mut self, index: usize, seen: &[(u32, TickState)]) -> Option<PairStep>
         requires sound { IsSound self.old }
@@ -147,8 +148,8 @@ impl AllTraces {
         self.traces[index].next_step(&self.latest, seen)
     }
 
-    /// Takes the next step of the trace with this index, and gives its row, by the ranks at the tick at which the engagement began. Each
-    /// trace takes its next step once before the tick is taken.
+    /// Takes the next step of the trace with this index, and returns its row, by the ranks at the tick at which the
+    /// engagement began. Each trace takes its next step once before the tick is taken.
     #[inline(always)]
     pub fn take_step(&mut self, index: usize, step: Option<&PairStep>) -> AtomRow
         requires sound { IsSound self.old }
@@ -175,7 +176,7 @@ impl AllTraces {
         self.traces[index].take_step(step, &self.latest, &self.ranks)
     }
 
-    /// The state of the engagement of the trace with this index, at its latest step; apart before the first.
+    /// Returns the state of the engagement of the trace with this index, at its latest step; apart before the first.
     #[inline(always)]
     pub fn state(&self, index: usize) -> EngagementState
         requires { index < traces_of self.now }
@@ -187,9 +188,9 @@ impl AllTraces {
         self.traces[index].state()
     }
 
-    /// Takes the next tick, of whose vessels these are seen, in the order of their MMSIs, where all traces have taken their step to it:
-    /// begins the traces of the audited pairs that are in contact for the first time, before the last tick. The ranks are those of the
-    /// vessels seen, in the same order; where ranks do not count, there are none.
+    /// Takes the vessels seen at the next tick, in the order of their MMSIs, and their ranks in the same order; no
+    /// ranks if they do not count. All traces must have taken their step to the tick. Begins the traces of the audited
+    /// pairs that are in contact for the first time, before the last tick.
     pub fn tick(&mut self, seen: &[(u32, TickState)], ranks: &[Rank]) -> Result<(), TickFault>
         requires sound { IsSound self.old }
         requires ascending { AreAscending seen.now }
@@ -207,7 +208,7 @@ impl AllTraces {
             → StandsFor self.old numbers ticks after
             → HaveBegun self.new numbers
             (ticks ++ record { vessels = seen.now; ranks = ranks.now } ∷ []) (length ticks) after) }
-        // The limit is met exactly where the tick begins a 4097th trace; memory may run out before.
+        // The limit is exceeded exactly if the tick begins a 4097th trace; memory may run out before.
         ensures many { result ≡ Err TooManyPairs
             → (numbers : AuditNumbers) (ticks : List Sighting) (knowns after : List Known)
             → AreKnown numbers ticks knowns
@@ -330,7 +331,7 @@ impl AllTraces {
         Ok(())
     }
 
-    /// Puts the trace of a pair that begins at this tick behind the others.
+    /// Appends the trace of a pair that begins at this tick.
     fn push(&mut self, pair: Pair) -> Result<(), Memory>
         requires sound { IsSound self.old }
         requires few { traces_of self.old < MOST_TRACES }
@@ -346,7 +347,7 @@ impl AllTraces {
     }
 }
 
-/// Puts these in the place of those before.
+/// Replaces the earlier ones by these.
 fn replace<T: Copy>(latest: &mut Vec<T>, next: &[T]) -> Result<(), Memory>
     ensures { OnOk result (latest.new.items ≡ next.now) }
 {

@@ -1,5 +1,5 @@
-//! Which of the vessels seen at a tick are in contact: a sweep over them from west to east, in which each, or each subject where
-//! there are some, is tested against those alone that lie at most the watch distance further to the east.
+//! Finds the vessels in contact at a tick by a sweep from west to east. Each vessel, or each subject if there are
+//! subjects, is tested only against vessels at most the watch distance further east.
 ghost use Rattle.std.specs.Prelude.{◌≡◌, ◌<◌, ◌≤◌, ◌^◌, [], Some, IfOk, IfSome, IsTrue, ◌↔◌, ◌-ℤ◌, ◌≤ℤ◌, pos, IsPermutation};
 ghost use Rattle.std.specs.List.{Contains};
 ghost use Rattle.fixed_geometry.specs.Sizes.{IsBelow};
@@ -33,7 +33,7 @@ fn joined(first: &(u32, TickState), second: &(u32, TickState), watch: u64) -> Op
     }
 }
 
-/// The pair of two vessels, where they are in contact.
+/// Returns the pair of two vessels, if they are in contact.
 fn pair_of(a: &(u32, TickState), b: &(u32, TickState), watch: u64) -> Option<Pair>
     requires a { IsBelow (2 ^ 33) a.now.1.point }
     requires b { IsBelow (2 ^ 33) b.now.1.point }
@@ -50,7 +50,7 @@ fn pair_of(a: &(u32, TickState), b: &(u32, TickState), watch: u64) -> Option<Pai
     }
 }
 
-/// Adds the pair of two vessels, where they are in contact.
+/// Adds the pair of two vessels, if they are in contact.
 fn add_pair(
     pairs: &mut Vec<Pair>,
     a: &(u32, TickState),
@@ -69,7 +69,7 @@ fn add_pair(
     Ok(())
 }
 
-/// Whether the other vessel lies at most `watch` to the east of a vessel.
+/// Returns whether the other vessel lies at most `watch` to the east of a vessel.
 fn is_in_reach(vessel: &(u32, TickState), other: &(u32, TickState), watch: u64) -> bool
     requires vessel { IsBelow (2 ^ 33) vessel.now.1.point }
     requires other { IsBelow (2 ^ 33) other.now.1.point }
@@ -79,7 +79,7 @@ fn is_in_reach(vessel: &(u32, TickState), other: &(u32, TickState), watch: u64) 
     other.1.point.x - vessel.1.point.x <= watch as i64
 }
 
-/// Adds the pairs of a vessel with the others. None is tested past the first that lies too far to the east.
+/// Adds the pairs of a vessel with the others. It stops at the first vessel that is too far east.
 fn add_pairs(
     pairs: &mut Vec<Pair>,
     vessel: &(u32, TickState),
@@ -102,7 +102,7 @@ fn add_pairs(
     Ok(())
 }
 
-/// The pairs of vessels that stand from west to east.
+/// Returns the pairs of vessels that stand from west to east.
 fn pairs_among(alloc: Global, vessels: &[(u32, TickState)], watch: u64) -> Result<Vec<Pair>, Memory>
     requires placed { ArePlaced vessels.now }
     requires order { AreWestToEast vessels.now }
@@ -116,7 +116,7 @@ fn pairs_among(alloc: Global, vessels: &[(u32, TickState)], watch: u64) -> Resul
     Ok(pairs)
 }
 
-/// Whether a vessel is among these.
+/// Returns whether a vessel is among these.
 fn is_one_of(subjects: &[u32], vessel: &(u32, TickState)) -> bool
     ensures { IsTrue result ↔ Contains subjects.now vessel.now.0 }
 {
@@ -145,7 +145,8 @@ fn add_pairs_of(
     add_pairs(pairs, vessel, vessels, watch)
 }
 
-/// The pairs of vessels that stand from west to east in which one of the subjects is: each of these is tested against all.
+/// Returns the pairs of vessels that stand from west to east in which one of the subjects is: each of these is tested
+/// against all.
 fn pairs_with(
     alloc: Global,
     subjects: &[u32],
@@ -166,7 +167,7 @@ fn pairs_with(
     Ok(pairs)
 }
 
-/// The vessels in the order of their eastings.
+/// Returns the vessels in the order of their eastings.
 fn west_to_east(alloc: Global, seen: &[(u32, TickState)]) -> Result<Vec<(u32, TickState)>, Memory>
     ensures same { IfOk result (λ vessels. IsPermutation seen.now vessels.items) }
     ensures order { IfOk result (λ vessels. AreWestToEast vessels.items) }

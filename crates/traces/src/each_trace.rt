@@ -1,4 +1,4 @@
-//! All traces of a window: as each takes its step, as further ones begin, and as each ends.
+//! All traces of a window: the step of each, the beginning of further ones, and the end of each.
 ghost use Rattle.std.specs.Prelude.{ℕ, ◌≡◌, ◌≢◌, ◌+◌, ◌-◌, ◌<◌, ◌≤◌, ◌++◌, ◌∷◌, ◌^◌, [], List, length, All, OnOk};
 ghost use Rattle.std.specs.List.{AllPairs, Contains};
 ghost use Rattle.traces.specs.Audited.{AreAscending, ArePlaced, AuditNumbers, MoveLittle, Sighting};
@@ -14,7 +14,7 @@ use meetings::Pair;
 use motion::TickState;
 use out_of_memory::Memory;
 
-/// Gives each trace its next row: that of the step with this number, to the tick at which these vessels are seen.
+/// Passes each trace its next row: that of the step with this number, to the tick at which these vessels are seen.
 pub(crate) fn follow_each<K: TraceKeeper>(
     traces: &mut AllTraces,
     kept: &mut [K::Kept],
@@ -89,7 +89,7 @@ fn begin_one<K: TraceKeeper>(
     Ok(())
 }
 
-/// Begins the traces that have begun at this step, which come after those that there were.
+/// Begins the traces that start at this step, which follow the earlier ones.
 pub(crate) fn begin_each<K: TraceKeeper>(
     traces: &AllTraces,
     kept: &mut Vec<K::Kept>,

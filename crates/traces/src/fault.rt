@@ -8,7 +8,7 @@ use std::fmt;
 pub enum TickFault {
     /// The tick begins a 4097th trace.
     TooManyPairs,
-    /// There was no memory.
+    /// Memory ran out.
     Memory,
 }
 

@@ -1,4 +1,4 @@
-//! One trace: its next step, and what that answers to the atoms.
+//! One trace: its next step, and the values of the atoms at it.
 ghost use Rattle.std.specs.Prelude.{◌≡◌, ◌<◌, ◌^◌, ◌++◌, ◌∷◌, [], List, length, IfSome};
 ghost use Rattle.std.specs.Option.{option_copied};
 ghost use Rattle.encounters.specs.Directions.{HaveDirections};
@@ -17,19 +17,20 @@ use meetings::{AtomRow, BOTH_POWER_DRIVEN, ByRank, Follower, Pair, step_between}
 use motion::TickState;
 use ranks::Rank;
 
-/// One trace: its pair, its first step, and the engagement. It stands for the steps so far.
+/// One trace: its pair, its first step, and the engagement. Its model is the list of steps so far.
 #[derive(Drop)]
 pub(crate) struct FollowedTrace {
     pub(crate) pair: Pair,
-    /// Where the subject and the other were found last among those seen. Nothing rests on it but how fast they are found.
+    /// The indices at which the subject and the other were last found among the vessels seen. Only the speed of the
+    /// search depends on them.
     subject_place: usize,
     other_place: usize,
     start: u32,
     follower: Follower,
 }
 
-/// What the ranks of the vessels of a pair say, where these are seen with their ranks. The places are where the two may be.
-/// It stands apart, so that a row at which no engagement begins is as fast as without it.
+/// Returns the duties by rank of a pair, if its vessels are seen with ranks. The places are indices at which the two
+/// may be. It is a separate function, so that it does not slow down rows at which no engagement begins.
 #[inline(never)]
 fn by_rank_near(
     seen: &[(u32, TickState)],
@@ -67,8 +68,8 @@ impl FollowedTrace {
         }
     }
 
-    /// Its next step, from the one sighting to the next: `None` where either vessel is not seen at either. It still stands for the
-    /// steps so far, and only remembers where the vessels are.
+    /// Returns its next step, from one sighting to the next: `None` if either vessel is not seen at either. Its model
+    /// is unchanged; it only remembers the indices of the vessels.
     #[inline(always)]
     pub(crate) fn next_step(
         &mut self,
@@ -98,8 +99,8 @@ impl FollowedTrace {
         step_between(a0, b0, a1, b1)
     }
 
-    /// Takes this step from the tick at which these vessels are seen with their ranks, and gives its row. Their ranks are looked up
-    /// only where an engagement begins.
+    /// Takes this step from the tick at which these vessels are seen with their ranks; returns its row. It looks up
+    /// their ranks only if an engagement begins.
     #[inline(always)]
     pub(crate) fn take_step(
         &mut self,
@@ -125,7 +126,7 @@ impl FollowedTrace {
         })
     }
 
-    /// The state of the engagement at its latest step; apart before the first.
+    /// Returns the state of the engagement at its latest step; apart before the first.
     #[inline(always)]
     pub(crate) fn state(&self) -> EngagementState
         ensures { (numbers : AuditNumbers) (ticks : List Sighting) (known : Known)

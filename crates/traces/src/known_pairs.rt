@@ -1,4 +1,4 @@
-//! Which pairs have a trace.
+//! The pairs with a trace.
 ghost use Rattle.std.specs.Prelude.{◌≡◌, ◌↔◌, ◌⊎◌, [], IsTrue, OnOk};
 ghost use Rattle.std.specs.List.{Contains};
 ghost use Rattle.meetings.specs.declared.pair.Pair.{Pair};
@@ -7,7 +7,7 @@ use meetings::Pair;
 use out_of_memory::Memory;
 use std::collections::BTreeSet;
 
-/// Whether a pair is among these.
+/// Returns whether a pair is among these.
 pub fn is_among(pairs: &BTreeSet<Pair>, pair: Pair) -> bool
     ensures { IsTrue result ↔ Contains pairs.now.keys pair }
 {
@@ -24,7 +24,7 @@ pub fn add(pairs: &mut BTreeSet<Pair>, pair: Pair) -> Result<(), Memory>
     Ok(())
 }
 
-/// Whether a pair is audited, whichever of the two is the subject: where there are no subjects, any is.
+/// Returns whether a pair is audited, whichever of the two is the subject; without subjects, every pair is audited.
 pub fn is_chosen(subjects: &[u32], pair: Pair) -> bool
     ensures { IsTrue result
         ↔ ((subjects.now ≡ []) ⊎ Contains subjects.now pair.subject
@@ -33,7 +33,7 @@ pub fn is_chosen(subjects: &[u32], pair: Pair) -> bool
     subjects.is_empty() || has_one(subjects, pair)
 }
 
-/// Whether one of a pair is among these. They are few, so that each is compared in line.
+/// Returns whether one of a pair is among these. They are few, so a linear search suffices.
 fn has_one(subjects: &[u32], pair: Pair) -> bool
     ensures { IsTrue result
         ↔ (Contains subjects.now pair.subject ⊎ Contains subjects.now pair.other) }
@@ -46,7 +46,7 @@ fn has_one(subjects: &[u32], pair: Pair) -> bool
     false
 }
 
-/// Whether a vessel is one of a pair.
+/// Returns whether a vessel is one of a pair.
 fn is_one(pair: Pair, mmsi: u32) -> bool
     ensures { IsTrue result ↔ ((mmsi ≡ pair.subject) ⊎ (mmsi ≡ pair.other)) }
 {

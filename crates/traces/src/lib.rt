@@ -1,14 +1,14 @@
 //! The traces of ordered pairs of vessels: which of those seen at a tick are in contact, when the trace of each audited pair begins,
 //! and each trace's rows of atoms, one step after the other.
 //!
-//! At each tick every trace takes its next step, which gives a row of atoms, and then the tick is taken, which begins the traces of
-//! the pairs that are in contact for the first time. Where ranks of vessels are given with the ticks, the atoms of ranks answer by those
-//! at the tick at which the engagement began; with no ranks all vessels are power-driven.
+//! At each tick every trace takes its next step, which gives a row of atoms, and then the tick is taken, which begins
+//! the traces of the pairs that are in contact for the first time. If the ticks have ranks of vessels, the atoms of
+//! ranks use those at the tick at which the engagement began; without ranks all vessels are power-driven.
 //!
-//! Two vessels that are in contact at tick 5 for the first time have two traces from step 5 on, one for each order of them. When tick 8 was taken,
-//! each has had three rows: those of the steps 5, 6 and 7.
-//! `TraceWindow` does this for a keeper of traces, which says what is done as a trace begins, takes a row and ends.
-//! Marks, rules and rows of reports are out of scope: an audit and a watch are keepers of these traces.
+//! Two vessels that are in contact at tick 5 for the first time have two traces from step 5, one for each order of the
+//! two. After tick 8, each has had three rows: those of the steps 5, 6 and 7. `TraceWindow` does this for a keeper of
+//! traces, which defines what happens when a trace begins, takes a row and ends. Marks, rules and rows of reports are
+//! out of scope: an audit and a watch are keepers of these traces.
 #![tactic(auto)]
 
 mod all_traces;

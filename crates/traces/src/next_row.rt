@@ -7,7 +7,7 @@ use meetings::AtomRow;
 pub struct NextRow<'a> {
     /// The step: `None` if either vessel is not seen at either tick.
     pub seen: Option<&'a PairStep>,
-    /// What it answers to the atoms.
+    /// The values of the atoms at it.
     pub row: &'a AtomRow,
     /// The state of the engagement before the step.
     pub was: &'a EngagementState,

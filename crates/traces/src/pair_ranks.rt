@@ -1,4 +1,4 @@
-//! What the ranks of two vessels say of a pair.
+//! The duties of a pair by the ranks of its vessels.
 ghost use Rattle.std.specs.Prelude.{◌≡◌, ◌&&◌};
 ghost use Rattle.ranks.specs.declared.rank.Rank.TheVariants.{Power};
 ghost use Rattle.traces.specs.PairRanks.{by_rank_of, is_rank};
@@ -18,7 +18,7 @@ fn are_power(a: Rank, b: Rank) -> bool
     is_power(a) && is_power(b)
 }
 
-/// What Rule 18 says of a pair (A, B) whose vessels have these ranks.
+/// Returns the duties by Rule 18 of a pair (A, B) whose vessels have these ranks.
 pub fn by_rank(a: Rank, b: Rank) -> ByRank
     ensures { result ≡ by_rank_of a b }
 {

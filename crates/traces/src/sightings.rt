@@ -9,7 +9,7 @@ ghost use Rattle.ranks.specs.declared.rank.Rank.TheVariants.{Power};
 use motion::TickState;
 use ranks::Rank;
 
-/// How many of the vessels have a lesser MMSI: a search by halves.
+/// Returns the number of vessels with a smaller MMSI, by bisection.
 fn count_below(seen: &[(u32, TickState)], mmsi: u32) -> usize
     requires { AreAscending seen.now }
     ensures bound { result ≤ length seen.now }
@@ -19,7 +19,7 @@ fn count_below(seen: &[(u32, TickState)], mmsi: u32) -> usize
     seen.partition_point(|vessel| vessel.0 < mmsi)
 }
 
-/// Whether this number of the vessels have a lesser MMSI, which the two at that place show.
+/// Returns whether this number of the vessels have a lesser MMSI, which the two at that place show.
 #[inline(always)]
 fn is_count_below(seen: &[(u32, TickState)], count: usize, mmsi: u32) -> bool
     requires { AreAscending seen.now }
@@ -32,7 +32,7 @@ fn is_count_below(seen: &[(u32, TickState)], count: usize, mmsi: u32) -> bool
     count == seen.len() || mmsi <= seen[count].0
 }
 
-/// The state of a vessel where so many of those seen have lesser MMSIs.
+/// Returns the state of a vessel where so many of those seen have lesser MMSIs.
 fn state_behind(seen: &[(u32, TickState)], below: usize, mmsi: u32) -> Option<&TickState>
     requires ascending { AreAscending seen.now }
     requires parts { IsPartitionPoint (λ vessel. vessel.0 < mmsi)
@@ -47,7 +47,7 @@ fn state_behind(seen: &[(u32, TickState)], below: usize, mmsi: u32) -> Option<&T
     }
 }
 
-/// The state of a vessel among those seen, which ascend by their MMSIs: `None` where she is not seen.
+/// Returns the state of a vessel among those seen, which ascend by their MMSIs: `None` where she is not seen.
 pub fn state_of(seen: &[(u32, TickState)], mmsi: u32) -> Option<&TickState>
     requires { AreAscending seen.now }
     ensures { option_copied result ≡ state_in mmsi seen.now }
@@ -77,7 +77,8 @@ pub(crate) fn state_near<'a>(
     state_behind(seen, *place, mmsi)
 }
 
-/// The place of a vessel among those seen, if she is among them: the one that is given, where she has it, or the one that a search finds.
+/// Returns the place of a vessel among those seen, if she is among them: the one that is given, where she has it, or
+/// the one that a search finds.
 fn place_near(seen: &[(u32, TickState)], mmsi: u32, place: usize) -> usize
     requires { AreAscending seen.now }
     ensures { IsPlaceOf seen.now mmsi result }
@@ -100,8 +101,8 @@ fn rank_at(ranks: &[Rank], place: usize) -> Rank
     }
 }
 
-/// The rank of a vessel among those seen, which have these ranks. The place is where she may be: where another vessel has it, or none,
-/// she is searched.
+/// Returns the rank of a vessel among those seen, which have these ranks. The place is where she may be: where another
+/// vessel has it, or none, she is searched.
 pub(crate) fn rank_near(seen: &[(u32, TickState)], ranks: &[Rank], mmsi: u32, place: usize) -> Rank
     requires { AreAscending seen.now }
     ensures { result ≡ rank_in mmsi (record { vessels = seen.now; ranks = ranks.now }) }

@@ -1,16 +1,16 @@
-//! What is done with each trace of a window.
+//! The use of each trace of a window.
 use crate::next_row::NextRow;
 use meetings::Pair;
 use out_of_memory::Memory;
 
-/// Does something with each trace of a window: an audit marks stretches, a watch finds alarms. After an `Err` the keeper may only be
-/// dropped.
+/// A user of each trace of a window: an audit marks stretches, a watch finds alarms. After an `Err` the caller may only
+/// drop the keeper.
 pub trait TraceKeeper: Drop {
     ghost use Rattle.std.specs.Prelude.{◌<◌, ◌≤◌, ◌^◌, IfOk, OnOk};
     ghost use Rattle.traces.specs.Keeping.{HasBegunTrace, HasEndedTrace, HasTakenStep, Keeper};
     ghost use Rattle.traces.specs.declared.all_traces.TheConstants.{MOST_TRACES};
 
-    /// What is kept of one trace.
+    /// The stored state of one trace.
     type Kept: Drop;
 
     // what was given of the traces before

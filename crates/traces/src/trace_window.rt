@@ -8,12 +8,12 @@ use out_of_memory::Memory;
 use ranks::Rank;
 use std::alloc::Global;
 
-/// The window of traces, which takes one tick after the other: it finds the pairs in contact, begins their traces, gives each trace
-/// its next row, and ends them. What is done with a trace is its keeper's.
+/// The window of traces, which takes one tick after the other: it finds the pairs in contact, begins their traces,
+/// gives each trace its next row, and ends them. The keeper defines the use of a trace.
 #[derive(Drop)]
 pub struct TraceWindow<K: TraceKeeper> {
     traces: AllTraces,
-    /// What is kept of each trace, in the order of the traces.
+    /// The stored state of each trace, in the order of the traces.
     kept: Vec<K::Kept>,
     pub keeper: K,
 }
@@ -45,23 +45,24 @@ impl<K: TraceKeeper> TraceWindow<K> {
         }
     }
 
-    /// How many ticks were given.
+    /// Returns the number of ticks so far.
     pub fn given(&self) -> u32
         ensures { result ≡ given_of (traces_in self.now) }
     {
         self.traces.given()
     }
 
-    /// The number of the window's last tick.
+    /// Returns the number of the window's last tick.
     pub fn last_tick(&self) -> u32
         ensures { result ≡ last_tick_of (traces_in self.now) }
     {
         self.traces.last_tick()
     }
 
-    /// Takes the next tick: gives each trace its next row, and begins the traces of the audited pairs that are in contact for the first
-    /// time, before the last tick. These vessels are seen at the tick, in the order of their MMSIs. The ranks are those of the vessels
-    /// seen, in the same order; if ranks do not count, there are none. After an `Err` the window may only be dropped.
+    /// Takes the next tick: gives each trace its next row, and begins the traces of the audited pairs that are in
+    /// contact for the first time, before the last tick. These vessels are seen at the tick, in the order of their
+    /// MMSIs. The ranks are those of the vessels seen, in the same order; no ranks if they do not count. After an `Err`
+    /// the caller may only drop the window.
     pub fn tick(&mut self, seen: &[(u32, TickState)], ranks: &[Rank]) -> Result<(), TickFault>
         requires sound { IsSoundWindow (K.keeper self.old.keeper) self.old }
         requires ascending { AreAscending seen.now }
@@ -80,7 +81,7 @@ impl<K: TraceKeeper> TraceWindow<K> {
             → WindowStandsFor (K.keeper self.old.keeper) self.old numbers ticks knowns given
             → HasTakenTick (K.keeper self.new.keeper) self.new numbers ticks
             (record { vessels = seen.now; ranks = ranks.now }) knowns given) }
-        // The limit is met exactly if the tick begins a 4097th trace; memory may run out before.
+        // The limit is exceeded exactly if the tick begins a 4097th trace; memory may run out before.
         ensures many { result ≡ Err TooManyPairs
             → (numbers : AuditNumbers) (ticks : List Sighting) (knowns : List Known)
             (given : K.Given)
@@ -107,7 +108,7 @@ impl<K: TraceKeeper> TraceWindow<K> {
         Ok(())
     }
 
-    /// Ends each trace, after the last tick of the window, and gives the keeper.
+    /// Ends each trace, after the last tick of the window, and returns the keeper.
     pub fn end(self) -> Result<K, Memory>
         requires sound { IsSoundWindow (K.keeper self.keeper) self }
         ensures { IfOk result
