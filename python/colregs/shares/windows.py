@@ -6,14 +6,13 @@ vessels are engaged in a window at no step at which they are not engaged in the 
 which they are not, or a meeting of theirs has ended in the window, the two agree; that step is called the pair's `sync`
 here. A window supplies what comes after the last settled step of the one before.
 """
-from collections.abc import Iterable
 from dataclasses import dataclass, field
 
 from colregs.errors import Fault
 from colregs.model.formulas import YES, Sight, sight_of
 from colregs.model.scenario import Scenario
 from colregs.shares.heads import STRADDLE, agreed_from
-from colregs.shares.results import Pair, Rows, Stretch
+from colregs.shares.results import Pair, Rows, Stretch, in_order
 
 CUT, DOUBT = "cut", "doubt"
 ALWAYS = -1                                             # the sync of what agrees from a window's beginning on
@@ -58,8 +57,12 @@ class Window:
 
     def __post_init__(self) -> None:
         for row in self.rows.stretches:
-            row.moored = self.rows.still.issuperset(row.pair)
-            self.of_pair.setdefault(row.pair, []).append(row)
+            self.of_pair.setdefault(row.kind.pair, []).append(row)
+        for pair, rows in self.of_pair.items():
+            moored = self.rows.still.issuperset(pair)
+            for row in rows:
+                row.moored = moored
+        self.rows.stretches = []                        # `of_pair` has them
 
     def known_from(self, pair: Pair) -> int | None:
         """Returns the step from which on the window is known to agree with the whole about a pair."""
@@ -95,16 +98,13 @@ class Joining:
             found += self.settle(
                 window,
                 self.rows_from_first(window, pair) if before is None else self.rows_from_next(before, window, pair))
-        given, self.held, self.before = self.in_order(self.held), found, window
+        given, self.held, self.before = in_order(self.held, self.rules), found, window
         return given
 
     def finish(self) -> list[Stretch]:
         """Returns the rows that are left."""
-        given, self.held = self.in_order(self.held), []
+        given, self.held = in_order(self.held, self.rules), []
         return given
-
-    def in_order(self, rows: Iterable[Stretch]) -> list[Stretch]:
-        return sorted(rows, key=lambda row: row.order(self.rules))
 
     def tie(self, before: Window, window: Window) -> None:
         """Finds from where on the vessels of a window agree with those of the one before it."""
@@ -147,7 +147,7 @@ class Joining:
         return self.scenario.steps(self.sight(row).back)
 
     def sight(self, row: Stretch) -> Sight:
-        return OF_A_RULE if row.is_meeting else self.sights.get(row.fields[3], OF_A_RULE)
+        return OF_A_RULE if row.is_meeting else self.sights.get(row.kind.rule, OF_A_RULE)
 
     def settle(self, window: Window, rows: list[Stretch]) -> list[Stretch]:
         """Keeps the rows of a pair that go on after the settled step as pending, and returns those that end by it; what
@@ -228,7 +228,7 @@ class Joining:
         row = old.spanning(old.first, new.last)
         row.moored = old.moored and new.moored
         if row.is_meeting:
-            row.fields[6] = str(min(int(old.fields[6]), int(new.fields[6])))
+            row.least = str(min(int(old.least), int(new.least)))
             return row
         return row if known else self.mark(row, CUT)
 
@@ -257,11 +257,13 @@ class Joining:
 
     def is_common(self, row: Stretch, sync: int, border: int) -> bool:
         """Returns whether two windows have to report the beginning of a row alike."""
+        if not sync < row.first <= border:
+            return False
         sight = self.sight(row)
-        return sight.values == {YES} and sight.no_edge and sync + self.back(row) < row.first <= border
+        return sight.values == {YES} and sight.no_edge and sync + self.back(row) < row.first
 
     def common(self, row: Stretch, border: int) -> tuple[str, ...]:
         """Returns what of a row two windows have to report alike: all of it, or its beginning if it goes on over the
         settled step."""
-        end = row.fields[row.at + 1:] if row.last <= border else ("..",)
+        end = (str(row.last), row.least) if row.last <= border else ("..",)
         return (*row.track, str(row.first), *end)

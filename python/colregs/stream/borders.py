@@ -50,7 +50,7 @@ class Border:
         over = [(str(text), tuple(map(str, marks))) for text, marks in told["over"]]
         return Border(bool(told["known"]), False, {(int(one), int(two))
                                                    for one, two in told["open"]},
-                      over={track_of(stretch_of(text.split(","))): (text, marks)
+                      over={track_of(stretch_of(text, {})): (text, marks)
                             for text, marks in over})
 
 
@@ -82,7 +82,7 @@ class Borders:
 
     def take(self, start: int, text: str) -> Marks:
         """Takes a row of the window that begins at a time; returns its marks."""
-        row, border, following = stretch_of(text.split(",")), self.at(start), self.at(start + self.length)
+        row, border, following = stretch_of(text, {}), self.at(start), self.at(start + self.length)
         self.compare_early(start, border, row)
         marks = self.marks(border, row)
         if row.last > self.last and row.is_meeting and (row.first <= self.base or BEFORE in marks):
@@ -108,12 +108,12 @@ class Borders:
         if border.known and row.first <= self.last - self.every < row.last:
             border.met.add(track_of(row))
             old = border.over.get(track_of(row))
-            before = before or old is None or stretch_of(old[0].split(",")).first - self.every != row.first
+            before = before or old is None or stretch_of(old[0], {}).first - self.every != row.first
         return before
 
     def is_of_meetings(self, row: Stretch) -> bool:
         """Returns whether a row's rule or formula speaks of what both windows see alike."""
-        sight = None if row.is_meeting else self.sights.get(row.fields[3])
+        sight = None if row.is_meeting else self.sights.get(row.kind.rule)
         return sight is None or sight.values == {YES} and sight.no_edge
 
     # what two windows both have
@@ -146,7 +146,7 @@ class Borders:
 
     def is_common(self, row: Stretch, sync: int) -> bool:
         """Returns whether two windows that agree from a step on report a row alike."""
-        sight = None if row.is_meeting else self.sights.get(row.fields[3])
+        sight = None if row.is_meeting else self.sights.get(row.kind.rule)
         return row.last <= self.last - self.every and self.is_of_meetings(
             row) and row.first > sync + (sight.back if sight else 0)
 
@@ -184,4 +184,4 @@ class Borders:
 
 def common(row: Stretch) -> tuple[str, ...]:
     """Returns what of a row two windows have to report alike."""
-    return (*row.track, str(row.first), *row.fields[row.at + 1:])
+    return (*row.track, str(row.first), str(row.last), row.least)
