@@ -5,6 +5,8 @@ import functools
 import re
 from dataclasses import dataclass
 
+from colregs.io.sentences import total
+
 LONGEST = 1024                      # bytes of a line that is read
 JOINED_WITHIN = 30                  # s that a part may come after the first part of its message
 MOST_PARTS = 9
@@ -19,15 +21,6 @@ PLAIN = re.compile(rb"\\c:\d{7}")                # how most tag blocks begin: th
 SENTENCE = re.compile(
     rb"!([A-Z0-9]{2}VD[MO],([1-9]),([1-9]),(\d?),([A-Za-z0-9]?),([^,]+),([0-5]))\*([0-9A-Fa-f]{2})(?:[, \t].*)?", re.S)
 SIX = {letter: value for value, letter in enumerate(bytes(range(48, 88)) + bytes(range(96, 120)))}
-
-
-def total(body: bytes) -> int:
-    """Returns the exclusive or of bytes: the halves of one number are folded until they are a byte."""
-    value, width = int.from_bytes(body, "big"), 8 << max(0, len(body) - 1).bit_length()
-    while width > 8:
-        width >>= 1
-        value ^= value >> width
-    return value & 0xFF
 
 
 def line_of(line: bytes) -> bytes:
