@@ -26,14 +26,19 @@ from collections import Counter
 from dataclasses import dataclass, field
 from typing import Any
 
-from crowd import stretches
-from colregs.errors import Fault
-from colregs.io import sentences
-from colregs.model.scenario import Scenario
-from colregs.run.program import found
-from colregs.shares import cutter, join, places, plans, seen, spans
-from colregs.shares.jobs import Job, job_of
-from colregs.shares.reads import Read
+if __name__ == "__main__":
+    sys.path[:0] = [
+        os.path.dirname(os.path.abspath(__file__)),
+        os.path.dirname(os.path.dirname(os.path.abspath(__file__)))
+    ]
+from crowd import stretches  # noqa: E402
+from colregs.errors import Fault  # noqa: E402
+from colregs.io import sentences  # noqa: E402
+from colregs.model.scenario import Scenario  # noqa: E402
+from colregs.run.program import found  # noqa: E402
+from colregs.shares import cutter, join, places, plans, seen, spans  # noqa: E402
+from colregs.shares.jobs import Job, job_of  # noqa: E402
+from colregs.shares.reads import Read  # noqa: E402
 
 START, TICK = 1700006400, 10
 FIRST_MMSI = 200000001
