@@ -66,9 +66,10 @@ class Stored(InFolder):
                  Part(True, begin + 90, begin + 150, begin + 150, {MMSI: [east, 0, east, 0]}),
                  Part(True, begin + 5000, begin + 5060, begin + 5060, {MMSI: [5 * east, 0, 5 * east, 0]})]
         points = BoxPoints([parts[:1], parts[1:]], scenario, (begin - 200, begin + 6000), begin + 6000)
-        for at, west, near in ((begin + 100, 4000.0, True), (begin + 5030, 4000.0, False), (begin + 5030, 49000.0, True)):
+        for after, west, near in ((100, 4000.0, True), (5030, 4000.0, False), (5030, 49000.0, True)):
             tile: places.Tile = [west, None, west + 3000, None]
-            self.assertEqual(points.near([MMSI], tile, (at, at), 0), [MMSI] if near else [], (at, west))
+            at = begin + after, begin + after
+            self.assertEqual(points.near([MMSI], tile, at, 0), [MMSI] if near else [], (after, west))
 
 
 @with_program
@@ -115,7 +116,8 @@ class Near(InFolder):
                 last, before[mmsi] = (last if at - last[0] <= made.scenario.gap else here), here
                 for second in range(last[0], at + 1, 10):
                     part = (second - last[0]) / max(1, at - last[0])
-                    found.append((mmsi, second, last[1] + part * (here[1] - last[1]), last[2] + part * (here[2] - last[2])))
+                    east, north = (one + part * (other - one) for one, other in zip(last[1:], here[1:]))
+                    found.append((mmsi, second, east, north))
         return found
 
     def test_the_next_plan_reads_the_boxes_and_no_file(self) -> None:
@@ -131,6 +133,6 @@ class Near(InFolder):
         self.assertEqual((reads.call_count, span.call_count), (0, 0))
         self.assertGreater(len({tuple(job["vessels"]) for job in first}), 1)
         with open(self.path("log"), "ab") as out:
-            out.write(drawn_logs.stamped(5, sentences.sentence(sentences.class_a(799999999, (0, 0, 0, 0, 0, 0)))) + b"\n")
+            out.write(drawn_logs.stamped(5, sentences.sentence(sentences.class_a(799999999, (0,) * 6))) + b"\n")
         again = list(plans.plan([self.path("log")], wanted, scenario, None))
         self.assertTrue(any(799999999 in job["vessels"] for job in again))

@@ -285,7 +285,8 @@ class Meetings(InFolder):
     def whole_alarms(self, rows: list[tuple[float, bytes]]) -> list[str]:
         text = b"".join(line + b"\n" for _, line in sorted(rows, key=lambda row: row[0]))
         done = subprocess.run([PROGRAM, "watch", self.path("s.toml")], input=text, capture_output=True)
-        return [absolute(row, drawn_logs.START) for row in done.stdout.decode().splitlines() if row.startswith("alarm,")]
+        found = done.stdout.decode().splitlines()
+        return [absolute(row, drawn_logs.START) for row in found if row.startswith("alarm,")]
 
     def test_alarms_of_a_meeting_that_began_before_their_window_say_so(self) -> None:
         told, whole = self.check_alarms(self.abreast(), test_joins.SCENARIO.replace("ticks = 2160", "ticks = 540"))

@@ -149,7 +149,7 @@ class Borders:
         return (BEFORE,) * before + (DOUBT,) * doubt
 
     def in_question(self, start: int) -> list[tuple[Pair, str]]:
-        """Returns of whom the window that begins at a time may lack alarms, and why; (0, 0) stands for all pairs."""
+        """Returns the pairs whose alarms the window that begins at a time may lack, and why; (0, 0) stands for all."""
         border = self.at(start)
         found = [((0, 0), f"the formula {name} is not of meetings alone")
                  for name, sight in self.sights.items()

@@ -515,7 +515,7 @@ class Follow:
             self.health.rows += self.written.write(row, "audit", start, self.numbers.tick, (*marks, AFTER))
 
     def write_questions(self, start: int, questions: list[tuple[tuple[int, int], str]]) -> None:
-        """Writes of whom the window that begins at a time may lack alarms among its own steps."""
+        """Writes which pairs may lack alarms among the own steps of the window that begins at a time."""
         self.borders.fresh.clear()
         first, last = self.numbers.behind - self.numbers.reach, self.numbers.last
         bounds = start + first * self.numbers.tick, start + (last + 1) * self.numbers.tick

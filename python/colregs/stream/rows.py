@@ -47,7 +47,7 @@ def steps_of(text: str) -> tuple[int, int]:
 
 
 MISSING = "missing"              # the kind of a line that says that a window has no rows, or not all
-UNSURE = "unsure"                # the kind of a line that says of whom a window may lack alarms
+UNSURE = "unsure"                # the kind of a line that names a pair whose alarms a window may lack
 
 
 class Sink(Protocol):
