@@ -4,7 +4,7 @@ import unittest
 import drawn_logs
 from given import PROGRAM, with_program
 
-NUMBERS = range(9000, 9060)         # some ten CPU seconds; dev/bench/all runs 20,000
+NUMBERS = range(9000, 9080)         # some ten CPU seconds, 0.13 each; dev/bench/all runs 20,000
 
 
 @with_program

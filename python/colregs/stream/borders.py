@@ -226,7 +226,8 @@ class Borders:
         """Takes what an earlier run stored."""
         self.borders = {int(start): Border.load(border) for start, border in told.get("borders", {}).items()}
         self.doubtful = {(int(one), int(two)): int(start) for one, two, start in told.get("doubtful", [])}
-        self.begin = None if told.get("begin") is None else int(told["begin"])
+        # if the first window of all is not known, each one has another before it
+        self.begin = -1 if told.get("begin") is None else int(told["begin"])
 
     def take_window(self, start: int) -> None:
         """Takes the start of a window that begins; the first of all begins with the stream."""
