@@ -4,7 +4,9 @@ import unittest
 import drawn_logs
 from given import PROGRAM, with_program
 
-NUMBERS = range(9000, 9080)         # some ten CPU seconds, 0.13 each; dev/bench/all runs 20,000
+# some ten CPU seconds, 0.13 each; dev/bench/all runs 20,000. The last one had a row missing without a word, in a window
+# after one that did not see a long meeting
+NUMBERS = (*range(9000, 9079), 100116)
 
 
 @with_program

@@ -228,7 +228,7 @@ def box_points(made: Plan, begin: int) -> BoxPoints | None:
     parts = [index.parts(span) for span in made.spans[first:end]]
     files = [part for part in parts if part is not None]
     until = made.start + (begin + length) * made.scenario.tick
-    # what is before the first of the files is over by the window's first line, but for a vessel's way into it
+    # no line before the first of these files is one of the window's
     return BoxPoints(files, made.scenario, made.lines(0, made.ticks), until) if len(files) == len(parts) else None
 
 

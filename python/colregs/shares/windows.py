@@ -12,6 +12,7 @@ from colregs.errors import Fault
 from colregs.model.formulas import YES, Sight, sight_of
 from colregs.model.scenario import Scenario
 from colregs.shares.heads import STRADDLE, agreed_from
+from colregs.shares.partings import parted
 from colregs.shares.results import Pair, Rows, Stretch, in_order
 
 CUT, DOUBT = "cut", "doubt"
@@ -85,6 +86,7 @@ class Joining:
         self.pending: dict[Pair, list[Stretch]] = {}
         self.held: list[Stretch] = []
         self.doubtful: set[Pair] = set()
+        self.unknown: set[Pair] = set()         # about these the window before nowhere agrees with the whole
 
     def take(self, window: Window) -> list[Stretch]:
         """Takes the next window; returns the rows of those before it, in order."""
@@ -94,10 +96,11 @@ class Joining:
         if before is not None:
             self.tie(before, window)
         found: list[Stretch] = []
-        for pair in sorted(set(window.of_pair) | set(self.pending)):
+        for pair in sorted({*window.of_pair, *self.pending, *self.unknown}):
             found += self.settle(
                 window,
                 self.rows_from_first(window, pair) if before is None else self.rows_from_next(before, window, pair))
+        self.unknown = {pair for pair, sync in window.pair_syncs.items() if sync is None}
         given, self.held, self.before = in_order(self.held, self.rules), found, window
         return given
 
@@ -170,7 +173,7 @@ class Joining:
             sync = window.pair_syncs[pair] = None
         if sync is None and self.is_doubtful(window, pair):
             return [self.mark(row, DOUBT) for row in [*pending, *(row for row in rows if row.first > border)]]
-        if (sync is None or sync > border + 1) and (pending or rows):
+        if (sync is None or sync > border + 1) and (pending or rows or pair in self.unknown):
             self.doubt(window, border + 1, window.end if sync is None else sync, pair, CUT, LONG)
         crossing = {row.track: row for row in rows if row.first <= border + 1 <= row.last}
         made = [self.over_border(old, crossing.pop(old.track, None), border, sync) for old in pending]
@@ -198,7 +201,19 @@ class Joining:
             if step <= before.settled:
                 return step
         ends = [row.last + 1 for row in window.of_pair.get(pair, []) if row.is_meeting and low <= row.last]
+        at = self.parted(window, pair, low)
+        if at is not None:
+            ends.append(at)
         return min((end for end in ends if end <= window.settled), default=None)
+
+    def parted(self, window: Window, pair: Pair, low: int) -> int | None:
+        """Returns the first step from `low` on at which the reports about a window's beginning show that two vessels
+        are not engaged; None if they do not show it."""
+        tick, checks = self.scenario.tick, window.rows.checks
+        base = window.start - window.first * tick
+        found = parted(checks.get(pair[0], []), checks.get(pair[1], []),
+                       (base + low * tick, window.head - self.scenario.gap), self.scenario)
+        return None if found is None else (found - base) // tick
 
     def mark(self, row: Stretch, mark: str) -> Stretch:
         row.mark = row.mark or mark

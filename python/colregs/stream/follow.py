@@ -431,8 +431,7 @@ class Follow:
         if not run.is_mine(int(fields[1]), int(fields[2]), self.scenario.subjects):
             return
         marks = (self.borders.take if run.mode == "audit" else self.borders.of_alarm)(start, row)
-        if self.borders.fresh:
-            self.write_questions(start, [(pair, DIFFERS) for pair in sorted(self.borders.fresh)])
+        self.write_differing(start)
         if run.cut and run.closed is not None and last > numbers.settled(start, run.closed, run.mode):
             return                                      # what comes later may still change it
         if run.mode not in self.given.modes:
@@ -504,6 +503,7 @@ class Follow:
         window lacks, are written with a mark."""
         start, following = run.window.start, run.window.start + self.numbers.length
         self.write_over(start - self.numbers.length, self.borders.end(start))
+        self.write_differing(start)
         if following in self.ending or self.has_audit(following):
             self.write_questions(following, self.borders.in_question(following))
         elif not self.is_last(run):
@@ -514,9 +514,15 @@ class Follow:
         for row, marks in rows if "audit" in self.given.modes else ():
             self.health.rows += self.written.write(row, "audit", start, self.numbers.tick, (*marks, AFTER))
 
+    def write_differing(self, start: int) -> None:
+        """Writes about which pairs the window that begins at a time turned out to differ from the one before it."""
+        if self.borders.fresh:
+            self.write_questions(start, [(pair, DIFFERS) for pair in sorted(self.borders.fresh)])
+            self.borders.fresh.clear()
+
     def write_questions(self, start: int, questions: list[tuple[tuple[int, int], str]]) -> None:
-        """Writes which pairs may lack alarms among the own steps of the window that begins at a time."""
-        self.borders.fresh.clear()
+        """Writes which pairs may lack alarms among the own steps of the window that begins at a time, or have wrong
+        ones."""
         first, last = self.numbers.behind - self.numbers.reach, self.numbers.last
         bounds = start + first * self.numbers.tick, start + (last + 1) * self.numbers.tick
         for pair, why in questions if "watch" in self.given.modes else ():
