@@ -47,7 +47,7 @@ class Page(InFolder):
                                              PROGRAM, "-o", "made", "--sweep", "safe=100,500")
         self.assertEqual(status, 0, error)
 
-    def test_a_meeting_is_told_in_a_sentence(self) -> None:
+    def test_a_meeting_is_described_in_a_sentence(self) -> None:
         base = sqlite3.connect(self.path("made/case.db"))
         self.addCleanup(base.close)
         words = base.execute("select in_words from meeting where subject = ? and other = ?",

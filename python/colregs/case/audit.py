@@ -121,7 +121,7 @@ def one_run(place: Place, case: Case, scenario: Scenario, asked: Wanted, near: s
         return None
     if done.status:
         step = next_step(done.status, done.words) or "; docs/ROWS.md says what to do at each status"
-        raise Fault(f"the program ends `audit` with status {done.status}, {done.words}{step}")
+        raise Fault(f"`audit` ended with status {done.status}, {done.words}{step}")
     return done.text.decode()
 
 

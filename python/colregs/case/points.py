@@ -79,5 +79,5 @@ def part_rows(place: Place, scenario: Scenario, window: tuple[int, int], part: t
     if done.status == STATUS and "vessels" in done.words:
         return None
     if done.status:
-        raise Fault(f"the program ends `points` with status {done.status}, {done.words}")
+        raise Fault(f"`points` ended with status {done.status}, {done.words}")
     return [line for line in done.text.decode().split("\n") if line.startswith("point,")]

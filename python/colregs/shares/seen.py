@@ -1,5 +1,5 @@
-"""Keeps of the rows of `points` what a join of windows needs: the reports near the beginnings of windows, and who lay
-still all the time.
+"""Filters the rows of `points` for a join of windows: the reports near the starts of windows, and the vessels that were
+at rest all the time.
 
 It runs as a process of its own between the program and a file. A `check` row has a vessel, a time, two places, a speed
 and a course, as `points` writes them. A `still` row has a vessel who never made half a knot, by her reports or, where
@@ -21,7 +21,7 @@ MMSI = slice(6, 15)     # where a row of `points` has its nine digits
 
 
 class Stillness:
-    """Who lay still in all reports so far."""
+    """The vessels at rest in all reports so far."""
 
     def __init__(self) -> None:
         self.still, self.moved = set[bytes](), set[bytes]()
