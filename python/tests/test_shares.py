@@ -26,8 +26,8 @@ FAULTS = [
                                                                                          "the wrong type"),
     ('{"files": ["log"], "scenario": "s.toml", "start": 0, "ticks": 1, "types": {"x": 36}}', "`types` has a value of "
                                                                                              "the wrong type"),
-    ('{"files": ["log"], "scenario": "none.toml", "start": 0, "ticks": 1}', "cannot read none.toml: no such file"),
-    ('{"files": ["none"], "scenario": "s.toml", "start": 0, "ticks": 1}', "cannot read none: no such file"),
+    ('{"files": ["log"], "scenario": "none.toml", "start": 0, "ticks": 1}', "none.toml: no such file"),
+    ('{"files": ["none"], "scenario": "s.toml", "start": 0, "ticks": 1}', "none: no such file"),
     ('{"files": ["cut.gz"], "scenario": "s.toml", "start": 0, "ticks": 1}', "cannot read its files to the end"),
     ('{"files": ["log"], "scenario": "wrong.toml", "start": 0, "ticks": 1}', "status 3, scenario: window.ticks: range"),
 ]

@@ -141,7 +141,7 @@ def window_of(start: int, ticks: int, base: int, last: int, job: Job, rows: Rows
     end = first + ticks
     head = next((head[1] for head in job.heads if head[0] == start - scenario.gap), None)
     if first and head is None:
-        raise Fault(f"{job.words()} has no `heads`, by which windows are compared: `plan` makes a list that has them")
+        raise Fault(f"{job.words()} has no `heads`, which the join needs to compare windows: make the list with `plan`")
     for row in rows.stretches:
         row.first, row.last = row.first + first, row.last + first
     return Window(start, first, end, end if end >= last else first + scenario.settled(ticks), head or start, rows)
