@@ -176,10 +176,22 @@ class Joining:
             return [self.mark(row, DOUBT) for row in [*pending, *(row for row in rows if row.first > border)]]
         if (sync is None or sync > border + 1) and (pending or rows or pair in self.unknown):
             self.doubt(window, border + 1, window.end if sync is None else sync, pair, CUT, LONG)
+        self.doubt_edge(window, pair, rows, border)
         crossing = {row.track: row for row in rows if row.first <= border + 1 <= row.last}
         made = [self.over_border(old, crossing.pop(old.track, None), border, sync) for old in pending]
         rest = [*crossing.values(), *(row for row in rows if row.first > border + 1)]
         return made + [self.judged(window, row, rows, sync) for row in rest]
+
+    def doubt_edge(self, window: Window, pair: Pair, rows: list[Stretch], border: int) -> None:
+        """Doubts the first rows of a pair in a window if a formula may look back to before the pair's trace there: rows
+        of it may be missing."""
+        backs = [sight.back for sight in self.sights.values() if sight.values == {YES} and not sight.no_edge]
+        if not backs or not rows:
+            return
+        first = min(row.first for row in rows)
+        last = first + self.scenario.steps(max(backs))
+        if last > border:
+            self.doubt(window, max(first, border + 1), last + 1, pair, CUT, LATE)
 
     def is_doubtful(self, window: Window, pair: Pair) -> bool:
         return pair in self.doubtful or any(window.syncs.get(mmsi, ALWAYS) is None for mmsi in pair)
