@@ -13,6 +13,7 @@ import concurrent.futures
 import contextlib
 import gzip
 import io
+import itertools
 import math
 import os
 import random
@@ -25,24 +26,33 @@ from collections import Counter
 from dataclasses import dataclass, field
 from typing import Any
 
-from crowd import stretches
-from colregs.errors import Fault
-from colregs.io import sentences
-from colregs.model.scenario import Scenario
-from colregs.run.program import found
-from colregs.shares import cutter, join, places, plans, seen, spans
-from colregs.shares.jobs import Job, job_of
-from colregs.shares.reads import Read
+if __name__ == "__main__":
+    sys.path[:0] = [
+        os.path.dirname(os.path.abspath(__file__)),
+        os.path.dirname(os.path.dirname(os.path.abspath(__file__)))
+    ]
+from crowd import stretches  # noqa: E402
+from colregs.errors import Fault  # noqa: E402
+from colregs.io import sentences  # noqa: E402
+from colregs.model.scenario import Scenario  # noqa: E402
+from colregs.run.program import found  # noqa: E402
+from colregs.shares import cutter, join, places, plans, seen, spans  # noqa: E402
+from colregs.shares.jobs import Job, job_of  # noqa: E402
+from colregs.shares.reads import Read  # noqa: E402
 
 START, TICK = 1700006400, 10
 FIRST_MMSI = 200000001
 PROGRESS = 100                      # logs between two lines on standard error
+ROWS = 5000                         # bytes of rows of `points` that are read at once
 METRE = 1 / 0.1852                  # units of 1/10000 minute at the equator, where the scenarios lie
 KNOT = 1852 / 3600                  # m/s
 FORMULAS = ("engaged -> clear(150)", "begin -> !O[60,900] begin", "O[0,300] risk -> G[0,60] clear(60)",
             "risk -> H[0,120] seen", "seen", "close(2000) -> F[0,60] engaged",
             "(engaged S[0,600] begin) & opening -> clear(200)", "H[0,240] engaged -> opening",
             "begin -> F[0,120] !engaged", "!seen U[0,120] risk | true")
+
+
+TROUBLES = ("late", "repeated", "bare", "damaged", "parts", "overlong", "future")
 
 
 @dataclass(frozen=True)
@@ -148,16 +158,16 @@ class Log:
 
     def __init__(self, draw: random.Random, seconds: int, theme: Theme) -> None:
         self.draw, self.seconds, self.theme, self.lines = draw, seconds, theme, list[tuple[float, bytes]]()
+        chances = [float(getattr(theme, name)) for name in TROUBLES]
+        self.upto = [*itertools.accumulate([*chances, 1 - sum(chances)])]
 
     def add(self, at: float, line: bytes) -> None:
         self.lines.append((at, line))
 
     def one_line(self, at: float, fields: sentences.Fields) -> None:
         """Adds a message, now and then late, twice, without a stamp, damaged or in parts."""
-        draw, theme = self.draw, self.theme
-        names = ("late", "repeated", "bare", "damaged", "parts", "overlong", "future")
-        chances = [float(getattr(theme, name)) for name in names]
-        name = draw.choices([*names, ""], [*chances, 1 - sum(chances)])[0]
+        draw = self.draw
+        name = draw.choices((*TROUBLES, ""), cum_weights=self.upto)[0]
         sentence = sentences.sentence(fields)
         line = stamped(at, sentence)
         if name == "late":
@@ -314,8 +324,10 @@ class Results:
             self.check_reads(job, cut, log)
         if not job.is_part(self.of):
             return log, b""
-        points = self.run("points", job, log).splitlines(True)
-        return log, b"".join(seen.rows_to_keep(points, [(first, last) for first, last in job.heads]))
+        points = self.run("points", job, log)
+        pieces = (points[k:k + ROWS] for k in range(0, len(points), ROWS))
+        return log, b"".join(
+            seen.rows_to_keep(pieces, [(first, last) for first, last in job.heads], self.of.slack))
 
 
 def write_cut(files: list[str], cut: cutter.Cut, folder: str, target: str, words: str,

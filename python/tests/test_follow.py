@@ -257,6 +257,62 @@ class Meetings(InFolder):
                       self.error)
         self.assertLessEqual(set(rows), set(whole))
 
+    def check_alarms(self, rows: list[tuple[float, bytes]], scenario: str, *words: str) -> tuple[list[Any], list[str]]:
+        """Compares alarms of a stream with those of one run: one that differs is marked, and one that is missing is
+        named. Returns the stream's lines, and the alarms of one run."""
+        told, whole = self.alarms_of(rows, scenario, *words), self.whole_alarms(rows)
+        alarms = [line for line in told if line["kind"] == "alarm"]
+        self.assertEqual({line["kind"] for line in told} - {"alarm", "unsure"}, set())
+        self.assertLessEqual({absolute(line["row"], line["run"]) for line in alarms if not MARKS & set(line)},
+                             set(whole))
+        for row in set(whole) - {absolute(line["row"], line["run"]) for line in alarms}:
+            fields = row.split(",")
+            who, at = {int(fields[1]), int(fields[2])}, iso(int(fields[4]))
+            self.assertTrue(any(line["kind"] == "unsure" and line["begins"] <= at < line["ends"]
+                                and {line["subject"], line["other"]} in (who, {None}) for line in told), row)
+        self.assertEqual(len(alarms), len({line["row"] + str(line["run"]) for line in alarms}))
+        return told, whole
+
+    def alarms_of(self, rows: list[tuple[float, bytes]], scenario: str, *words: str) -> list[Any]:
+        self.write("s.toml", scenario)
+        self.write("log", b"".join(line + b"\n" for _, line in sorted(rows, key=lambda row: row[0])))
+        status, out, error = self.tool("colregs-follow", "s.toml", "--days", f"days{len(os.listdir(self.folder))}",
+                                       "--program", PROGRAM, "--ticks-each", "100", "--overlap", "1000", "--whole",
+                                       "--modes", "watch", "--log", "log", *words)
+        self.assertEqual(status, 0, error)
+        return [json.loads(line) for line in out.splitlines()]
+
+    def whole_alarms(self, rows: list[tuple[float, bytes]]) -> list[str]:
+        text = b"".join(line + b"\n" for _, line in sorted(rows, key=lambda row: row[0]))
+        done = subprocess.run([PROGRAM, "watch", self.path("s.toml")], input=text, capture_output=True)
+        found = done.stdout.decode().splitlines()
+        return [absolute(row, drawn_logs.START) for row in found if row.startswith("alarm,")]
+
+    def test_alarms_of_a_meeting_that_began_before_their_window_say_so(self) -> None:
+        told, whole = self.check_alarms(self.abreast(), test_joins.SCENARIO.replace("ticks = 2160", "ticks = 540"))
+        self.assertTrue(whole)
+        self.assertTrue([line for line in told if line["kind"] == "unsure"])
+        met = [*test_joins.way(test_joins.EAST, 9, 0, 5000, 3, x=9000, to=10800),
+               *test_joins.way(test_joins.NORTH, 9, 180, 5000, 4, x=9100, to=10800)]
+        told, whole = self.check_alarms(met, test_joins.SCENARIO.replace("ticks = 2160", "ticks = 1080"))
+        self.assertEqual([absolute(line["row"], line["run"]) for line in told], whole)
+
+    def test_alarms_of_two_vessels_with_one_mmsi_say_so(self) -> None:
+        shared = [*test_joins.way(test_joins.YACHT, 0, 0, 0, 22, x=30000, to=2900), *test_joins.two(at=2300, to=5400)]
+        told, _ = self.check_alarms(shared, test_joins.SCENARIO.replace("ticks = 2160", "ticks = 540"), "--overlap",
+                                    "2000")
+        self.assertIn((test_joins.YACHT, test_joins.CARGO),
+                      {(line["subject"], line["other"]) for line in told if line["kind"] == "unsure"})
+
+    def test_alarms_of_a_formula_that_is_not_of_meetings_are_in_doubt(self) -> None:
+        own = '[[formula]]\nname = "own"\ntext = "seen & clear(600)"\n'
+        told, _ = self.check_alarms(test_joins.two(at=2300, to=5400),
+                                    test_joins.SCENARIO.replace("ticks = 2160", "ticks = 540") + own)
+        alarms = [line for line in told if line["kind"] == "alarm" and line["rule"] == "own"]
+        self.assertTrue(alarms)
+        self.assertTrue(all(line.get("doubt") for line in alarms if line["run"] > alarms[0]["run"]))
+        self.assertTrue(any("own" in line["why"] for line in told if line["kind"] == "unsure"))
+
     def test_a_ship_type_that_was_reported_once_counts_in_every_window_of_a_stream(self) -> None:
         rows = [
             *test_joins.two(),

@@ -121,8 +121,7 @@ def write_joined(given: argparse.Namespace) -> int:
         raise Fault(f"{len(missing)} of {len(jobs)} jobs have no result yet, as {missing[0].words()}: run the jobs "
                     "again")
     summary = join.Summary()
-    for line in join.joined(jobs, kept, one_scenario(jobs, kept), summary):
-        print(line)
+    sys.stdout.writelines(line + "\n" for line in join.joined(jobs, kept, one_scenario(jobs, kept), summary))
     for name, text in (("doubts.csv", summary.doubts_text()), ("moored.csv", summary.moored_text())):
         replace(os.path.join(kept.folder, name), text.encode())
     tell(summary, kept.folder)

@@ -2,9 +2,10 @@
 (docs/LOG.md)."""
 import collections
 import functools
-import operator
 import re
 from dataclasses import dataclass
+
+from colregs.io.sentences import total
 
 LONGEST = 1024                      # bytes of a line that is read
 JOINED_WITHIN = 30                  # s that a part may come after the first part of its message
@@ -13,16 +14,13 @@ KNOWN = 1 << 16                     # tag blocks and heads of payloads that are 
 MILLISECONDS = 10 ** 11             # from here on a stamp is in milliseconds
 FIELD = rb"(?:c:\d{1,15}|(?!c:)[^,*\\]+)"
 TAG_BLOCK = re.compile(rb"\\(" + FIELD + rb"(?:," + FIELD + rb")*)\*([0-9A-Fa-f]{2})\\", re.S)
-TAGS = re.compile(rb"\n(\\[^\\\n]*\\)")         # what may be the tag block of a line, after the line feed before it
+TAGS = re.compile(rb"\n(\\[^\\]*\\)")           # what may be the tag block of a line, after the line feed before it,
+OF_LINES = re.compile(rb"\n(\\[^\\\n]*\\)")     # and the same where it may not go on in the next line, which is slower
 TIME = re.compile(rb"(?:^|,)c:(\d+)")
+PLAIN = re.compile(rb"\\c:\d{7}")                # how most tag blocks begin: those of a time alone, in ten digits
 SENTENCE = re.compile(
     rb"!([A-Z0-9]{2}VD[MO],([1-9]),([1-9]),(\d?),([A-Za-z0-9]?),([^,]+),([0-5]))\*([0-9A-Fa-f]{2})(?:[, \t].*)?", re.S)
 SIX = {letter: value for value, letter in enumerate(bytes(range(48, 88)) + bytes(range(96, 120)))}
-
-
-def total(body: bytes) -> int:
-    """Returns the exclusive or of bytes."""
-    return functools.reduce(operator.xor, body, 0)
 
 
 def line_of(line: bytes) -> bytes:
@@ -43,9 +41,22 @@ class Stamps:
         return at if len(line) <= LONGEST or len(line_of(line)) <= LONGEST else None
 
 
+DIGITS = {b"%03d" % value: (value, total(b"%03d" % value)) for value in range(1000)}
+SUMS = [b"*%02X\\" % value for value in range(256)]        # how a tag block ends, by its sum
+
+
+@functools.lru_cache
+def plain_head(head: bytes) -> tuple[int, int] | None:
+    """Returns the time and the sum of a tag block without its last three digits and its end; None if it is another."""
+    return (1000 * int(head[3:]), total(head[1:])) if PLAIN.fullmatch(head) else None
+
+
 @functools.lru_cache(KNOWN)
 def stamp_of_block(block: bytes) -> int | None:
     """Returns the stamp of a tag block with both of its backslashes; None if the block is damaged or has no time."""
+    thousands, last = plain_head(block[:10]), DIGITS.get(block[10:13])
+    if thousands and last and block[13:] == SUMS[thousands[1] ^ last[1]]:
+        return thousands[0] + last[0]
     found = TAG_BLOCK.fullmatch(block)
     time = TIME.search(found[1]) if found and total(found[1]) == int(found[2], 16) else None
     if time is None:

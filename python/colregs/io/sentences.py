@@ -2,7 +2,6 @@
 read."""
 import base64
 import functools
-import operator
 import re
 
 Fields = list[tuple[int, int]]                      # values, each with its width in bits
@@ -21,8 +20,13 @@ TO_64, FROM_64 = bytes.maketrans(SIX, LETTERS), bytes.maketrans(LETTERS, SIX)
 
 
 def total(body: bytes) -> int:
-    """Returns the checksum of a sentence or of a tag block: the exclusive or of its bytes."""
-    return functools.reduce(operator.xor, body, 0)
+    """Returns the checksum of a sentence or of a tag block: the exclusive or of its bytes. The halves of one number are
+    folded until they are a byte."""
+    value, width = int.from_bytes(body, "big"), 8 << max(0, len(body) - 1).bit_length()
+    while width > 8:
+        width >>= 1
+        value ^= value >> width
+    return value & 0xFF
 
 
 def has_sum(body: bytes, digits: bytes) -> bool:

@@ -47,6 +47,7 @@ class Scenario:
             window, log, rules = (self.values[table] for table in ("window", "log", "rules"))
             self.start, self.tick, self.ticks = (int(window[key]) for key in ("start", "tick", "ticks"))
             self.gap, self.slack, self.watch = int(log["gap"]), int(log["slack"]), int(self.values["detect"]["watch"])
+            self.clear = int(self.values["detect"]["clear"])
             self.most_bytes = int(log.get("max_bytes", MOST_BYTES))
             # r8b, r14a, r16 and r17b look ahead, by these times (docs/RULES.md)
             texts = [str(table["text"]) for table in self.values.get("formula", [])]

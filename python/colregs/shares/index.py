@@ -5,7 +5,8 @@ import os
 from dataclasses import asdict
 
 from colregs.errors import Fault, reason, report
-from colregs.io.files import replace
+from colregs.io.files import read_bytes, replace
+from colregs.shares.boxes import Part, parts_of_stored, read_parts, stored_form
 from colregs.shares.spans import Block, Span, read_span
 
 VERSION = 2             # of the stored form
@@ -34,20 +35,29 @@ class Index:
         span = stored(name, path, state)
         if span is None:
             span = read_span(path, None)
-            self.store(name,
-                       {"version": VERSION, "state": state, "span": asdict(span) | {"path": os.path.basename(path)}})
+            told = {"version": VERSION, "state": state, "span": asdict(span) | {"path": os.path.basename(path)}}
+            self.store(name, json.dumps(told).encode())
         if until is not None and any(least <= until < greatest for _, least, greatest in span.hours.values()):
             return read_span(path, until)               # hours do not show which stamps are after `until`
         if until is not None:
             span.hours = {hour: told for hour, told in span.hours.items() if told[1] <= until}
         return span
 
-    def store(self, name: str, told: dict[str, object]) -> None:
-        """Stores the data of a file. If the folder of the files is read-only, it reports this once, and the next plan
-        reads them again."""
+    def parts(self, span: Span) -> list[Part] | None:
+        """Returns the boxes of a file; None if it has none, for its places are not known without the program."""
+        name, state = self.name(span.path) + "-boxes", state_of(span.path)
+        found, parts = parts_of_stored(read_bytes(name), state) if os.path.exists(name) else (False, None)
+        if not found:
+            parts = read_parts(span)
+            self.store(name, stored_form(parts, state))
+        return parts
+
+    def store(self, name: str, told: bytes) -> None:
+        """Stores what was read of a file. If the folder of the files cannot be written, it reports so once, and the
+        next plan reads them again."""
         folder = os.path.dirname(name)
         try:
-            replace(name, json.dumps(told).encode())
+            replace(name, told)
         except OSError as error:
             if self.folder is not None:
                 raise Fault(f"cannot write {folder}: {reason(error)}; give another folder with --index") from None

@@ -42,7 +42,7 @@ class Summary:
             self.under_way += 1
             self.marked_under_way += bool(row.mark)
         elif row.is_meeting:
-            self.moored.append(",".join(row.fields[1:3] + row.fields[4:7]))
+            self.moored.append(f"{row.pair[0]},{row.pair[1]},{row.first},{row.last},{row.least}")
 
     def doubts_text(self) -> str:
         """Returns the text of the file of doubts."""
@@ -142,7 +142,8 @@ def window_of(start: int, ticks: int, base: int, last: int, job: Job, rows: Rows
     head = next((head[1] for head in job.heads if head[0] == start - scenario.gap), None)
     if first and head is None:
         raise Fault(f"{job.words()} has no `heads`, which the join needs to compare windows: make the list with `plan`")
-    rows.stretches = [row.moved(first) for row in rows.stretches]
+    for row in rows.stretches:
+        row.first, row.last = row.first + first, row.last + first
     return Window(start, first, end, end if end >= last else first + scenario.settled(ticks), head or start, rows)
 
 

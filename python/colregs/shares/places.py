@@ -6,6 +6,7 @@ import shlex
 import tempfile
 from array import array
 from collections.abc import Iterable, Iterator
+from typing import Protocol
 
 from colregs.errors import Fault
 from colregs.model.scenario import Scenario
@@ -156,7 +157,14 @@ def part_of(cut: Cut, k: int, parts: int) -> Cut:
     return dataclasses.replace(cut, part=(k, parts))
 
 
-def tiles_of(points: Points, columns: int, rows: int) -> list[Tile]:
+class Placed(Protocol):
+    """What knows where vessels are."""
+
+    def cuts(self, axis: int, count: int) -> list[int]:
+        """Returns where to cut the plane across an axis into pieces with about as many places in each."""
+
+
+def tiles_of(points: Placed, columns: int, rows: int) -> list[Tile]:
     """Returns tiles as west, south, east and north in metres; the outer edges are open."""
     easts, norths = ([None, *points.cuts(axis, count), None] for axis, count in ((0, columns), (1, rows)))
     return [[west, south, east, north]

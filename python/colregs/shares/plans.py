@@ -9,6 +9,7 @@ from typing import Any
 from colregs.errors import Fault, report
 from colregs.model.scenario import MOST_TICKS, Scenario
 from colregs.run.pipes import reader
+from colregs.shares.boxes import BoxPoints
 from colregs.shares.cuts import Reads
 from colregs.shares.cutter import Cut
 from colregs.shares.heads import STRADDLE
@@ -143,7 +144,7 @@ def plan(files: list[str], wanted: Wanted, scenario: Scenario, program: str | No
     """Yields the jobs as dictionaries. Groups and tiles need the program."""
     made = laid_out(files, wanted, scenario)
     types = read_types(made) if scenario.ranks and len(made.windows) > 1 else None
-    points: Points | None = None
+    points: Points | BoxPoints | None = None
     for number, (begin, length) in enumerate(made.windows):
         told = made.job(number)
         if types is not None:
@@ -154,7 +155,7 @@ def plan(files: list[str], wanted: Wanted, scenario: Scenario, program: str | No
             }
         if wanted.group or wanted.tiles:
             if points is None or told["start"] + length * scenario.tick > points.until:
-                points = read_points(made, begin, program or "")
+                points = (None if wanted.group else box_points(made, begin)) or read_points(made, begin, program or "")
             yield from shares_of(told, points, made.lines(begin, length), scenario, wanted)
         else:
             yield told
@@ -216,7 +217,19 @@ def read_points(made: Plan, begin: int, program: str) -> Points:
                   made.reads(begin, length))
 
 
-def shares_of(told: dict[str, Any], points: Points, lines: tuple[int, int], scenario: Scenario,
+def box_points(made: Plan, begin: int) -> BoxPoints | None:
+    """Returns the places from a window on by the boxes of the files; None if a file has none."""
+    length = min(MOST_TICKS, made.ticks - begin)
+    first, end = made.files(begin, length)
+    index = Index(made.wanted.index)
+    parts = [index.parts(span) for span in made.spans[first:end]]
+    files = [part for part in parts if part is not None]
+    until = made.start + (begin + length) * made.scenario.tick
+    # no line before the first of these files is one of the window's
+    return BoxPoints(files, made.scenario, made.lines(0, made.ticks), until) if len(files) == len(parts) else None
+
+
+def shares_of(told: dict[str, Any], points: Points | BoxPoints, lines: tuple[int, int], scenario: Scenario,
               wanted: Wanted) -> Iterator[dict[str, Any]]:
     """Yields a window's jobs, split by tiles and by groups if these are requested."""
     heard, margin = points.within(*lines), scenario.watch + 1

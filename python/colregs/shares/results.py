@@ -1,6 +1,5 @@
 """The results of shares as rows, and the merge of one window's shares: groups of subjects, and tiles with margins."""
 import re
-import sys
 from collections.abc import Iterable
 from dataclasses import dataclass, field
 
@@ -15,35 +14,48 @@ Check = tuple[int, str]             # the time of an accepted report, and the re
 
 
 @dataclass(slots=True)
+class Kind:
+    """What many rows have alike: their text up to the first step, the pair, and what of it they are stretches of: the
+    meetings, or a rule's value."""
+
+    text: str
+    pair: Pair
+    track: tuple[str, ...]
+    is_meeting: bool
+
+    @property
+    def rule(self) -> str:
+        """The rule or formula; of a meeting the word `meeting`."""
+        return self.track[0]
+
+
+@dataclass(slots=True)
 class Stretch:
-    """A row of a meeting or of a verdict, with its steps as numbers; `mark` says why one run may have another row.
+    """A row of a meeting or of a verdict, with its steps as numbers, and what follows them; `mark` says why it may not
+    be that of one run.
 
     `moored` is true if both vessels were at rest in all windows of the row.
     """
 
-    fields: list[str]
-    at: int
+    kind: Kind
     first: int
     last: int
+    least: str = ""
     mark: str = ""
     moored: bool = False
 
     @property
     def pair(self) -> Pair:
-        return int(self.fields[1]), int(self.fields[2])
+        return self.kind.pair
 
     @property
     def is_meeting(self) -> bool:
-        return self.fields[0] == "meeting"
+        return self.kind.is_meeting
 
     @property
     def track(self) -> tuple[str, ...]:
-        """What the row is a stretch of, besides its pair: the meetings, or a rule's value."""
-        return ("meeting",) if self.is_meeting else tuple(self.fields[3:5])
-
-    def order(self, rules: list[str]) -> tuple[int, bool, Pair, int]:
-        """Returns the sort key of a row (docs/AUDIT.md): its last step, meetings first, then the pair and the rule."""
-        return self.last, not self.is_meeting, self.pair, 0 if self.is_meeting else rules.index(self.fields[3])
+        """What of a pair the row is a stretch of: the meetings, or a rule's value."""
+        return self.kind.track
 
     def moved(self, steps: int) -> "Stretch":
         """Returns the same row with its steps moved."""
@@ -51,19 +63,40 @@ class Stretch:
 
     def spanning(self, first: int, last: int) -> "Stretch":
         """Returns the same row with other steps."""
-        fields = list(self.fields)
-        fields[self.at:self.at + 2] = [str(first), str(last)]
-        return Stretch(fields, self.at, first, last, self.mark, self.moored)
+        return Stretch(self.kind, first, last, self.least, self.mark, self.moored)
 
     def words(self) -> str:
-        """Returns the row as a line, with its mark as an additional field."""
-        return ",".join(self.fields + [self.mark] if self.mark else self.fields)
+        """Returns the row as a line, with a mark as a further field."""
+        text = f"{self.kind.text},{self.first},{self.last}"
+        if self.is_meeting:
+            text += "," + self.least
+        return f"{text},{self.mark}" if self.mark else text
 
 
-def stretch_of(fields: list[str]) -> Stretch:
-    """Returns the row with these fields."""
-    at = 4 if fields[0] == "meeting" else 5
-    return Stretch(fields, at, int(fields[at]), int(fields[at + 1]))
+def kind_of(text: str) -> Kind:
+    """Returns what the rows have alike that begin with a text."""
+    fields = text.split(",")
+    is_meeting = fields[0] == "meeting"
+    return Kind(text, (int(fields[1]), int(fields[2])), ("meeting",) if is_meeting else tuple(fields[3:5]), is_meeting)
+
+
+def stretch_of(line: str, kinds: dict[str, Kind]) -> Stretch:
+    """Returns the row of a line; `kinds` has those of the rows so far."""
+    if line.startswith("meeting"):
+        text, first, last, least = line.rsplit(",", 3)
+    else:
+        (text, first, last), least = line.rsplit(",", 2), ""
+    kind = kinds.get(text)
+    if kind is None:
+        kind = kinds[text] = kind_of(text)
+    return Stretch(kind, int(first), int(last), least)
+
+
+def in_order(rows: Iterable[Stretch], rules: list[str]) -> list[Stretch]:
+    """Returns rows in the order of a report (docs/AUDIT.md): by the last step, meetings first, then the pair and the
+    rule."""
+    places = {rule: place for place, rule in enumerate(rules)} | {"meeting": -1}
+    return sorted(rows, key=lambda row: (row.last, not row.kind.is_meeting, row.kind.pair, places[row.kind.track[0]]))
 
 
 @dataclass
@@ -85,20 +118,19 @@ class Rows:
         return {mmsi for mmsi, line in self.vessels.items() if line.rsplit(",", 1)[1] != "0"}
 
     def sort(self, stretches: Iterable[Stretch]) -> "Rows":
-        """Replaces the stretches by these, in the order of a report."""
-        self.stretches = sorted(stretches, key=lambda row: row.order(self.rules))
+        """Takes these stretches for its own, in the order of a report."""
+        self.stretches = in_order(stretches, self.rules)
         return self
 
 
 def rows_of(text: str) -> Rows:
     """Returns the rows of a result."""
-    rows = Rows()
+    rows, kinds = Rows(), dict[str, Kind]()
     for found in LINE.finditer(text):
         line = found[0]
         kind, _, rest = line.partition(",")
         if kind in ("meeting", "verdict"):
-            # most fields occur in many rows
-            rows.stretches.append(stretch_of([sys.intern(field) for field in line.split(",")]))
+            rows.stretches.append(stretch_of(line, kinds))
         elif kind == "vessel":
             rows.vessels[int(rest.partition(",")[0])] = line
         elif kind == "total":
@@ -143,13 +175,13 @@ def text_of(rows: Rows) -> str:
 def in_groups(told: list[tuple[set[int], Rows]], own: bool, words: str) -> Rows:
     """Returns the rows that belong to each group of subjects, in the order of a report."""
     first, covered = told[0][1], set().union(*(group for group, _ in told))
-    found: dict[tuple[str, ...], Stretch] = {}
+    found: dict[str, Stretch] = {}
     for group, rows in told:
         if rows.vessels != first.vessels or rows.lines != first.lines:
             raise Fault(f"{words}: its shares read different lines")
         for row in rows.stretches:
             if is_of_group(row, group, own, covered):
-                found[tuple(row.fields)] = row
+                found[row.words()] = row
     return first.sort(found.values())
 
 

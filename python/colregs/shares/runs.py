@@ -139,11 +139,12 @@ def run_folder(kept: str) -> Iterator[str]:
 
 
 def seen(room: Room, source: str) -> bytes:
-    """Returns the rows that the join of windows needs: accepted reports around the starts of windows, and the vessels
-    at rest."""
-    if not room.job.is_part(room.kept.scenario(room.job)):
+    """Returns the rows that the join of windows needs: accepted reports about the beginnings of windows, and who lay
+    still."""
+    scenario = room.kept.scenario(room.job)
+    if not room.job.is_part(scenario):
         return b""
-    words = shlex.join(module("shares.seen", json.dumps(room.job.heads)))
+    words = shlex.join(module("shares.seen", json.dumps([room.job.heads, scenario.slack])))
     command = shlex.join([room.program, "points", room.path("scenario.toml"), *room.job.options()])
     done = CHILDREN.run(["bash", "-c", f"set -o pipefail; {source} | {command} | {words}"], stdin=subprocess.DEVNULL,
                         stdout=subprocess.PIPE, stderr=subprocess.PIPE)

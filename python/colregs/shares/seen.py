@@ -1,9 +1,12 @@
 """Filters the rows of `points` for a join of windows: the reports near the starts of windows, and the vessels that were
 at rest all the time.
 
-It runs as a separate process between the program and a file. A `check` row has a vessel, a time, two places, a speed
-and a course, in the format of `points`. A `still` row has a vessel that never made half a knot, by her reports or, for
-reports without a speed, by her distance to the next one.
+It runs as a process of its own between the program and a file. A `check` row has a vessel, a time, two places, a speed
+and a course, as `points` writes them. A `still` row has a vessel who never made half a knot, by her reports or, where
+these have no speed, by her way to the next one.
+
+Most rows only say that a vessel goes on, so rows are read in pieces: those of vessels who moved are skipped, and a
+piece is searched for reports near a beginning only if it may hold some.
 """
 import json
 import math
@@ -11,56 +14,92 @@ import sys
 from collections.abc import Iterable, Iterator
 
 SLOWEST = 5             # 1/10 knot
-TENTH = 463 / 9000      # metres per second in 1/10 knot
+TENTH = 463 / 9000      # metres a second of 1/10 knot
+PIECE = 1 << 19         # bytes of rows that are read at once
+SLOW = frozenset(b"%d" % speed for speed in range(SLOWEST))
+MMSI = slice(6, 15)     # where a row of `points` has its nine digits
 
 
 class Stillness:
     """The vessels at rest in all reports so far."""
 
     def __init__(self) -> None:
-        self.still: dict[bytes, bool] = {}
-        self.before: dict[bytes, tuple[int, int, int, bool]] = {}
+        self.still, self.moved = set[bytes](), set[bytes]()
+        # the last report of a vessel who lay still so far, if it has no speed
+        self.before: dict[bytes, tuple[int, int, int]] = {}
 
     def take(self, mmsi: bytes, time: int, x: int, y: int, speed: bytes) -> None:
-        """Adds one report; reports come in the order of times."""
-        known = self.still.get(mmsi, True)
-        if known and mmsi in self.before:
-            at, west, south, has_speed = self.before[mmsi]
-            if not has_speed:
-                known = math.dist((x, y), (west, south)) / 10000 / max(1, time - at) / TENTH < SLOWEST
-        if speed:
-            known = known and int(speed) < SLOWEST
-        self.still[mmsi] = known
-        if known:
-            self.before[mmsi] = time, x, y, bool(speed)
+        """Takes one report of a vessel who lay still so far, in the order of times."""
+        before, tenths = self.before.pop(mmsi, None), int(speed or 0)
+        way = 0.0 if before is None else math.dist((x, y), before[1:]) / 10000 / max(1, time - before[0]) / TENTH
+        if tenths >= SLOWEST or way >= SLOWEST:
+            self.still.discard(mmsi)
+            self.moved.add(mmsi)
+            return
+        self.still.add(mmsi)
+        if not speed:
+            self.before[mmsi] = time, x, y
+
+    def take_rows(self, rows: list[bytes]) -> None:
+        """Takes the rows of a piece."""
+        still, moved, before = self.still, self.moved, self.before
+        for row in rows:
+            if row[MMSI] not in moved and row.startswith(b"point,"):
+                _, mmsi, at, x, y, speed, _ = row.split(b",", 6)
+                if speed not in SLOW or mmsi not in still or mmsi in before:
+                    self.take(mmsi, int(at), int(x), int(y), speed)
 
     def found(self) -> list[bytes]:
-        """Returns the vessels at rest, ascending."""
-        return sorted(mmsi for mmsi, still in self.still.items() if still)
+        """Returns the vessels who lay still, ascending."""
+        return sorted(self.still)
 
 
-def rows_to_keep(rows: Iterable[bytes], stretches: list[tuple[int, int]]) -> Iterator[bytes]:
-    """Yields a `check` row for each report in these spans of time, and a `still` row for each vessel at rest."""
-    stillness = Stillness()
-    still = stillness.still
-    least = min((first for first, _ in stretches), default=0)
-    greatest = max((last for _, last in stretches), default=-1)
+def rows_of(pieces: Iterable[bytes]) -> Iterator[list[bytes]]:
+    """Yields the rows of pieces that end anywhere, also within a row."""
+    rest = b""
+    for piece in pieces:
+        *rows, rest = (rest + piece).split(b"\n")
+        yield rows
+    yield [rest]
+
+
+def times_within(rows: list[bytes], slack: int) -> tuple[int, int]:
+    """Returns the least and the greatest time that a report of a piece can have. A line that is not late is at most
+    `slack` seconds behind the clock, and the clock never goes back."""
+    first = next((row for row in rows if row.startswith(b"point,")), None)
+    last = next((row for row in reversed(rows) if row.startswith(b"point,")), None)
+    return (time_of(first) - slack, time_of(last) + slack) if first and last else (1, 0)
+
+
+def time_of(row: bytes) -> int:
+    return int(row.split(b",", 3)[2])
+
+
+def checks_of(rows: list[bytes], stretches: list[tuple[int, int]]) -> Iterator[bytes]:
+    """Yields `check` rows for the reports of a piece in these stretches of time."""
     for row in rows:
-        if not row.startswith(b"point,"):
-            continue
-        _, mmsi, at, rest = row.split(b",", 3)
-        time = int(at)
-        if still.get(mmsi, True):
-            x, y, speed, _ = rest.split(b",", 3)
-            stillness.take(mmsi, time, int(x), int(y), speed)
-        if least <= time <= greatest and any(first <= time <= last for first, last in stretches):
-            yield b"check" + row[5:]
+        if row.startswith(b"point,"):
+            time = time_of(row)
+            if any(first <= time <= last for first, last in stretches):
+                yield b"check" + row[5:] + b"\n"
+
+
+def rows_to_keep(pieces: Iterable[bytes], stretches: list[tuple[int, int]], slack: int) -> Iterator[bytes]:
+    """Yields `check` rows for the reports in these stretches of time, and a `still` row for each vessel who lay still.
+    The pieces are of the rows of `points`, which come in the order of their lines."""
+    stillness = Stillness()
+    for rows in rows_of(pieces):
+        stillness.take_rows(rows)
+        least, greatest = times_within(rows, slack)
+        if any(first <= greatest and least <= last for first, last in stretches):
+            yield from checks_of(rows, stretches)
     for mmsi in stillness.found():
         yield b"still," + mmsi + b"\n"
 
 
 def main() -> None:
-    """Filters standard input; the only argument has the spans of time, as JSON."""
-    stretches = [(int(first), int(last)) for first, last in json.loads(sys.argv[1])]
-    sys.stdout.buffer.writelines(rows_to_keep(sys.stdin.buffer, stretches))
+    """Filters standard input; the one argument is the stretches and the slack, as JSON."""
+    stretches, slack = json.loads(sys.argv[1])
+    pieces = iter(lambda: sys.stdin.buffer.read(PIECE), b"")
+    sys.stdout.buffer.writelines(rows_to_keep(pieces, [(int(first), int(last)) for first, last in stretches], slack))
     sys.stdout.buffer.flush()

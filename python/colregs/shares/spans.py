@@ -10,7 +10,7 @@ from typing import NamedTuple
 
 from colregs.errors import Fault, reason
 from colregs.io.files import sum_of
-from colregs.io.lines import LONGEST, TAGS, Stamps, stamp_of_block
+from colregs.io.lines import LONGEST, OF_LINES, TAGS, Stamps, stamp_of_block
 from colregs.io.packing import packing
 from colregs.run.pipes import reader
 
@@ -20,6 +20,7 @@ FEW = 10                # fewer stamps than this are few
 PIECE = 1 << 20         # bytes of lines in a chunk, which is a block unless a file has more than MOST_BLOCKS
 MOST_BLOCKS = 2048
 GZIP = 31               # zlib's window for a member of gzip
+STRIDE = LONGEST // 2   # bytes: any longer line, wherever it begins, has all bytes between two multiples of this
 
 
 class Block(NamedTuple):
@@ -135,11 +136,17 @@ def take_block(span: Span, lines: bytes, until: int | None) -> None:
 
 
 def tags_of(lines: bytes) -> list[bytes]:
-    """Returns the tag blocks, in order, of the lines that are short enough for the program."""
-    if max(map(len, lines.split(b"\n"))) <= LONGEST:
-        return TAGS.findall(b"\n" + lines)
+    """Returns the tag blocks of lines that are short enough to be read, in order."""
+    if not may_be_long(lines) or max(map(len, lines.split(b"\n"))) <= LONGEST:
+        tags = TAGS.findall(b"\n" + lines)
+        return OF_LINES.findall(b"\n" + lines) if b"\n" in b"".join(tags) else tags
     stamps = Stamps()
     return [line[:line.find(b"\\", 1) + 1] for line in lines.split(b"\n") if stamps.of(line) is not None]
+
+
+def may_be_long(lines: bytes) -> bool:
+    """Returns whether a line may be longer than is read: such a line has a whole stretch of STRIDE bytes."""
+    return any(lines.find(b"\n", at, at + STRIDE) < 0 for at in range(0, len(lines) - STRIDE + 1, STRIDE))
 
 
 def add_block(blocks: list[Block], block: Block) -> None:

@@ -7,14 +7,14 @@ the first step at which the pair is not engaged in the whole, or at which a meet
 This module calls that step the pair's `sync`. A window supplies the rows after the last settled step of the window
 before.
 """
-from collections.abc import Iterable
 from dataclasses import dataclass, field
 
 from colregs.errors import Fault
 from colregs.model.formulas import YES, Sight, sight_of
 from colregs.model.scenario import Scenario
 from colregs.shares.heads import STRADDLE, agreed_from
-from colregs.shares.results import Pair, Rows, Stretch
+from colregs.shares.partings import parted
+from colregs.shares.results import Pair, Rows, Stretch, in_order
 
 CUT, DOUBT = "cut", "doubt"
 ALWAYS = -1                                             # the sync of a pair that agrees from a window's start
@@ -59,8 +59,12 @@ class Window:
 
     def __post_init__(self) -> None:
         for row in self.rows.stretches:
-            row.moored = self.rows.still.issuperset(row.pair)
-            self.of_pair.setdefault(row.pair, []).append(row)
+            self.of_pair.setdefault(row.kind.pair, []).append(row)
+        for pair, rows in self.of_pair.items():
+            moored = self.rows.still.issuperset(pair)
+            for row in rows:
+                row.moored = moored
+        self.rows.stretches = []                        # `of_pair` has them
 
     def known_from(self, pair: Pair) -> int | None:
         """Returns the step from which the window certainly agrees with the whole about a pair."""
@@ -83,6 +87,7 @@ class Joining:
         self.pending: dict[Pair, list[Stretch]] = {}
         self.held: list[Stretch] = []
         self.doubtful: set[Pair] = set()
+        self.unknown: set[Pair] = set()         # about these the window before nowhere agrees with the whole
 
     def take(self, window: Window) -> list[Stretch]:
         """Takes the next window; returns the rows of those before it, in order."""
@@ -92,20 +97,18 @@ class Joining:
         if before is not None:
             self.tie(before, window)
         found: list[Stretch] = []
-        for pair in sorted(set(window.of_pair) | set(self.pending)):
+        for pair in sorted({*window.of_pair, *self.pending, *self.unknown}):
             found += self.settle(
                 window,
                 self.rows_from_first(window, pair) if before is None else self.rows_from_next(before, window, pair))
-        given, self.held, self.before = self.in_order(self.held), found, window
+        self.unknown = {pair for pair, sync in window.pair_syncs.items() if sync is None}
+        given, self.held, self.before = in_order(self.held, self.rules), found, window
         return given
 
     def finish(self) -> list[Stretch]:
-        """Returns the remaining rows."""
-        given, self.held = self.in_order(self.held), []
+        """Returns the rows that are left."""
+        given, self.held = in_order(self.held, self.rules), []
         return given
-
-    def in_order(self, rows: Iterable[Stretch]) -> list[Stretch]:
-        return sorted(rows, key=lambda row: row.order(self.rules))
 
     def tie(self, before: Window, window: Window) -> None:
         """Finds the step from which each vessel of a window agrees with the window before."""
@@ -148,7 +151,7 @@ class Joining:
         return self.scenario.steps(self.sight(row).back)
 
     def sight(self, row: Stretch) -> Sight:
-        return OF_A_RULE if row.is_meeting else self.sights.get(row.fields[3], OF_A_RULE)
+        return OF_A_RULE if row.is_meeting else self.sights.get(row.kind.rule, OF_A_RULE)
 
     def settle(self, window: Window, rows: list[Stretch]) -> list[Stretch]:
         """Returns the rows of a pair that end by the settled step, and stores those that continue after it as pending.
@@ -171,12 +174,24 @@ class Joining:
             sync = window.pair_syncs[pair] = None
         if sync is None and self.is_doubtful(window, pair):
             return [self.mark(row, DOUBT) for row in [*pending, *(row for row in rows if row.first > border)]]
-        if (sync is None or sync > border + 1) and (pending or rows):
+        if (sync is None or sync > border + 1) and (pending or rows or pair in self.unknown):
             self.doubt(window, border + 1, window.end if sync is None else sync, pair, CUT, LONG)
+        self.doubt_edge(window, pair, rows, border)
         crossing = {row.track: row for row in rows if row.first <= border + 1 <= row.last}
         made = [self.over_border(old, crossing.pop(old.track, None), border, sync) for old in pending]
         rest = [*crossing.values(), *(row for row in rows if row.first > border + 1)]
         return made + [self.judged(window, row, rows, sync) for row in rest]
+
+    def doubt_edge(self, window: Window, pair: Pair, rows: list[Stretch], border: int) -> None:
+        """Doubts the first rows of a pair in a window if a formula may look back to before the pair's trace there: rows
+        of it may be missing."""
+        backs = [sight.back for sight in self.sights.values() if sight.values == {YES} and not sight.no_edge]
+        if not backs or not rows:
+            return
+        first = min(row.first for row in rows)
+        last = first + self.scenario.steps(max(backs))
+        if last > border:
+            self.doubt(window, max(first, border + 1), last + 1, pair, CUT, LATE)
 
     def is_doubtful(self, window: Window, pair: Pair) -> bool:
         return pair in self.doubtful or any(window.syncs.get(mmsi, ALWAYS) is None for mmsi in pair)
@@ -199,7 +214,19 @@ class Joining:
             if step <= before.settled:
                 return step
         ends = [row.last + 1 for row in window.of_pair.get(pair, []) if row.is_meeting and low <= row.last]
+        at = self.parted(window, pair, low)
+        if at is not None:
+            ends.append(at)
         return min((end for end in ends if end <= window.settled), default=None)
+
+    def parted(self, window: Window, pair: Pair, low: int) -> int | None:
+        """Returns the first step from `low` on at which the reports about a window's beginning show that two vessels
+        are not engaged; None if they do not show it."""
+        tick, checks = self.scenario.tick, window.rows.checks
+        base = window.start - window.first * tick
+        found = parted(checks.get(pair[0], []), checks.get(pair[1], []),
+                       (base + low * tick, window.head - self.scenario.gap), self.scenario)
+        return None if found is None else (found - base) // tick
 
     def mark(self, row: Stretch, mark: str) -> Stretch:
         row.mark = row.mark or mark
@@ -229,7 +256,7 @@ class Joining:
         row = old.spanning(old.first, new.last)
         row.moored = old.moored and new.moored
         if row.is_meeting:
-            row.fields[6] = str(min(int(old.fields[6]), int(new.fields[6])))
+            row.least = str(min(int(old.least), int(new.least)))
             return row
         return row if known else self.mark(row, CUT)
 
@@ -257,12 +284,14 @@ class Joining:
         return True
 
     def is_common(self, row: Stretch, sync: int, border: int) -> bool:
-        """Returns whether two windows must report the same start of a row."""
+        """Returns whether two windows have to report the beginning of a row alike."""
+        if not sync < row.first <= border:
+            return False
         sight = self.sight(row)
-        return sight.values == {YES} and sight.no_edge and sync + self.back(row) < row.first <= border
+        return sight.values == {YES} and sight.no_edge and sync + self.back(row) < row.first
 
     def common(self, row: Stretch, border: int) -> tuple[str, ...]:
-        """Returns the fields of a row that two windows must report alike: all fields, or only the start if the row
-        continues over the settled step."""
-        end = row.fields[row.at + 1:] if row.last <= border else ("..",)
+        """Returns what of a row two windows have to report alike: all of it, or its beginning if it goes on over the
+        settled step."""
+        end = (str(row.last), row.least) if row.last <= border else ("..",)
         return (*row.track, str(row.first), *end)

@@ -15,7 +15,8 @@ from colregs.model.formulas import YES, Sight
 from colregs.shares.results import Pair, Stretch, stretch_of
 
 BEFORE, AFTER, DOUBT = "begins_before", "ends_after", "doubt"
-DAY = 86400                                     # s: the rows of a pair stay doubtful for so long
+DIFFERS = "two windows differ about the two, as if two vessels had one MMSI"
+DAY = 86400                                     # s for which the rows of a pair stay doubtful
 Marks = tuple[str, ...]
 Track = tuple[Any, ...]                         # a pair, and its meetings or a rule's value
 
@@ -24,17 +25,20 @@ Track = tuple[Any, ...]                         # a pair, and its meetings or a 
 class Border:
     """The comparison of a window with the one before it, in steps of the window itself.
 
-    `known` is true if the window before is done, and `comparable` if its rows in the overlap are available. Pairs in
-    `open` have a meeting that began before the window agrees with the whole; until their step in `syncs` their rows may
-    differ from those of one run. `over` has the rows of the window before that continue after the border, and `met`
-    those of them that this window also has. `earlier` and `own` are the rows of the two windows in the overlap.
+    `known` says that the window before is done, and `comparable` that its rows in the overlap are here. Pairs of `open`
+    have a meeting that began before the window agrees with the whole, and until their step in `syncs` their rows are
+    not those of one run. If `blind`, it is not known which pairs these are. `until` has the last steps of meetings that
+    began as early and ended in time. `over` has the rows of the window before that continue after the border, and `met`
+    those that this window has too. `earlier` and `own` are the rows of either in the overlap.
     """
 
     known: bool = False
     comparable: bool = True
+    blind: bool = False
     open: set[Pair] = field(default_factory=set)
     unsure: set[Pair] = field(default_factory=set)
     syncs: dict[Pair, int] = field(default_factory=dict)
+    until: dict[Pair, int] = field(default_factory=dict)
     over: dict[Track, tuple[str, Marks]] = field(default_factory=dict)
     met: set[Track] = field(default_factory=set)
     earlier: dict[Pair, list[Stretch]] = field(default_factory=dict)
@@ -42,16 +46,21 @@ class Border:
     compared: set[Pair] = field(default_factory=set)
 
     def stored(self) -> dict[str, Any]:
-        """Returns the state that a restart needs, as values for JSON."""
-        return {"known": self.known, "open": sorted(self.open), "over": list(self.over.values())}
+        """Returns what a restart needs, as JSON can hold it."""
+        return {
+            "known": self.known, "blind": self.blind, "open": sorted(self.open), "over": list(self.over.values()),
+            "until": [[*pair, step] for pair, step in self.until.items()]
+        }
 
     @staticmethod
     def load(told: Mapping[str, Any]) -> "Border":
         """Loads the state that an earlier run stored."""
         over = [(str(text), tuple(map(str, marks))) for text, marks in told["over"]]
-        return Border(bool(told["known"]), False, {(int(one), int(two))
-                                                   for one, two in told["open"]},
-                      over={track_of(stretch_of(text.split(","))): (text, marks)
+        return Border(bool(told["known"]), False, bool(told.get("blind")), {(int(one), int(two))
+                                                                            for one, two in told["open"]},
+                      until={(int(one), int(two)): int(step)
+                             for one, two, step in told.get("until", [])},
+                      over={track_of(stretch_of(text, {})): (text, marks)
                             for text, marks in over})
 
 
@@ -65,7 +74,8 @@ class Borders:
     """Takes the rows of meetings and verdicts window by window.
 
     `last` is the last step of a window that is its own, `base` the step at which the next window has begun to agree
-    with it, `every` the ticks from one window to the next, and `length` the same in seconds.
+    with it, `every` the ticks from one window to the next, and `length` the same in seconds. `reach` is how many steps
+    the rules look ahead.
     """
 
     last: int
@@ -74,8 +84,11 @@ class Borders:
     length: int
     sights: Mapping[str, Sight]                 # of the scenario's formulas, looking back by ticks
     say: Callable[[str], None]
+    reach: int = 0
     borders: dict[int, Border] = field(default_factory=dict)            # by the later window's start
     doubtful: dict[Pair, int] = field(default_factory=dict)             # with the start of the window that differed
+    fresh: set[Pair] = field(default_factory=set)                       # of these, who became so just now
+    begin: int | None = None                                            # the start of the first window of all
 
     def at(self, start: int) -> Border:
         """Returns the border of the window that begins at a time with the one before it."""
@@ -83,11 +96,14 @@ class Borders:
 
     def take(self, start: int, text: str) -> Marks:
         """Takes a row of the window that begins at a time; returns its marks."""
-        row, border, following = stretch_of(text.split(",")), self.at(start), self.at(start + self.length)
+        row, border, following = stretch_of(text, {}), self.at(start), self.at(start + self.length)
         self.compare_early(start, border, row)
         marks = self.marks(border, row)
-        if row.last > self.last and row.is_meeting and (row.first <= self.base or BEFORE in marks):
-            following.open.add(row.pair)
+        if row.is_meeting and (row.first <= self.base or BEFORE in marks):
+            if row.last > self.last:
+                following.open.add(row.pair)
+            else:
+                following.until[row.pair] = row.last - self.every
         if row.first <= self.last < row.last:
             following.over[track_of(row)] = text, marks
         if row.last > self.base:
@@ -101,21 +117,50 @@ class Borders:
         return (BEFORE,) * before + (DOUBT,) * doubt
 
     def begins_before(self, border: Border, row: Stretch) -> bool:
-        """Returns whether a row's meeting began before its window, or has another start in the window before."""
-        was_open, sync = row.pair in border.open, border.syncs.get(row.pair)
+        """Returns whether a row's meeting began before its window, or the window before has another beginning of it."""
+        was_open, sync = border.blind or row.pair in border.open, border.syncs.get(row.pair)
         if row.is_meeting and was_open and sync is None and row.last <= self.last:
             border.syncs[row.pair] = row.last + 1
         before = was_open and (sync is None or row.first <= sync)
         if border.known and row.first <= self.last - self.every < row.last:
             border.met.add(track_of(row))
             old = border.over.get(track_of(row))
-            before = before or old is None or stretch_of(old[0].split(",")).first - self.every != row.first
+            before = before or old is None or stretch_of(old[0], {}).first - self.every != row.first
         return before
 
     def is_of_meetings(self, row: Stretch) -> bool:
-        """Returns whether a row's rule or formula depends only on what both windows see alike."""
-        sight = None if row.is_meeting else self.sights.get(row.fields[3])
-        return sight is None or sight.values == {YES} and sight.no_edge
+        """Returns whether a row's rule or formula speaks of what both windows see alike."""
+        sight = None if row.is_meeting else self.sights.get(row.kind.rule)
+        return sight is None or is_plain(sight)
+
+    # alarms
+
+    def of_alarm(self, start: int, text: str) -> Marks:
+        """Returns the marks of an alarm of the window that begins at a time. It is that of one run if its step comes
+        after all that the window may see otherwise of the pair: its first steps, and a meeting that began in them."""
+        _, subject, other, rule, step, _ = text.split(",", 5)
+        border, pair, sight = self.at(start), (int(subject), int(other)), self.sights.get(rule)
+        if self.begin is None or start <= self.begin and not border.blind:
+            return ()                                   # no window was before it
+        sync = border.syncs.get(pair)
+        if sync is None and not border.blind and pair not in border.open:
+            sync = max(self.base - self.every, border.until.get(pair, -1) + 1)
+        before = sync is None or int(step) <= sync + (sight.back if sight else 0)
+        doubt = pair in self.doubtful or sight is not None and not is_plain(sight)
+        return (BEFORE,) * before + (DOUBT,) * doubt
+
+    def in_question(self, start: int) -> list[tuple[Pair, str]]:
+        """Returns the pairs whose alarms the window that begins at a time may lack, and why; (0, 0) stands for all."""
+        border = self.at(start)
+        found = [((0, 0), f"the formula {name} is not of meetings alone")
+                 for name, sight in self.sights.items()
+                 if not is_plain(sight)]
+        if border.blind:
+            return [*found, ((0, 0), "it is not known which meetings began before the window")]
+        # the window before decides steps up to the border, and this one those of a meeting that it may see otherwise
+        late = {pair for pair, step in border.until.items() if step > self.last - self.every - self.reach}
+        found += [(pair, "their meeting began before the window") for pair in sorted(border.open | late)]
+        return found + [(pair, DIFFERS) for pair in sorted(self.doubtful)]
 
     # rows that two windows share
 
@@ -145,10 +190,11 @@ class Borders:
                 self.say(f"the windows from {iso(start - self.length)} and {iso(start)} differ about {pair[0]} and "
                          f"{pair[1]}; two vessels may share an MMSI. Their rows get the mark `{DOUBT}` for a day")
             self.doubtful[pair] = start
+            self.fresh.add(pair)
 
     def is_common(self, row: Stretch, sync: int) -> bool:
-        """Returns whether two windows that agree from a step must report the same row."""
-        sight = None if row.is_meeting else self.sights.get(row.fields[3])
+        """Returns whether two windows that agree from a step on report a row alike."""
+        sight = None if row.is_meeting else self.sights.get(row.kind.rule)
         return row.last <= self.last - self.every and self.is_of_meetings(
             row) and row.first > sync + (sight.back if sight else 0)
 
@@ -175,15 +221,26 @@ class Borders:
         return {
             "borders": {str(start): border.stored()
                         for start, border in self.borders.items()},
-            "doubtful": [[*pair, start] for pair, start in self.doubtful.items()]
+            "doubtful": [[*pair, start] for pair, start in self.doubtful.items()], "begin": self.begin
         }
 
     def load(self, told: Mapping[str, Any]) -> None:
         """Loads the state that an earlier run stored, for all borders."""
         self.borders = {int(start): Border.load(border) for start, border in told.get("borders", {}).items()}
         self.doubtful = {(int(one), int(two)): int(start) for one, two, start in told.get("doubtful", [])}
+        # if the first window of all is not known, each one has another before it
+        self.begin = -1 if told.get("begin") is None else int(told["begin"])
+
+    def take_window(self, start: int) -> None:
+        """Takes the start of a window that begins; the first of all begins with the stream."""
+        self.begin = start if self.begin is None else min(self.begin, start)
+
+
+def is_plain(sight: Sight) -> bool:
+    """Returns whether a formula speaks of what both windows see alike."""
+    return sight.values == {YES} and sight.no_edge
 
 
 def common(row: Stretch) -> tuple[str, ...]:
-    """Returns the fields of a row that two windows must report alike."""
-    return (*row.track, str(row.first), *row.fields[row.at + 1:])
+    """Returns what of a row two windows have to report alike."""
+    return (*row.track, str(row.first), str(row.last), row.least)

@@ -26,7 +26,7 @@ from colregs.model.scenario import MOST_SUBJECTS, Scenario
 from colregs.run.limits import STATUS, limit_of, next_step
 from colregs.shares.heads import STRADDLE
 from colregs.stream.areas import AreaRun
-from colregs.stream.borders import AFTER, Border, Borders, Marks
+from colregs.stream.borders import AFTER, DIFFERS, Border, Borders, Marks
 from colregs.stream.day_files import Clock, DayFiles, Mark, MedianClock, Timed, lines_of
 from colregs.stream.health import Health
 from colregs.stream.rows import Sink, Written, steps_of
@@ -106,10 +106,12 @@ class Follow:
         self.health = Health(given.days, scenario.slack, self.say)
         self.written, self.types = Written(given.days, sink), StreamTypes(given.days, scenario.slack, scenario.ranks)
         self.borders = Borders(self.numbers.last, given.every + self.numbers.warm, given.every, self.numbers.length,
-                               sights_of(scenario), self.say)
-        self.restarts: dict[tuple[int, str, frozenset[int] | None], int] = {}     # of killed runs
-        self.windows: dict[int, Window] = {}            # the open windows by their starts
-        self.over: set[int] = set()                     # the starts of the closed windows
+                               sights_of(scenario), self.say, self.numbers.reach)
+        # alarms are marked by what `audit` says of their pairs, also if its rows are not asked for
+        self.modes = list(dict.fromkeys([*given.modes, "audit"]))
+        self.restarts: dict[tuple[int, str, frozenset[int] | None], int] = {}     # of runs that were killed
+        self.windows: dict[int, Window] = {}            # those that are open, by their starts
+        self.over: set[int] = set()                     # the starts of those that are closed
         self.runs: set[WindowRun] = set()
         self.earliest: dict[str, int] = {}              # by mode: the first start of a window with a run, if known
         self.heard: dict[int, int] = {}                 # by vessel: the clock when she was last heard
@@ -171,8 +173,8 @@ class Follow:
                     self.begin_window(start, True)
             self.open(again=True)
             if first is None and self.windows:
-                # it is unknown which of its rows began before it
-                self.borders.borders[min(self.windows)] = Border(known=True, comparable=False)
+                # which of its rows began before it is not known
+                self.borders.borders[min(self.windows)] = Border(known=True, comparable=False, blind=True)
             self.close_those_over()
 
     def known_place(self, first: int | None) -> Mark:
@@ -283,12 +285,13 @@ class Follow:
         if again or self.files.out is None:
             place = self.place_of(start - self.numbers.gap)
         self.written.load(start)
+        self.borders.take_window(start)
         window = self.windows[start] = Window(start, place or self.files.place(),
                                               self.types.lines_before(start - self.numbers.gap))
         if self.grouped:
             self.split(window, sorted(self.vessels(window)))
         else:
-            for mode in self.given.modes:
+            for mode in self.modes:
                 self.begin(window, mode, None)
         if self.listener:
             for run in self.runs:
@@ -341,7 +344,7 @@ class Follow:
         self.grouped = True
         window.add_groups(vessels)
         size = min(self.given.group, MOST_SUBJECTS)
-        for mode in modes or self.given.modes:
+        for mode in modes or self.modes:
             for k in range(0, len(vessels), size):
                 self.begin(window, mode, frozenset(vessels[k:k + size]))
 
@@ -373,6 +376,9 @@ class Follow:
             self.fault(f"a run of `{run.mode}` from {run.window.start} ended with status {status}, "
                        f"{words}{next_step(status, words)}")
             self.written.lack(run.mode, run.window.start, self.numbers.ticks * self.numbers.tick, words)
+            if run.mode == "audit":
+                border = self.borders.at(run.window.start + self.numbers.length)
+                border.comparable, border.blind = False, True
 
     def by_areas(self, run: WindowRun) -> None:
         """Audits a window with too many vessels by areas, once its lines are over."""
@@ -425,9 +431,12 @@ class Follow:
         fields = row.split(",", 3)
         if not run.is_mine(int(fields[1]), int(fields[2]), self.scenario.subjects):
             return
-        marks = self.borders.take(start, row) if run.mode == "audit" else ()
+        marks = (self.borders.take if run.mode == "audit" else self.borders.of_alarm)(start, row)
+        self.write_differing(start)
         if run.cut and run.closed is not None and last > numbers.settled(start, run.closed, run.mode):
-            return                                      # later lines may still change it
+            return                                      # what comes later may still change it
+        if run.mode not in self.given.modes:
+            return
         if last > numbers.last and first < numbers.every + numbers.warm:
             self.tell_long(run, row)
         if numbers.behind < last <= numbers.last or last > numbers.last and self.is_last(run):
@@ -448,7 +457,9 @@ class Follow:
         """Returns whether a window before this run's window is not done. The rows and the points of that window come
         first: later rows must not delay them, and a listener ignores points that are older than those that it has."""
         if run.mode not in self.earliest:
-            starts = [other.window.start for other in self.runs if other.mode == run.mode]
+            # the marks of alarms need the rows of `audit` of the window before
+            modes = (run.mode, "audit") if run.mode == "watch" else (run.mode,)
+            starts = [other.window.start for other in self.runs if other.mode in modes]
             if not starts:
                 return False
             self.earliest[run.mode] = min(starts)
@@ -493,15 +504,32 @@ class Follow:
         after that window but that this window lacks."""
         start, following = run.window.start, run.window.start + self.numbers.length
         self.write_over(start - self.numbers.length, self.borders.end(start))
-        if following not in self.ending and not self.has_audit(following) and not self.is_last(run):
+        self.write_differing(start)
+        if following in self.ending or self.has_audit(following):
+            self.write_questions(following, self.borders.in_question(following))
+        elif not self.is_last(run):
             self.write_over(start, self.borders.end(following))         # no window follows
 
     def write_over(self, start: int, rows: list[tuple[str, Marks]]) -> None:
-        """Writes rows of the window from `start` that continue after it."""
-        for row, marks in rows:
+        """Writes rows of the window that begins at a time that continue after it."""
+        for row, marks in rows if "audit" in self.given.modes else ():
             self.health.rows += self.written.write(row, "audit", start, self.numbers.tick, (*marks, AFTER))
 
-    # the whole stream
+    def write_differing(self, start: int) -> None:
+        """Writes about which pairs the window that begins at a time turned out to differ from the one before it."""
+        if self.borders.fresh:
+            self.write_questions(start, [(pair, DIFFERS) for pair in sorted(self.borders.fresh)])
+            self.borders.fresh.clear()
+
+    def write_questions(self, start: int, questions: list[tuple[tuple[int, int], str]]) -> None:
+        """Writes which pairs may lack alarms among the own steps of the window that begins at a time, or have wrong
+        ones."""
+        first, last = self.numbers.behind - self.numbers.reach, self.numbers.last
+        bounds = start + first * self.numbers.tick, start + (last + 1) * self.numbers.tick
+        for pair, why in questions if "watch" in self.given.modes else ():
+            self.written.question(pair, start, bounds, why)
+
+    # the whole
 
     def run(self, source: Source, stop: threading.Event) -> int:
         """Follows the stream to its end, or until `stop` is set; returns the exit status."""
@@ -511,7 +539,7 @@ class Follow:
         waiting: list[tuple[Any, ...]] = []
         ended, passed = False, None
         while not stop.is_set() and not (ended and not waiting):
-            if waiting and not self.is_behind() and (len(self.runs) < MOST_RUNS * len(self.given.modes)
+            if waiting and not self.is_behind() and (len(self.runs) < MOST_RUNS * len(self.modes)
                                                      or not self.crowded()):
                 lines, mark = waiting.pop(0)
                 self.take(lines)

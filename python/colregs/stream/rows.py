@@ -27,7 +27,7 @@ def as_values(text: str, mode: str, start: int, tick: int, marks: Iterable[str] 
     if isinstance(row, Alarm):
         return made | {
             "rule": row.rule, "step": iso(start + row.step * tick), "decided": iso(start + (row.decided + 1) * tick)
-        }
+        } | {mark: True for mark in marks}
     if isinstance(row, Meeting):
         made |= {"encounter": row.encounter, "least": row.metres}
     else:
@@ -43,7 +43,8 @@ def steps_of(text: str) -> tuple[int, int]:
     return int(fields[at]), int(fields[at + 1])
 
 
-MISSING = "missing"              # the kind of a line that reports missing rows of a window
+MISSING = "missing"              # the kind of a line that says that a window has no rows, or not all
+UNSURE = "unsure"                # the kind of a line that names a pair whose alarms a window may lack
 
 
 class Sink(Protocol):
@@ -166,6 +167,15 @@ class Written:
             known.add(MISSING)
             self.put({"mode": mode, "run": start, "row": MISSING, "kind": MISSING, "begins": iso(start),
                       "ends": iso(start + seconds), "why": why}, start)
+
+    def question(self, pair: tuple[int, int], start: int, bounds: tuple[int, int], why: str) -> None:
+        """Writes once that alarms of a pair, or of all pairs, may be missing in a window between two times."""
+        self.load(start)
+        known, row = self.known.setdefault(("watch", start), set()), f"{UNSURE},{pair[0]},{pair[1]},{why}"
+        if row not in known:
+            known.add(row)
+            self.put({"mode": "watch", "run": start, "row": row, "kind": UNSURE, "subject": pair[0] or None,
+                      "other": pair[1] or None, "begins": iso(bounds[0]), "ends": iso(bounds[1]), "why": why}, start)
 
     def put(self, told: dict[str, Any], start: int) -> None:
         """Writes a line of a window."""

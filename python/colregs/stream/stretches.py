@@ -14,6 +14,7 @@ from typing import Any
 
 from colregs.model.earth import Earth, iso
 from colregs.model.scenario import Scenario
+from colregs.stream.borders import BEFORE, DOUBT
 from colregs.stream.day_files import day_of, whole_length
 from colregs.stream.fleet import Fleet
 from colregs.stream.lately import marks_of, rest_of
@@ -45,6 +46,8 @@ class AlarmStretch:
     last: int
     decided: int
     alarms: int = 1
+    # why one run over the whole stream may not have all of its alarms (colregs/stream/borders.py)
+    doubts: set[str] = field(default_factory=set)
     # the numbers of stretches that turned out to be parts of this one
     absorbed: list[int] = field(default_factory=list)
 
@@ -73,6 +76,7 @@ class Stretches:
             one.first, one.last, one.alarms = min(one.first, other.first), max(one.last,
                                                                                other.last), one.alarms + other.alarms
             one.absorbed += [other.number, *other.absorbed]
+            one.doubts |= other.doubts
             known.remove(other)
         one.first, one.last, one.decided = min(one.first, step), max(one.last,
                                                                      step + self.tick), max(one.decided, decided)
@@ -210,6 +214,7 @@ class StretchBook:
     def extended(self, row: dict[str, Any]) -> AlarmStretch:
         """Adds an alarm to its stretch; returns the stretch."""
         one = self.stretches.take(*alarm_of(row, self.stretches.tick))
+        one.doubts |= {mark for mark in (BEFORE, DOUBT) if mark in row}
         self.due.pop(one.number, None)
         if self.joined:
             self.joined(one)
@@ -241,7 +246,7 @@ class StretchBook:
             "begins": iso(one.first), "ends": iso(one.last), "decided": iso(one.decided), "alarms": one.alarms,
             "first": one.first, "last": one.last, "rested": rested or state == RESTS, **about(
                 self.fleet, self.earth, self.stretches.tick, one.key, one.first, one.last)
-        }
+        } | {mark: True for mark in sorted(one.doubts)}
         self.tell(told)
         with open(self.path(one.first), "a", encoding="utf-8") as out:
             out.write(json.dumps(told, ensure_ascii=False) + "\n")
