@@ -15,7 +15,7 @@ import crowd
 from drawn_logs import METRE, START, in_parts, scenario_text, stamped, voyage
 from given import InFolder, PROGRAM, text_of, with_program
 from colregs.io import sentences
-from colregs.io.lines import Joiner, Sentence, Stamps, bits_of, line_of, sentence_of, stamp_of_block
+from colregs.io.lines import Joiner, Sentence, bits_of, line_of, sentence_of, stamp_of, stamp_of_block
 from colregs.model.formulas import YES, sight_of
 from colregs.model.scenario import Scenario
 from colregs.run.limits import next_step
@@ -297,7 +297,7 @@ class Parts(InFolder):
             (b"\\s:a!b,c:5*" + b"%02X" % sentences.total(b"s:a!b,c:5") + b"\\!", 5),
             (b"!AIVDM", None),
         ):
-            self.assertEqual(Stamps().of(line), stamp, line)
+            self.assertEqual(stamp_of(line), stamp, line)
         self.assertEqual(stamp_of_block(b"\\*00\\"), None)
         self.assertIsNotNone(sentence_of(good + b"\r\n"))
         for wrong in (good[:-1] + b"8", good.replace(b",1,1,", b",1,2,"), good + b"x", good[1:],

@@ -6,14 +6,11 @@ from typing import IO
 
 from colregs.errors import Fault
 
-PCAP = {
-    b"\xd4\xc3\xb2\xa1": ("<", 10**6), b"\xa1\xb2\xc3\xd4": (">", 10**6), b"\x4d\x3c\xb2\xa1": ("<", 10**9),
-    b"\xa1\xb2\x3c\x4d": (">", 10**9)
-}
+PCAP = {b"\xd4\xc3\xb2\xa1": "<", b"\xa1\xb2\xc3\xd4": ">", b"\x4d\x3c\xb2\xa1": "<", b"\xa1\xb2\x3c\x4d": ">"}
 PCAPNG = b"\x0a\x0d\x0d\x0a"
-# blocks of pcapng, and an option of an interface
-SECTION, INTERFACE, ENHANCED, RESOLUTION = 0x0A0D0D0A, 1, 6, 9
-LITTLE, BIG = b"\x4d\x3c\x2b\x1a", b"\x1a\x2b\x3c\x4d"
+MAGIC = (*PCAP, PCAPNG)
+INTERFACE, ENHANCED, RESOLUTION = 1, 6, 9       # blocks of pcapng, and an option of an interface
+BIG = b"\x1a\x2b\x3c\x4d"                       # how a section begins whose numbers have their high byte first
 ETHERNET, NULL, RAW, COOKED, COOKED_2 = 1, 0, (12, 14, 101, 228, 229), 113, 276     # link types
 IPV4, IPV6, VLAN, UDP = 0x0800, 0x86DD, (0x8100, 0x88A8), 17
 # bytes of a packet or of a block: more is damage
@@ -25,14 +22,14 @@ def packets(source: IO[bytes], name: str) -> Iterator[Packet]:
     """Yields the packets of a capture; after the last whole packet of one that is cut off, raises EOFError."""
     magic = source.read(4)
     if magic in PCAP:
-        yield from pcap(source, *PCAP[magic])
+        yield from pcap(source, PCAP[magic])
     elif magic == PCAPNG:
         yield from pcapng(source)
     else:
         raise Fault(f"{name} is no capture of a network")
 
 
-def pcap(source: IO[bytes], order: str, parts: int) -> Iterator[Packet]:
+def pcap(source: IO[bytes], order: str) -> Iterator[Packet]:
     """Yields the packets of a pcap whose magic was read."""
     link = struct.unpack(order + "I", whole(source, 20)[16:20])[0] & 0xFFFF
     while head := source.read(16):

@@ -1,6 +1,7 @@
 """What a doctor sees in a log itself, before the program reads it: how it is packed, whether it has sentences and
 times, who shares an MMSI."""
 import collections
+import contextlib
 import re
 import statistics
 from collections.abc import Iterator, Mapping
@@ -9,7 +10,7 @@ from colregs.io.forms import seconds_of
 from colregs.io.logs import sampled, timed
 from colregs.io.packing import encoding, packing
 from colregs.model.scenario_checks import Finding
-from colregs.io.sentences import Message, lone_message, place_of
+from colregs.io.sentences import Message, lone_message, place_of, utc_of
 from colregs.io.sources import CUT
 from colregs.io.tables import table_of
 from colregs.io.tag_blocks import stamp
@@ -115,13 +116,8 @@ class Senders:
 
     def compare(self, at: int, message: Message) -> None:
         """Notes how far a line's time is from the UTC in its base station's message."""
-        fields = [
-            message.number(first, width) for first, width in ((38, 14), (52, 4), (56, 5), (61, 5), (66, 6), (72, 6))
-        ]
-        try:
-            self.apart.append(at - seconds_of(*fields))
-        except ValueError:
-            return
+        with contextlib.suppress(ValueError):       # a station without a time sends month and day 0
+            self.apart.append(at - seconds_of(*utc_of(message)))
 
     def clock(self) -> Iterator[Finding]:
         """Yields a finding if the log's times are far from the UTC of base stations."""

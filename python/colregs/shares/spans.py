@@ -10,7 +10,7 @@ from typing import NamedTuple
 
 from colregs.errors import Fault, reason
 from colregs.io.files import sum_of
-from colregs.io.lines import LONGEST, TAGS, Stamps, stamp_of_block
+from colregs.io.lines import LONGEST, TAGS, stamp_of, stamp_of_block
 from colregs.io.packing import packing
 from colregs.run.pipes import reader
 
@@ -138,8 +138,7 @@ def tags_of(lines: bytes) -> list[bytes]:
     """Returns the tag blocks of lines that are short enough to be read, in order."""
     if max(map(len, lines.split(b"\n"))) <= LONGEST:
         return TAGS.findall(b"\n" + lines)
-    stamps = Stamps()
-    return [line[:line.find(b"\\", 1) + 1] for line in lines.split(b"\n") if stamps.of(line) is not None]
+    return [line[:line.find(b"\\", 1) + 1] for line in lines.split(b"\n") if stamp_of(line) is not None]
 
 
 def add_block(blocks: list[Block], block: Block) -> None:
