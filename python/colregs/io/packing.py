@@ -17,6 +17,7 @@ import tempfile
 import zipfile
 import zlib
 from collections.abc import Callable, Iterable, Iterator
+from dataclasses import dataclass
 from typing import IO, Any
 
 from colregs.errors import Fault, reason
@@ -31,11 +32,15 @@ DAMAGE = (EOFError, zlib.error, lzma.LZMAError, zipfile.BadZipFile, gzip.BadGzip
 TOO_LONG = b"\xff too long"       # stands for such a line; no line of a log begins so
 
 
+@dataclass
 class Part:
     """A log within a file: its name, how the file was packed, its encoding, and its lines once it was read."""
 
-    def __init__(self, name: str, packed: str) -> None:
-        self.name, self.packed, self.encoding, self.lines, self.is_cut = name, packed, "bytes", 0, False
+    name: str
+    packed: str
+    encoding: str = "bytes"
+    lines: int = 0
+    is_cut: bool = False
 
     def is_read_as_far_as_it_goes(self) -> bool:
         """Returns whether the lines before a damaged place are read: of a capture, and of gzip if there are some."""
