@@ -38,20 +38,20 @@ def add_stream(words: argparse.ArgumentParser) -> None:
     words.add_argument("scenario", metavar="SCENARIO")
     words.add_argument("--days", metavar="DIR", required=True, help="the folder of the day files")
     words.add_argument("--log", metavar="FILE", help="a file that grows, instead of standard input")
-    words.add_argument("--command", metavar="COMMAND", help="a command whose output is the stream; it is started again "
-                                                            "if it ends")
+    words.add_argument("--command", metavar="COMMAND",
+                       help="a command whose output is the stream; it is started again if it ends")
     words.add_argument("--now", action="store_true", help="give bare sentences the time at which they arrive")
-    words.add_argument("--ticks-each", dest="every", type=int, default=360, metavar="N", help="from a window's start "
-                       "to the next one's (default: 360)")
-    words.add_argument("--overlap", type=int, default=3600, metavar="SECONDS", help="how far a window runs on into the "
-                                                                                    "next (default: 3600)")
+    words.add_argument("--ticks-each", dest="every", type=int, default=360, metavar="N",
+                       help="from a window's start to the next one's (default: 360)")
+    words.add_argument("--overlap", type=int, default=3600, metavar="SECONDS",
+                       help="how far a window runs on into the next (default: 3600)")
     words.add_argument("--clock", choices=("greatest", "median"), default="greatest",
                        help="the stream's clock is the greatest time so far (the default), or that of most stations, "
                             "which then restamps lines of those ahead")
-    words.add_argument("--group", type=int, default=32, metavar="N", help="subjects of a run at most if a window is "
-                                                                          "split (default: 32)")
-    words.add_argument("--whole", action="store_true", help="the stream ends for good: write its last rows too, and do "
-                                                            "not wait for a file to grow")
+    words.add_argument("--group", type=int, default=32, metavar="N",
+                       help="subjects of a run at most if a window is split (default: 32)")
+    words.add_argument("--whole", action="store_true",
+                       help="the stream ends for good: write its last rows too, and do not wait for a file to grow")
     add_program(words)
 
 

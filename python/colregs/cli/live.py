@@ -46,22 +46,23 @@ def parser() -> argparse.ArgumentParser:
     words = parser_of(__doc__, "live")
     add_stream(words)
     words.add_argument("--speed", type=speed, metavar="N", help="replay a --log as its times ask, N times as fast")
-    words.add_argument("--listen", default="127.0.0.1:8080", metavar="HOST:PORT", help="where the page is (default: "
-                                                                                       "127.0.0.1:8080)")
+    words.add_argument("--listen", default="127.0.0.1:8080", metavar="HOST:PORT",
+                       help="where the page is (default: 127.0.0.1:8080)")
     words.add_argument("--socket", metavar="FILE", help="listen on a Unix socket, for a proxy, instead of a port")
-    words.add_argument("--token-file", metavar="FILE", help="a file with a token that browsers and programs need; "
-                                                            "other machines can reach the page only with it")
-    words.add_argument("--origin", action="append", default=[], metavar="URL", help="the origin of the page behind a "
-                       "proxy, as https://live.example.org; may be repeated")
+    words.add_argument("--token-file", metavar="FILE",
+                       help="a file with a token that browsers and programs need; other machines can reach the page "
+                            "only with it")
+    words.add_argument("--origin", action="append", default=[], metavar="URL",
+                       help="the origin of the page behind a proxy, as https://live.example.org; may be repeated")
     words.add_argument("--chart", metavar="FILE.geojson", help="a coast for the map")
-    words.add_argument("--tiles", metavar="URL", help="the address of map tiles, with {z}, {x} and {y}; without it the "
-                                                      "page asks no other address")
+    words.add_argument("--tiles", metavar="URL",
+                       help="the address of map tiles, with {z}, {x} and {y}; without it the page asks no other "
+                            "address")
     words.add_argument("--title", default="", help="the title of the page")
-    words.add_argument("--browsers", type=at_least(1, 10000), default=100, metavar="N", help="browsers at a time at "
-                                                                                             "most (default: 100)")
-    words.add_argument("--quiet-after", type=at_least(1), default=120, metavar="SECONDS", help="/healthz is red if no "
-                                                                                               "line came for so long "
-                                                                                               "(default: 120)")
+    words.add_argument("--browsers", type=at_least(1, 10000), default=100, metavar="N",
+                       help="browsers at a time at most (default: 100)")
+    words.add_argument("--quiet-after", type=at_least(1), default=120, metavar="SECONDS",
+                       help="/healthz is red if no line came for so long (default: 120)")
     words.set_defaults(modes=["audit", "watch"])
     return words
 

@@ -90,6 +90,9 @@ class File:
         self.out.close()
 
 
+NOT_RUN = 126, 127        # statuses of a shell that cannot run its command
+
+
 class Command:
     """A command of the shell that reads rows; if it has ended, it is started again once per row."""
 
@@ -120,7 +123,8 @@ class Command:
                 self.child.stdin.close()
             except OSError:
                 pass
-            self.child.wait()
+            if self.child.wait() in NOT_RUN:
+                raise Fault(f"`{self.words}` cannot be run, and took no rows")
 
 
 class Written:

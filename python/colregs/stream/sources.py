@@ -101,6 +101,8 @@ class File:
         self.path, self.state, self.ends = path, state, ends
         if not os.path.exists(path):
             raise Fault(f"{path} is not there")
+        if os.path.isdir(path):
+            raise Fault(f"{path} is a folder, and no log")
 
     def place(self) -> int:
         """Returns where a run before this one stopped, if the file is the same."""
