@@ -6,7 +6,7 @@ import stat
 import subprocess
 import sys
 
-from given import HANGS, TOOLS, InFolder, example, with_program
+from given import HANGS, TOOLS, InFolder, example, text_of, with_program
 from colregs.io import files
 
 SCENARIO, LOG = example("crossing.toml"), example("crossing.log")
@@ -24,8 +24,9 @@ class Hostile(InFolder):
 @with_program
 class Streams(Hostile):
     def test_a_closed_output_is_named(self) -> None:
+        log = self.write("log", text_of(LOG))          # a plan stores what it reads beside the log
         for name, words in (("tagged", [LOG]), ("scenario", [LOG]), ("geojson", [SCENARIO, "--log", LOG]),
-                            ("many", ["plan", SCENARIO, LOG]), ("case", ["--help"])):
+                            ("many", ["plan", SCENARIO, log]), ("case", ["--help"])):
             status, _, error = self.shell(">&-", f"colregs-{name}", *words)
             self.assertEqual((status, error.splitlines()[-1]), (1, f"{name}: {CLOSED}"), name)
             self.assertNotIn("Traceback", error)

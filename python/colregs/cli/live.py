@@ -24,7 +24,7 @@ from colregs.errors import DONE, FAILED, Fault, end, report
 from colregs.model.rules import RULES
 from colregs.model.scenario import Scenario
 from colregs.run.program import found
-from colregs.stream.sources import Source
+from colregs.stream.sources import STATE, Source
 
 DEBIAN = "/usr/bin/python3"         # the Python for which Debian's python3-aiohttp is
 FASTEST = 1000
@@ -86,7 +86,7 @@ def stream_of(given: argparse.Namespace) -> Source:
     from colregs.live.follower import Paced
     if given.speed and not given.log:
         raise Fault("--speed replays a log: give --log FILE")
-    source = source_of(given)
+    source = source_of(given, os.path.join(given.days, STATE))
     return Paced(source, given.speed) if given.speed else source
 
 

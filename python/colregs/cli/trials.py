@@ -192,7 +192,3 @@ def main(arguments: Sequence[str] | None = None) -> int:
 def command() -> NoReturn:
     """Runs the command."""
     end("trials", main)
-
-
-if __name__ == "__main__":
-    command()

@@ -17,10 +17,8 @@ from colregs.io.tag_blocks import stamp
 
 MOST_SPEED = 102.2 * 1852 / 3600         # metres a second: what no ship makes
 Report = tuple[int, int, int]            # time, latitude and longitude
-STATIONS = {
-    4: "a base station's time", 9: "an aircraft's report", 11: "a base station's time",
-    21: "an aid to navigation's report"
-}
+STATIONS = {4: "a base station's time", 9: "an aircraft's report", 11: "a base station's time",
+            21: "an aid to navigation's report"}
 FLOATS = re.compile(r"\bBUOY|\bBEACON|\bNETS?\b|\bNETMARK|\d+ ?%|\d\d?\.\d ?V\b")
 STEADY = 3                               # so many reports of either of two tracks make two ships
 CLOCKS = 4, 11                           # messages with the UTC of their sender
@@ -42,11 +40,8 @@ def form_of(log: str) -> Iterator[Finding]:
         yield Finding("log in UTF-16", "the log is a text in UTF-16: tools/colregs-tagged reads it")
     elif not any(CUT.search(line) for line in sampled(log)):
         table = next((table for table in map(table_of, head.split(b"\n")[:5]) if table), None)
-        words = (
-            f"is a table ({table.name}): tools/colregs-tagged makes sentences of it"
-            if table
-            else "has no AIVDM or AIVDO sentence"
-        )
+        words = (f"is a table ({table.name}): tools/colregs-tagged makes sentences of it" if table
+                 else "has no AIVDM or AIVDO sentence")
         yield Finding("no sentences", "the log " + words)
 
 
@@ -125,8 +120,7 @@ class Senders:
         if abs(apart) > OFF:
             side = "ahead of" if apart > 0 else "behind"
             yield Finding("clock that is off", f"the log's times are {abs(apart)} s ({abs(apart) / 3600:.2f} hours) "
-                                               f"{side} the UTC that base stations send "
-                          f"in {len(self.apart)} messages")
+                          f"{side} the UTC that base stations send in {len(self.apart)} messages")
 
     def lost(self, points: Mapping[int, int]) -> Iterator[tuple[int, int, int]]:
         """Yields ships most of whose reports are not accepted: MMSI, reports, accepted reports."""
@@ -144,8 +138,8 @@ class Senders:
         """Yields stations that are judged as vessels."""
         for mmsi in sorted(set(self.stations) & set(vessels)):
             kind = max(self.stations[mmsi], key=lambda kind: self.stations[mmsi][kind])
-            yield Finding("station that is no ship", f"{mmsi} is judged as a vessel, and sends {STATIONS[kind]} "
-                                                     f"(message {kind})")
+            yield Finding("station that is no ship",
+                          f"{mmsi} is judged as a vessel, and sends {STATIONS[kind]} (message {kind})")
         for mmsi, name in sorted(vessels.items()):
             if FLOATS.search(name):
                 yield Finding("station that is no ship", f"{mmsi} is judged as a vessel, and is called {name}")

@@ -31,8 +31,8 @@ def beside() -> str | None:
     """Returns where the program is if it lies beside the tool; None if the tool is no file, for then the current folder
     would count."""
     tool = os.path.realpath(sys.argv[0])
-    return os.path.join(os.path.dirname(tool),
-                        "colregs") if not sys.argv[0].startswith("-") and os.path.isfile(tool) else None
+    is_file = not sys.argv[0].startswith("-") and os.path.isfile(tool)
+    return os.path.join(os.path.dirname(tool), "colregs") if is_file else None
 
 
 def built(path: str) -> str:
@@ -105,6 +105,11 @@ class Run:
         self.status, self.text = done.returncode, done.stdout
         self.words = done.stderr.decode("utf-8", "replace").strip()
 
+    def fault(self, mode: str) -> Fault:
+        """Returns why there is no report of a mode: the status, the line on standard error, and what to do."""
+        step = next_step(self.status, self.words) or "; docs/ROWS.md says what to do at each status"
+        return Fault(f"the program ends `{mode}` with status {self.status}, {self.words}{step}")
+
     def rows(self, kind: str) -> list[list[bytes]]:
         """Returns the fields of each row of a kind; only a vessel's name may hold a comma."""
         head = kind.encode() + b","
@@ -143,8 +148,7 @@ def report_of(program: str, mode: str, scenario: str, log: str, good: Container[
     one."""
     done = Run(program, mode, scenario, log, options)
     if done.status not in good:
-        step = next_step(done.status, done.words) or "; docs/ROWS.md says what to do at each status"
-        raise Fault(f"the program ends `{mode}` with status {done.status}, {done.words}{step}")
+        raise done.fault(mode)
     return done.text.decode()
 
 

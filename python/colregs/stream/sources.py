@@ -12,6 +12,7 @@ from colregs.io.files import replace
 
 # bytes of a read; s between looks at a file; s before a command is begun again
 BLOCK, PAUSE, AGAIN = 1 << 16, 0.2, 5
+STATE = "source.json"           # in the folder of the day files: how far a log was read
 
 
 Mark = dict[str, int] | None                 # what a restart needs to know of the lines taken
