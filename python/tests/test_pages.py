@@ -46,6 +46,18 @@ class Pages(InFolder):
             self.assertRegex(text, r"\n\n[A-Z]\w+s [^\n]+\.\n\n")
             self.assertRegex(text, r"(?s)\nExit status: .*\bIt needs Python 3\.11 or later\.\n")
 
+    @with_program
+    def test_a_folder_gets_the_pages_and_the_completions_of_the_program(self) -> None:
+        self.assertEqual(pages.main(self.folder, PROGRAM), 0)
+        made = {os.path.relpath(os.path.join(folder, name), self.folder)
+                for folder, _, names in os.walk(self.folder) for name in names}
+        self.assertEqual(made, {*pages.pages(), "zsh/_colregs", "fish/colregs.fish"})
+        shown = subprocess.run([PROGRAM, "--help"], capture_output=True, text=True, check=True).stdout
+        modes = set(re.findall(r"(?m)^ +- (\w+):", shown))
+        self.assertTrue({"points", "audit", "plan"} <= modes)
+        self.assertEqual(set(re.findall(r"__fish_use_subcommand -a (\w+)", text_of(self.path("fish/colregs.fish")))),
+                         modes)
+
     def test_the_old_names_are_the_new_commands(self) -> None:
         for old, new in OLD.items():
             self.assertEqual(text_of(os.path.join(TOOLS, old)), text_of(os.path.join(TOOLS, new)))

@@ -4,8 +4,6 @@ import struct
 from collections.abc import Iterator
 from typing import IO
 
-from colregs.errors import Fault
-
 PCAP = {b"\xd4\xc3\xb2\xa1": "<", b"\xa1\xb2\xc3\xd4": ">", b"\x4d\x3c\xb2\xa1": "<", b"\xa1\xb2\x3c\x4d": ">"}
 PCAPNG = b"\x0a\x0d\x0d\x0a"
 MAGIC = (*PCAP, PCAPNG)
@@ -18,15 +16,10 @@ LARGEST = 1 << 26
 Packet = tuple[int, int, bytes]                                         # seconds, link type, and bytes
 
 
-def packets(source: IO[bytes], name: str) -> Iterator[Packet]:
-    """Yields the packets of a capture; after the last whole packet of one that is cut off, raises EOFError."""
+def packets(source: IO[bytes]) -> Iterator[Packet]:
+    """Returns the packets of a capture; after the last whole packet of one that is cut off, it raises EOFError."""
     magic = source.read(4)
-    if magic in PCAP:
-        yield from pcap(source, PCAP[magic])
-    elif magic == PCAPNG:
-        yield from pcapng(source)
-    else:
-        raise Fault(f"{name} is no capture of a network")
+    return pcapng(source) if magic == PCAPNG else pcap(source, PCAP[magic])
 
 
 def pcap(source: IO[bytes], order: str) -> Iterator[Packet]:
@@ -106,10 +99,10 @@ def payload(link: int, data: bytes) -> bytes:
     return rest[8:int.from_bytes(rest[4:6], "big")] if len(rest) > 8 else b""
 
 
-def lines(source: IO[bytes], name: str) -> Iterator[bytes]:
+def lines(source: IO[bytes]) -> Iterator[bytes]:
     """Yields each line of the UDP payloads, with the capture's time in seconds before it unless it has a tag block, and
     a line feed."""
-    for seconds, link, data in packets(source, name):
+    for seconds, link, data in packets(source):
         for line in payload(link, data).splitlines():
             if line.strip(b" \0"):
                 yield (line if line.startswith(b"\\") else b"%d %s" % (seconds, line)) + b"\n"

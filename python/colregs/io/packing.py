@@ -132,7 +132,7 @@ def stream_lines(stream: Any, part: Part) -> Iterator[bytes]:
     buffered = stream if hasattr(stream, "peek") else io.BufferedReader(stream)
     if buffered.peek(4)[:4] in captures.MAGIC:
         part.packed = CAPTURE if part.packed in ("plain", CAPTURE) else f"{part.packed}, as {CAPTURE}"
-        yield from cleaned(captures.lines(buffered, part.name), part)
+        yield from cleaned(captures.lines(buffered), part)
         return
     part.encoding = encoding(buffered.peek(4)[:4])
     wide = part.encoding.startswith("utf-16")
