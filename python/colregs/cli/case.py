@@ -9,9 +9,9 @@ it says why, and leaves no folder. The map of the page needs Leaflet, from Debia
 Exit status: 0 if the case is made, 1 if it is not, 2 if the command line is wrong.
 """
 import argparse
+import functools
 import os
 from collections.abc import Sequence
-from typing import NoReturn
 
 from colregs.cli.arguments import add_program, add_reading, add_window, at_least, parser_of, reading_of
 from colregs.case.folder import PAGE
@@ -70,6 +70,4 @@ def main(arguments: Sequence[str] | None = None) -> int:
     return DONE
 
 
-def command() -> NoReturn:
-    """Runs the command and leaves with its status."""
-    end("case", main)
+command = functools.partial(end, "case", main)       # runs the command, and leaves with its status

@@ -19,9 +19,9 @@ of the time, in UTC (22:13:20, 2023-11-14T22:13:20Z or 1700000000).
 Exit status: 0 if the pictures are written, 1 if they are not, 2 if the command line is wrong.
 """
 import argparse
+import functools
 import os
 from collections.abc import Sequence
-from typing import NoReturn
 
 from colregs.case.folder import reports_in
 from colregs.cli.arguments import add_program, add_window, parser_of, reports_on_log
@@ -104,6 +104,4 @@ def main(arguments: Sequence[str] | None = None) -> int:
     return DONE
 
 
-def command() -> NoReturn:
-    """Runs the command and leaves with its status."""
-    end("draw", main)
+command = functools.partial(end, "draw", main)       # runs the command, and leaves with its status

@@ -9,11 +9,11 @@ the whole.
 Exit status: 0 if the stream ended, or a signal arrived; 1 if something failed; 2 if the command line is wrong.
 """
 import argparse
+import functools
 import os
 import signal
 import threading
 from collections.abc import Sequence
-from typing import NoReturn
 
 from colregs.cli.arguments import add_program, parser_of
 from colregs.errors import Fault, end
@@ -123,6 +123,4 @@ def main(arguments: Sequence[str] | None = None) -> int:
         return follow.run(source, stop)
 
 
-def command() -> NoReturn:
-    """Runs the command and leaves with its status."""
-    end("follow", main)
+command = functools.partial(end, "follow", main)       # runs the command, and leaves with its status

@@ -14,10 +14,10 @@ are those of the log, in degrees of latitude and longitude. If a log crosses the
 Exit status: 0 if all is written, 1 if it is not, 2 if the command line is wrong.
 """
 import argparse
+import functools
 import os
 import sys
 from collections.abc import Sequence
-from typing import NoReturn
 
 from colregs.case.folder import reports_in
 from colregs.cli.arguments import add_program, add_window, parser_of, reports_on_log
@@ -56,6 +56,4 @@ def main(arguments: Sequence[str] | None = None) -> int:
     return DONE
 
 
-def command() -> NoReturn:
-    """Runs the command and leaves with its status."""
-    end("geojson", main)
+command = functools.partial(end, "geojson", main)       # runs the command, and leaves with its status

@@ -10,13 +10,13 @@ Exit status: 0 if a signal ended it; 1 if something failed; 2 if the command lin
 """
 import argparse
 import asyncio
+import functools
 import importlib.util
 import os
 import signal
 import subprocess
 import sys
 from collections.abc import Sequence
-from typing import NoReturn
 
 from colregs.cli.arguments import at_least, parser_of
 from colregs.cli.follow import add_stream, check_windows, source_of
@@ -140,6 +140,4 @@ def main(arguments: Sequence[str] | None = None) -> int:
     return asyncio.run(serve(given, scenario, found(given.program), stream_of(given)))
 
 
-def command() -> NoReturn:
-    """Runs the command and leaves with its status."""
-    end("live", main)
+command = functools.partial(end, "live", main)       # runs the command, and leaves with its status

@@ -15,13 +15,13 @@ both lie still. It refuses shares that are missing or do not cover. docs/TRAFFIC
 Exit status: 0 if all is done, 1 if something failed, 2 if the command line is wrong.
 """
 import argparse
+import functools
 import json
 import os
 import re
 import signal
 import sys
 from collections.abc import Callable, Sequence
-from typing import NoReturn
 
 from colregs.cli.arguments import add_program, at_least, parser_of
 from colregs.errors import DONE, FAILED, Fault, end, report
@@ -221,6 +221,4 @@ def main(arguments: Sequence[str] | None = None) -> int:
     return WORK[given.kind](given)
 
 
-def command() -> NoReturn:
-    """Runs the command and leaves with its status."""
-    end("many", main)
+command = functools.partial(end, "many", main)       # runs the command, and leaves with its status

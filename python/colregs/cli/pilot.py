@@ -7,12 +7,13 @@ refuses the scenario, the lines continue and say so. docs/BUILDER.md describes t
 Exit status: 0 if the stream ended, or a signal arrived; 1 if something failed; 2 if the command line is wrong.
 """
 import argparse
+import functools
 import os
 import signal
 import sys
 import threading
 from collections.abc import Callable, Sequence
-from typing import NoReturn, TextIO
+from typing import TextIO
 
 from colregs.cli.arguments import add_program, at_least, parser_of
 from colregs.cli.follow import add_source, source_of
@@ -132,6 +133,4 @@ def main(arguments: Sequence[str] | None = None) -> int:
     return 0
 
 
-def command() -> NoReturn:
-    """Runs the command."""
-    end("pilot", main)
+command = functools.partial(end, "pilot", main)       # runs the command, and leaves with its status
