@@ -68,6 +68,23 @@ class Pages(InFolder):
             self.assertEqual((status, out, error.count("\n")), (2, "", 1), error)
             self.assertTrue(error.startswith(name.removeprefix("colregs-") + ": "), error)
 
+    def test_a_value_that_an_option_does_not_take_is_refused_by_the_options_name(self) -> None:
+        wrong: tuple[tuple[str, str, str, list[str]], ...] = (
+            ("tagged", "--offset", "1", []), ("tagged", "--offset", "+25:00", []),
+            ("tagged", "--date", "14.11.2023", []), ("tagged", "--mmsi", "992000001", []),
+            ("case", "--jobs", "0", ["LOG", "-o", "OUT"]), ("follow", "--modes", "plan", ["S", "--days", "D"]),
+            ("follow", "--modes", "audit,audit", ["S"]), ("live", "--speed", "0", ["S", "--days", "D"]),
+            ("live", "--speed", "fast", ["S", "--days", "D"]),
+            ("pilot", "--offsets", "0,x", ["S", "--track", "0,9"]), ("pilot", "--speed", "0", ["S", "--route", "R"]),
+            ("pilot", "--every", "x", ["S", "--track", "0,9"]), ("trials", "--kinds", "ramming", ["S"]),
+            ("trials", "--targets", "4..1", ["S"]), ("trials", "--targets", "few", ["S"]),
+            ("trials", "--track", "north", ["S"]), ("trials", "--runs", "0", ["S"]),
+        )
+        for name, option, value, words in wrong:
+            status, out, error = self.within(f"colregs-{name}", *words, f"{option}={value}")
+            self.assertEqual((status, out, error.count("\n")), (2, "", 1), error)
+            self.assertTrue(error.startswith(f"{name}: argument {option}: "), error)
+
     def test_each_command_has_its_tool_in_the_clone(self) -> None:
         self.assertEqual(COMMANDS, [f"colregs-{name}" for name in pages.names()])
 
