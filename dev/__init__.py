@@ -1,2 +1,2 @@
-"""What developers of the repository run: builds, proofs, checks, tests and measures. Users run `colregs` and what is in
+"""Commands for developers of the repository: builds, proofs, checks, tests and measurements. Users run `colregs` and
 `tools/`."""

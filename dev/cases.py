@@ -20,14 +20,14 @@ OWN = {"args", "log", "stdout", "stderr", "status", "lengthened"}
 
 @dataclass(frozen=True)
 class Result:
-    """What a run of the program gave, or must give."""
+    """The actual or the expected result of a run."""
 
     status: int
     output: bytes
     errors: bytes
 
     def difference(self, wanted: Result) -> str | None:
-        """Returns where this result differs first from the wanted one, or None."""
+        """Returns the first difference from the wanted result, or None."""
         if self.status != wanted.status:
             return f"status {self.status}, want {wanted.status}; standard error {self.errors[:120]!r}"
         if self.output != wanted.output:
@@ -54,7 +54,7 @@ class Case:
         self.folder, self.name = folder, os.path.relpath(folder, CASES)
 
     def read(self, name: str) -> bytes:
-        """Returns the bytes of a file of the case, none if it is not there."""
+        """Returns the bytes of a file of the case, or no bytes if it does not exist."""
         path = os.path.join(self.folder, name)
         if not os.path.exists(path):
             return b""
@@ -62,11 +62,11 @@ class Case:
             return source.read()
 
     def wanted(self) -> Result:
-        """Returns what the run must give. Raises ValueError if the case has no status."""
+        """Returns the expected result. Raises ValueError if the case has no status."""
         return Result(int(self.read("status")), self.read("stdout"), self.read("stderr"))
 
     def prepare(self, place: str) -> None:
-        """Writes the files that the program finds where it runs."""
+        """Writes the input files of the program into its working folder."""
         lengthened, _, size = self.read("lengthened").decode().partition(" ")
         for name in sorted(set(os.listdir(self.folder)) - OWN):
             text = self.read(name)
@@ -92,7 +92,7 @@ class Case:
 
 
 def cases(names: list[str]) -> list[Case]:
-    """Returns the cases of these names, or all. Raises SystemExit if there is none of a name."""
+    """Returns the cases of these names, or all. Raises SystemExit if a name has no case."""
     found: list[Case] = []
     for name in names or sorted(os.listdir(CASES)):
         folder = os.path.join(CASES, name)
@@ -104,7 +104,7 @@ def cases(names: list[str]) -> list[Case]:
 
 
 def main() -> int:
-    """Runs the cases of the command line, and returns 1 if one fails."""
+    """Runs the cases that the arguments name; returns 1 if one fails."""
     if len(sys.argv) < 2 or sys.argv[1].startswith("-"):
         sys.exit(__doc__)
     program, failed = os.path.abspath(sys.argv[1]), 0

@@ -13,18 +13,18 @@ from dev.repository import path_of
 
 @dataclass
 class Findings:
-    """What a check found, and the program that it may run: an absolute path, or nothing if it needs none."""
+    """The findings of a check, and the program that it may run: an absolute path, or an empty text if it needs none."""
 
     program: str = ""
     faults: list[str] = field(default_factory=list)
     notes: list[str] = field(default_factory=list)
 
     def fault(self, sentence: str) -> None:
-        """Adds what is wrong: the check fails."""
+        """Adds a fault, which fails the check."""
         self.faults.append(sentence)
 
     def note(self, sentence: str) -> None:
-        """Adds what a reader may want to know: the check does not fail for it."""
+        """Adds a note for the reader, which does not fail the check."""
         self.notes.append(sentence)
 
     def same(self, what: str, found: object, wanted: object) -> None:
@@ -39,7 +39,7 @@ class Check(Protocol):
     NEEDS_PROGRAM: bool
 
     def check(self, found: Findings) -> None:
-        """Adds to `found` what is wrong."""
+        """Adds the faults to `found`."""
 
 
 def names() -> list[str]:
@@ -56,7 +56,7 @@ def module(name: str) -> Check:
 
 
 def summary(name: str) -> str:
-    """Returns what a check does, in one line."""
+    """Returns a one-line summary of a check."""
     return (importlib.import_module("dev.checks." + name).__doc__ or "").splitlines()[0]
 
 
@@ -65,16 +65,16 @@ def the_program(given: str | None) -> str:
     none."""
     if given:
         if not os.access(given, os.X_OK):
-            raise SystemExit(f"check: {given} is not a program that can be run")
+            raise SystemExit(f"check: {given} is not an executable file")
         return os.path.abspath(given)
     done = subprocess.run([path_of("colregs"), "--path"], stdin=subprocess.DEVNULL, stdout=subprocess.PIPE, text=True)
     if done.returncode:
-        raise SystemExit("check: there is no program to run; give one by --program")
+        raise SystemExit("check: cannot find or build the program; give one with --program")
     return done.stdout.rstrip("\n")
 
 
 def run(name: str, program: str) -> bool:
-    """Runs a check, prints what it found, and returns whether it passed."""
+    """Runs a check and prints its findings; returns whether it passed."""
     found = Findings(program)
     try:
         module(name).check(found)

@@ -1,4 +1,4 @@
-"""Processes that a build starts: none outlives the build, and a long one is reported as it works."""
+"""Child processes of a build: none outlives the build, and a long one shows its progress."""
 from __future__ import annotations
 
 import ctypes
@@ -15,24 +15,24 @@ from typing import IO, List, Mapping, Optional, Type
 from .repository import Fault, read_if_there, say
 
 EACH = 20.0      # seconds between two lines of progress
-# bytes that one processor's work takes at most, by and large, when it proves or compiles
+# approximate bytes that proving or compiling takes at most per processor
 _MEMORY = 2500 * 1000 * 1000
 _DIE_WITH_PARENT = 1      # PR_SET_PDEATHSIG of prctl(2)
 _C = ctypes.CDLL(None, use_errno=True)
 
 
 def _die_with_parent() -> None:
-    """Has the kernel kill this process when its parent ends, also if the parent is killed."""
+    """Makes the kernel kill this process when its parent ends, even if the parent is killed."""
     _C.prctl(_DIE_WITH_PARENT, signal.SIGKILL)
 
 
 class Child:
-    """A process in a session of its own, with all that it starts."""
+    """A process in its own session, with all processes that it starts."""
 
     def __init__(self, command: List[str], output: IO[str], folder: Optional[str] = None,
                  settings: Optional[Mapping[str, str]] = None):
-        """Starts the command: nothing on its standard input, and both its outputs into one file. Raises Fault if it
-        cannot be started."""
+        """Starts the command with empty standard input, and both outputs in one file. Raises Fault if it does not
+        start."""
         try:
             self.run = subprocess.Popen(command, cwd=folder, env=settings, stdin=subprocess.DEVNULL, stdout=output,
                                         stderr=subprocess.STDOUT, start_new_session=True, preexec_fn=_die_with_parent)
@@ -40,7 +40,7 @@ class Child:
             raise Fault("cannot build: %s does not start: %s" % (command[0], fault.strerror)) from None
 
     def stop(self) -> None:
-        """Kills the process and all that it has started, and waits for it."""
+        """Kills the process and all processes that it has started, and waits for it."""
         try:
             os.killpg(self.run.pid, signal.SIGKILL)
         except ProcessLookupError:
@@ -49,7 +49,7 @@ class Child:
 
 
 class Progress:
-    """Writes a line to standard error every 20 seconds, which says what is at work."""
+    """Writes a line with the current step to standard error every 20 seconds."""
 
     def __init__(self, step: str, each: float = EACH):
         self.step, self._each, self._begun, self._ended = step, each, time.monotonic(), threading.Event()
@@ -78,8 +78,7 @@ def _stopped(number: int, _: object) -> None:
 
 
 def end_as_interrupted() -> None:
-    """Makes the signals that ask a process to end raise KeyboardInterrupt, so that what is at work is stopped and
-    removed."""
+    """Makes the signals that end a process raise KeyboardInterrupt, so that work in progress is stopped and removed."""
     for number in (signal.SIGTERM, signal.SIGHUP):
         signal.signal(number, _stopped)
 
@@ -91,7 +90,7 @@ def limit_of_memory() -> Optional[int]:
 
 
 def processors() -> int:
-    """Returns the number of processors to use: no more than there is memory for."""
+    """Returns the number of processors to use, limited by memory."""
     free = re.search(r"^MemAvailable:\s+(\d+)", read_if_there("/proc/meminfo"), re.M)
     limit = read_if_there("/sys/fs/cgroup/memory.max").strip()
     memory = [1024 * int(it.group(1)) for it in [free] if it] + [int(it) for it in [limit] if it.isdigit()]

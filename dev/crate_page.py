@@ -1,4 +1,4 @@
-"""Makes one page of all crates: what each promises, and its public items with their contracts, for `dev/doc`."""
+"""Makes one page of all crates for `dev/doc`: each crate's description, and its public items with their contracts."""
 from __future__ import annotations
 
 import argparse
@@ -19,7 +19,7 @@ _IMPL = re.compile(r"^impl\b.*?(\w+)(?:<[^{]*>)?(?: where .*)? \{")
 
 @dataclass
 class Item:
-    """A public item: its kind and name, its doc comment, its text without a body, and what is in it."""
+    """A public item: its kind and name, its doc comment, its text without a body, and the items in it."""
 
     kind: str
     name: str
@@ -34,7 +34,7 @@ def head_of(text: str) -> list[str]:
 
 
 def contract(lines: list[str], at: int) -> list[str]:
-    """Returns the lines of a function from its first one on, with its clauses and without its body."""
+    """Returns the lines of a function from its first one, with its clauses but without its body."""
     found: list[str] = []
     depth, in_clauses = 0, False
     for line in lines[at:]:
@@ -72,7 +72,7 @@ def without_private(lines: list[str]) -> list[str]:
 
 
 def text_of(kind: str, lines: list[str], at: int) -> list[str]:
-    """Returns the text of an item from its first line on."""
+    """Returns the text of an item from its first line."""
     if kind == "fn":
         return contract(lines, at)
     if kind == "trait":
@@ -122,7 +122,7 @@ def root_of(crate: str) -> str:
 
 
 def public_names(lib: str) -> Iterator[tuple[str, str]]:
-    """Yields what `lib.rt` publishes: the first part of each path, and the name, `*` for a whole module."""
+    """Yields the public names of `lib.rt`: the first part of each path, and the name, `*` for a whole module."""
     for module in re.findall(r"^pub mod (\w+);", lib, re.M):
         yield module, "*"
     for path, names in re.findall(r"^pub use ((?:\w+::)+)(\{[^}]*\}|\w+(?: as \w+)?);", lib, re.M):
@@ -182,7 +182,7 @@ def page(wanted: list[str]) -> Iterator[str]:
 
 
 def main(description: str | None) -> int:
-    """Writes the page of the crates that the command line names, or of all, and returns the exit status."""
+    """Writes the page of the crates that the arguments name, or of all; returns the exit status."""
     words = argparse.ArgumentParser(prog="doc", description=description,
                                     formatter_class=argparse.RawDescriptionHelpFormatter)
     words.add_argument("crates", nargs="*", metavar="CRATE", help="the crates of the page (default: all)")

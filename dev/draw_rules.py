@@ -1,8 +1,7 @@
 """Draws the pictures of docs/RULES.md: PYTHONPATH=python python3 -m dev.draw_rules FOLDER
 
 rules_risk.svg, rules_engaged.svg, rules_classes.svg and rules_ranks.svg, with the numbers of examples/crossing.toml.
-What is at risk, engaged, past and clear is computed as docs/RULES.md states it. The same script makes the same
-pictures.
+It computes risk, engaged, past and clear as docs/RULES.md defines them. Every run makes the same pictures.
 """
 from __future__ import annotations
 
@@ -29,7 +28,7 @@ def numbers() -> Numbers:
 
 
 def nearest(place: Point, way: Point, seconds: float) -> float:
-    """When two vessels are nearest up to so many seconds ahead: B's place from A, and her way each second."""
+    """Returns the time of closest approach within `seconds`, given B's place from A and her motion per second."""
     dot, square = place[0] * way[0] + place[1] * way[1], way[0] ** 2 + way[1] ** 2
     return min(seconds, max(0.0, -dot / square)) if square else 0.0
 
@@ -49,7 +48,7 @@ def past_and_clear(place: Point, way: Point, detect: dict[str, int]) -> bool:
 
 
 def hull(picture: Picture, at: Point, course: float, fill: str, size: float = 9) -> None:
-    """A vessel from above, with her bow along the course."""
+    """Draws a vessel from above, with her bow along the course."""
     angle = math.radians(course)
     points = []
     for along, across in ((1.7, 0), (0.6, 0.55), (-1.3, 0.55), (-1.3, -0.55), (0.6, -0.55)):
@@ -73,7 +72,7 @@ def ring(picture: Picture, at: Point, radius: float, stroke: str, **more: str) -
 
 
 def arc(at: Point, radius: float, first: float, last: float) -> list[Point]:
-    """Points of an arc; degrees clockwise from north."""
+    """Returns the points of an arc; degrees clockwise from north."""
     return [(at[0] + radius * math.sin(math.radians(d)), at[1] - radius * math.cos(math.radians(d)))
             for d in (first + (last - first) * k / 60 for k in range(61))]
 
@@ -99,7 +98,7 @@ def risk(given: Numbers) -> str:
     for place, way, words in cases:
         held = at_risk(place, way, detect)
         if held == words[0].startswith("not"):
-            raise SystemExit("draw_rules: a case of risk is drawn otherwise than it is")
+            raise SystemExit("draw_rules: the drawing of a case of risk contradicts its computed risk")
         stroke = RED if held else GREEN
         end = moved(place, way, detect["horizon"])
         end = end if end[0] > -600 else moved(place, way, (place[0] + 600) / -way[0])
@@ -171,12 +170,12 @@ def sector(picture: Picture, at: Point, radius: float, first: float, last: float
 
 
 def seen(head: float, place: Point) -> float:
-    """At what bearing from her head a vessel sees a place, in degrees."""
+    """Returns the bearing of a place from a vessel's head, in degrees."""
     return (math.degrees(math.atan2(place[0], place[1])) - head) % 360
 
 
 def kind(speeds: Point, course: float, place: Point, given: Numbers) -> str:
-    """The kind of a meeting of A, who heads north, and B, by the table of docs/RULES.md."""
+    """Returns the kind of a meeting of A, who heads north, and B, by the table of docs/RULES.md."""
     detect, angle = given["detect"], math.radians(course)
     way = speeds[1] * math.sin(angle), speeds[1] * math.cos(angle) - speeds[0]
     closing = place[0] * way[0] + place[1] * way[1] < 0
@@ -196,10 +195,10 @@ def kind(speeds: Point, course: float, place: Point, given: Numbers) -> str:
 
 
 def meeting(picture: Picture, left: float, top: float, case: Meeting, given: Numbers) -> None:
-    """A, in blue with her bow up, and B, in grey, on a course and in a place."""
+    """Draws A in blue, with her bow up, and B in grey, on a course and in a place."""
     words, speeds, course, place, first = case
     if kind(speeds, course, place, given) != words:
-        raise SystemExit("draw_rules: a kind is drawn otherwise than it is")
+        raise SystemExit("draw_rules: the drawing of a kind contradicts its computed kind")
     at = left + 75 + first[0], top + 85 + first[1]
     picture.box(left, top, 150, 168, "#f7f7f7")
     b, angle = (at[0] + place[0], at[1] - place[1]), math.radians(course)
@@ -269,7 +268,7 @@ def drawings() -> dict[str, str]:
 
 
 def main() -> None:
-    """Writes the drawings into the folder that the command line names."""
+    """Writes the drawings into the folder that the argument names."""
     if len(sys.argv) != 2 or sys.argv[1].startswith("-"):
         sys.exit(__doc__)
     for name, text in drawings().items():

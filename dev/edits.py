@@ -1,7 +1,7 @@
-"""Must-fail edits: one line of a crate exchanged for a wrong one, which the proofs must refuse.
+"""Must-fail edits: each replaces one line of a crate by a wrong one, which the proofs must refuse.
 
-The gate tries those in crates/NAME/must-fail. dev/edits/NAME has more of the same form, for which the gate has no time:
-`python3 -m dev.try_edits` tries them.
+The gate tries those in crates/NAME/must-fail. dev/edits/NAME has more of the same form, which would take the gate too
+long; `python3 -m dev.try_edits` tries them.
 """
 from __future__ import annotations
 
@@ -15,8 +15,8 @@ ENDING = ".edit"
 
 
 def fault_in(edit: str, text_of: Callable[[str], str | None]) -> str:
-    """Returns why the text of an edit cannot be applied, or nothing. `text_of` gives the text of a file of the crate,
-    or None if it is not there."""
+    """Returns why an edit cannot be applied, or an empty text. `text_of` returns the text of a file of the crate, or
+    None if it does not exist."""
     path, old, pairs = "", "", 0
     texts: dict[str, str] = {}
     for line in edit.splitlines():
@@ -24,7 +24,7 @@ def fault_in(edit: str, text_of: Callable[[str], str | None]) -> str:
             path = line.removeprefix("file: ").strip()
             text = text_of(path)
             if text is None:
-                return f"there is no file {path}"
+                return f"the crate has no file {path}"
             texts.setdefault(path, text)
         elif line.startswith("old: "):
             old = line.removeprefix("old: ")
@@ -48,15 +48,15 @@ class Edit:
 
     @property
     def name(self) -> str:
-        """Returns the crate and what the wrong line does."""
+        """Returns the crate and the effect of the wrong line."""
         return f"{self.crate}/{os.path.basename(self.path).removesuffix(ENDING)}"
 
     def fault(self) -> str:
-        """Returns why the edit cannot be applied, or nothing. `rt ci` only warns of such an edit."""
+        """Returns why the edit cannot be applied, or an empty text. `rt ci` only warns of such an edit."""
         return fault_in(read(self.path), self.text_of)
 
     def text_of(self, path: str) -> str | None:
-        """Returns the text of a file of the crate, or None if it is not there."""
+        """Returns the text of a file of the crate, or None if it does not exist."""
         try:
             return read("crates", self.crate, path)
         except OSError:

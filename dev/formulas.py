@@ -1,4 +1,4 @@
-"""Formulas as trees: read from text, and computed from the definitions that the proofs use.
+"""Formulas as trees: parsed from text, and computed from the definitions that the proofs use.
 
 A tree is a tuple: ("word",), ("word", number), ("!", a), ("&", a, b), ("F", low, high, a) or ("S", low, high, a, b),
 with bounds in positions.
@@ -14,7 +14,7 @@ Value = Any      # of a definition: a number, a tree, or the fields of a record 
 
 
 class Text:
-    """A formula in the grammar of docs/FORMULAS.md. Reading it raises ValueError or IndexError if the text is none."""
+    """A formula in the grammar of docs/FORMULAS.md. Parsing raises ValueError or IndexError if the text is not one."""
 
     def __init__(self, text: str, tick: int):
         self._tokens, self._tick = re.findall(r"[a-z][a-z0-9_]*|[A-Z]|\d+|->|[!&|()\[\],]|\S", text) + [""], tick
@@ -24,7 +24,7 @@ class Text:
 
     def _need(self, token: str) -> None:
         if self._take(token) is None:
-            raise ValueError(f"'{self._tokens[0]}' where '{token}' is due")
+            raise ValueError(f"'{self._tokens[0]}' instead of '{token}'")
 
     def _number(self) -> int:
         return int(self._tokens.pop(0))
@@ -57,7 +57,7 @@ class Text:
         high = self._number()
         self._need("]")
         if low % self._tick or high % self._tick:
-            raise ValueError("a bound is no multiple of the tick")
+            raise ValueError("a bound is not a multiple of the tick")
         return low // self._tick, high // self._tick
 
     def _unary(self) -> Tree:
@@ -73,7 +73,7 @@ class Text:
     def _atom(self) -> Tree:
         word = self._tokens.pop(0)
         if not re.fullmatch(r"[a-z][a-z0-9_]*", word):
-            raise ValueError(f"'{word}' where an atom is due")
+            raise ValueError(f"'{word}' instead of an atom")
         if not self._take("("):
             return (word,)
         value = self._number()
@@ -89,10 +89,9 @@ def word_of(name: str) -> str:
 
 
 class Definitions:
-    """The clauses of a module of definitions that are made of names, numbers and applications, and what they compute
-    to.
+    """Evaluates the clauses of a module of definitions that consist of names, numbers and applications.
 
-    Computing raises ValueError if a clause is not of that form, or if none fits.
+    Evaluation raises ValueError if a clause has another form, or if none fits.
     """
 
     INFIX = {"implies": 20, "or": 25, "and": 30}      # how tightly each binds
@@ -120,20 +119,20 @@ class Definitions:
         return re.findall(r"[\w.]+|[()/]|\S", text)
 
     def call(self, name: str, values: list[Value]) -> Value:
-        """Returns what a definition computes to with these values: by the first of its clauses that they fit."""
+        """Returns the value of a definition for these arguments, by the first of its clauses that fits."""
         for heads, body in self._clauses.get(name, []):
             known = self._fit(list(heads), values)
             if known is not None:
                 words = list(body)
                 value = self._infix(words, known, 0)
                 if words:
-                    raise ValueError(f"{name}: '{' '.join(words)}' is not understood")
+                    raise ValueError(f"{name}: 'cannot evaluate '{' '.join(words)}'")
                 return value
         raise ValueError(f"no clause of {name} fits")
 
     @staticmethod
     def _fit(heads: list[str], values: list[Value]) -> dict[str, Value] | None:
-        """Returns what each name of a clause's head stands for, or None if the values do not fit."""
+        """Returns the values of the names in a clause's head, or None if the arguments do not fit."""
         known: dict[str, Value] = {}
         for value in values:
             if not heads:

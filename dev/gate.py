@@ -1,13 +1,13 @@
 """Measures the gate: python3 -m dev.gate [--of PID] [CRATE ..]
 
-Runs `rt ci` with these words at the top of the repository, and adds the CPU seconds of each crate's proof, of its tests
-and of its must-fail edits to the tables in dev/bench/data. With --of PID it runs nothing, and watches what that process
-starts until it ends, or until a signal TERM says that the gate has passed. What a kit's gate has cached from an earlier
-run takes no time and gets no row; a run in which every crate was proved also gets a row of its own. `rt ci --anew`
-proves everything.
+Runs `rt ci` with these arguments at the top of the repository, and adds the CPU seconds of each crate's proof, of its
+tests and of its must-fail edits to the tables in dev/bench/data. With --of PID it runs nothing; it watches the children
+of that process until it ends, or until a signal TERM says that the gate has passed. Results that a kit's gate has
+cached from an earlier run take no time and get no row. A run in which every crate was proved also gets its own row.
+`rt ci --anew` proves everything.
 
-The seconds are those that the kernel counts for each check, read four times a second, so a check may lack a quarter of
-a second.
+The seconds come from the kernel's counts for each check, read four times per second, so a check may lack a quarter of a
+second.
 """
 from __future__ import annotations
 
@@ -29,13 +29,13 @@ from dev.repository import TOP, listed_crates, path_of, read_if_there
 
 RUNS, CRATES = path_of("dev", "bench", "data", "gate.csv"), path_of("dev", "bench", "data", "gate_crates.csv")
 TICKS = os.sysconf("SC_CLK_TCK")      # of the kernel's clock for CPU time, in a second
-EACH = 0.25      # seconds between two looks
+EACH = 0.25      # seconds between two readings
 Check = tuple[str, str]      # a crate, and `proof`, `tests` or `edits`
 
 
 @dataclass(frozen=True)
 class Process:
-    """A process: its parent, when it started, its CPU seconds, and those of the children that it has waited for."""
+    """A process: its parent, its start, its CPU seconds, and those of the children that it has waited for."""
 
     parent: int
     start: str
@@ -55,7 +55,7 @@ def processes() -> dict[int, Process]:
 
 
 def below(found: dict[int, Process], root: int) -> set[int]:
-    """Returns the processes that a process has started, and those that these have."""
+    """Returns all descendants of a process."""
     known, grown = {root}, True
     while grown:
         more = {pid for pid, process in found.items() if process.parent in known} - known
@@ -64,7 +64,7 @@ def below(found: dict[int, Process], root: int) -> set[int]:
 
 
 def check_of(words: list[str], folder: str) -> Check | None:
-    """Returns the crate and the kind of the check that a command in a folder is, or None if it proves nothing."""
+    """Returns the crate and the kind of the check that a command in a folder runs, or None if it proves nothing."""
     if os.path.basename(words[0]) != "rattle" or "--crate-name" not in words:
         return None
     is_edit = re.search(r"/rt-edit-[^/]*$", folder)
@@ -73,14 +73,14 @@ def check_of(words: list[str], folder: str) -> Check | None:
 
 @dataclass
 class Seen:
-    """What each check took so far, by its process and start."""
+    """The CPU seconds of each check so far, by its process and start."""
 
     checks: dict[tuple[int, str], Check | None] = field(default_factory=dict)
     seconds: dict[tuple[int, str], float] = field(default_factory=dict)
     loads: list[float] = field(default_factory=list)
 
     def look(self, root: int) -> Process | None:
-        """Reads the checks at work below a process, and returns that process if it still runs."""
+        """Reads the running checks below a process; returns that process if it still runs."""
         found = processes()
         for pid in below(found, root):
             key = (pid, found[pid].start)
@@ -108,8 +108,8 @@ class Seen:
 
 
 def watch(pid: int, seen: Seen) -> float:
-    """Watches a process until it ends or TERM comes, and returns the CPU seconds of all that it started, as far as it
-    had waited for them."""
+    """Watches a process until it ends or TERM arrives; returns the CPU seconds of all its children that it has waited
+    for."""
     ended = threading.Event()
     signal.signal(signal.SIGTERM, lambda *_: ended.set())
     first, total = processes().get(pid), 0.0
@@ -123,7 +123,7 @@ def watch(pid: int, seen: Seen) -> float:
 
 
 def run(words: list[str], seen: Seen) -> tuple[int, float]:
-    """Runs the gate, and returns its status and the CPU seconds of all that it started."""
+    """Runs the gate; returns its status and the CPU seconds of all its children."""
     gate = subprocess.Popen(["rt", "ci", *words], cwd=TOP, env=SETTINGS)
     while gate.poll() is None:
         seen.look(gate.pid)
@@ -139,7 +139,7 @@ def edits_of(crate: str) -> int:
 
 
 def crate_rows(table: dict[Check, float], names: list[str], date: str, commit: str) -> list[list[str]]:
-    """Returns the rows of the crates that were checked, as dev/bench/data/gate_crates.csv has them."""
+    """Returns the rows of the checked crates for dev/bench/data/gate_crates.csv."""
     rows = []
     for name in names:
         proof, tests, edits = (table.get((name, kind)) for kind in ("proof", "tests", "edits"))
@@ -158,7 +158,7 @@ def append(path: str, rows: list[list[str]]) -> None:
 
 
 def record(seen: Seen, begun: float, total: float) -> None:
-    """Adds what a gate took to the tables."""
+    """Adds the times of a gate to the tables."""
     git = ["git", "-C", TOP, "rev-parse", "--short=8", "HEAD"]
     commit = subprocess.run(git, stdout=subprocess.PIPE, stderr=subprocess.DEVNULL, text=True).stdout.strip()
     date = datetime.datetime.now(datetime.timezone.utc).strftime("%Y-%m-%d")
@@ -173,11 +173,11 @@ def record(seen: Seen, begun: float, total: float) -> None:
 
 
 def main() -> int:
-    """Runs or watches the gate, and returns its status, or 0 for a gate that was watched."""
+    """Runs or watches the gate; returns its status, or 0 if it only watched."""
     parser = argparse.ArgumentParser(prog="gate", description=__doc__,
                                      formatter_class=argparse.RawDescriptionHelpFormatter)
-    parser.add_argument("--of", metavar="PID", type=int, help="watch the gate that is this process")
-    parser.add_argument("words", metavar="CRATE", nargs="*", help="the words for rt ci")
+    parser.add_argument("--of", metavar="PID", type=int, help="watch the gate that runs as this process")
+    parser.add_argument("words", metavar="CRATE", nargs="*", help="the arguments of rt ci")
     given, more = parser.parse_known_args()
     begun, seen = time.time(), Seen()
     status, total = (0, watch(given.of, seen)) if given.of else run(given.words + more, seen)

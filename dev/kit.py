@@ -1,4 +1,4 @@
-"""The kit that proves and compiles: where it is, and how its commands are called."""
+"""The kit that proves and compiles: its folder and its commands."""
 from __future__ import annotations
 
 import os
@@ -9,12 +9,12 @@ from typing import Dict, List
 from .repository import Fault, PROGRAM, listed_crates, crates_of, path_of, read_if_there
 
 TARGET = "x86_64-unknown-linux-gnu"
-# The prover takes some 8 % less time if its allocator gives no memory back while it runs. `.ci/run` sets the same.
+# The prover takes some 8 % less time if its allocator returns no memory while it runs. `.ci/run` sets the same.
 SETTINGS = {"MIMALLOC_PURGE_DELAY": "-1", **os.environ}
 
 
 def asked(word: str) -> str:
-    """Returns what `rt WORD` prints. Raises Fault if `rt` cannot be run."""
+    """Returns the output of `rt WORD`. Raises Fault if `rt` cannot run."""
     try:
         done = subprocess.run(["rt", word], stdin=subprocess.DEVNULL, stdout=subprocess.PIPE, stderr=subprocess.PIPE,
                               universal_newlines=True)
@@ -30,7 +30,7 @@ class Kit:
     """The folder of the kit that `rt` belongs to."""
 
     def __init__(self) -> None:
-        """Finds the kit. Raises Fault if there is none, or it lacks what builds."""
+        """Finds the kit. Raises Fault if there is none, or if it lacks its build tools."""
         self.folder = os.path.dirname(asked("doc"))
 
     def tool(self, *names: str) -> str:
@@ -54,27 +54,33 @@ class Kit:
         """Returns the folder with the sources of one of the kit's libraries."""
         return os.path.join(self.folder, "rattle", "examples/check" if name == "check" else name)
 
-    def source_words(self, crate: str = PROGRAM) -> List[str]:
-        """Returns the words that hand a program to the kit as source: its root, and each library below it with those
-        that it uses."""
+    def source_folders(self) -> Dict[str, str]:
+        """Returns the folder with the sources of the program and of each library below it, by the name of the crate."""
         listed = listed_crates()
-        below = crates_of(crate, listed)
-        words = ["--crate-name", crate, path_of("crates", crate, "src", "main.rt")]
-        for name in below[:-1]:
-            uses = dict.fromkeys([
+        crates = crates_of(PROGRAM, listed)
+        folders = {name: path_of("crates", name, "src") for name in crates}
+        folders.update((name, os.path.join(self.crate_folder(name), "src")) for name in self.libraries(crates, listed))
+        return folders
+
+    def source_words(self, folders: Dict[str, str]) -> List[str]:
+        """Returns the arguments that pass the program to the kit as the sources in these folders: its root, and each
+        library below it with those that it uses."""
+        listed = listed_crates()
+        crates = crates_of(PROGRAM, listed)
+        words = ["--crate-name", PROGRAM, os.path.join(folders[PROGRAM], "main.rt")]
+        uses = {
+            name: dict.fromkeys([
                 "core", "std", *[it for it in listed[name] if it not in listed],
                 *[it for it in listed[name] if it in listed]
             ])
-            words += ["--lib", "%s:%s=%s" % (name, ",".join(uses), path_of("crates", name, "src", "lib.rt"))]
-        for name, uses_of in self.libraries(below, listed).items():
-            words += [
-                "--lib",
-                "%s:%s=%s" % (name, ",".join(uses_of), os.path.join(self.crate_folder(name), "src", "lib.rt"))
-            ]
+            for name in crates[:-1]
+        }
+        for name, used in [*uses.items(), *self.libraries(crates, listed).items()]:
+            words += ["--lib", "%s:%s=%s" % (name, ",".join(used), os.path.join(folders[name], "lib.rt"))]
         return words
 
     def libraries(self, crates: List[str], listed: Dict[str, List[str]]) -> Dict[str, List[str]]:
-        """Returns the kit's libraries that these crates stand on, each with those that it uses itself."""
+        """Returns the kit's libraries that these crates depend on, each with the libraries that it uses itself."""
         found: Dict[str, List[str]] = {}
         waiting = ["std", *[it for crate in crates for it in listed[crate] if it not in listed]]
         while waiting:

@@ -1,8 +1,8 @@
-"""Splits a module in LLVM's language into parts, which the compiler works on side by side.
+"""Splits a module in LLVM's language into parts, which compile in parallel.
 
 A part owns some of the large functions that several others call. It has copies of the functions that these need, so
-that calls are inlined as in one module, and only the declarations of the large functions of other parts. A function
-that `main` does not need is left out.
+that calls are inlined as in one module, and only declarations of the large functions of other parts. Functions that
+`main` does not need are left out.
 """
 from __future__ import annotations
 
@@ -10,8 +10,8 @@ import collections
 import re
 from typing import Dict, Iterable, Iterator, List, Set
 
-# lines from which on a function that several call gets a part of its own; from there on the compiler would hardly copy
-# it into its callers
+# the least lines with which a function that several call gets its own part; the compiler would hardly inline such a
+# function into its callers
 LARGE = 200
 MAIN = "main"
 
@@ -26,8 +26,8 @@ class Module:
     them."""
 
     def __init__(self, lines: Iterable[str]):
-        """Reads the module of a program. Raises ValueError if it has no `main`, or data that functions change, which
-        cannot be copied."""
+        """Reads the module of a program. Raises ValueError if it has no `main`, or has mutable data, which cannot be
+        copied."""
         self.head: List[str] = []
         self.tail: List[str] = []
         self.constants: Dict[str, str] = {}
@@ -65,8 +65,8 @@ class Module:
         return self._groups.get(found.group(1), "") if found else ""
 
     def needed(self, roots: Iterable[str], edge: Set[str]) -> Set[str]:
-        """Returns what these functions need of the module, themselves included, but nothing that only a function of the
-        edge needs."""
+        """Returns the names that these functions need, including their own, without those that only functions of the
+        edge need."""
         found = set(roots)
         waiting = list(found)
         while waiting:
@@ -94,8 +94,8 @@ class Module:
         return sum(len(self.functions.get(name, ())) for name in names)
 
     def lines(self, own: Set[str], edge: Set[str]) -> Iterator[str]:
-        """Yields the module with these functions for all parts to call, what they need for itself, and the declarations
-        of others of the edge."""
+        """Yields a module with these functions, which all parts may call, private copies of what they need, and
+        declarations of the other functions of the edge."""
         needed = self.needed(own, edge - own)
         yield from self.head
         yield from (line for name, line in self.constants.items() if name in needed)
@@ -118,14 +118,14 @@ def _name(line: str) -> str:
 
 
 def shares(module: Module, count: int) -> List[Set[str]]:
-    """Returns the large functions in so many shares, and each share needs about as many lines, copies included."""
+    """Splits the large functions into `count` shares that need about the same number of lines, including copies."""
     edge = module.large(module.needed([MAIN], set()))
     needs = {name: module.needed([name], edge - {name}) - (edge - {name}) for name in edge}
     shared: List[Set[str]] = [set() for _ in range(count)]
     needed: List[Set[str]] = [set() for _ in range(count)]
     sizes = [0] * count
-    # The most demanding first, each where the share then is the smallest; what a new function adds counts twice, so
-    # that functions with the same needs meet.
+    # The largest first, each into the share that is then the smallest. The lines that a function adds count twice, so
+    # that functions with the same needs end up together.
     for name in sorted(edge, key=lambda it: (-module.size(needs[it]), it)):
         added = [module.size(needs[name] - needed[k]) for k in range(count)]
         k = min(range(count), key=lambda it: sizes[it] + 2 * added[it])
@@ -136,7 +136,7 @@ def shares(module: Module, count: int) -> List[Set[str]]:
 
 
 def parts(lines: Iterable[str], count: int) -> List[Iterator[str]]:
-    """Returns the lines of each of at most so many parts of a module. Raises ValueError if it cannot be split."""
+    """Splits a module into at most `count` parts; returns the lines of each. Raises ValueError if it cannot."""
     module = Module(lines)
     shared = shares(module, count)
     edge = set().union(*shared)

@@ -1,8 +1,8 @@
 """Turns the module that the kit makes for `rt try` into the one that its build of a proved program compiles.
 
 `rt try` compiles with checks for faults that a proof rules out: it marks each function for AddressSanitizer, calls a
-check before each step that could go wrong, and fills each new local. It also leaves out the inlining attributes of the
-sources. Here the checks and fills go, and the attributes come back.
+check before each step that could go wrong, and fills each new local. It also omits the inlining attributes of the
+sources. This module removes the checks and fills and restores the attributes.
 """
 from __future__ import annotations
 
@@ -11,7 +11,7 @@ import os
 import re
 from typing import Dict, FrozenSet, Iterable, Iterator, List, Tuple
 
-# The processor that the kit's builds aim at, as its clang names it.
+# The target processor of the kit's builds, by its clang name.
 _PROCESSOR = '"target-cpu"="x86-64-v2"'
 _PROBES = '"probe-stack"="inline-asm" "stack-probe-size"="3072"'
 
@@ -22,7 +22,8 @@ _INLINING = {"always": "alwaysinline", "never": "noinline", None: "inlinehint"}
 _DEFINITION = re.compile(r'^define .*?@"([^"]+)"\(.*\) #0 \{$')
 _CHECK = 'define internal void @"rattle-llvm-checks::'
 _FILL = re.compile(r"^  call void @llvm\.memset\.p0\.i64\(ptr %r\d+, i8 -86, i64 \d+, i1 false\)$")
-_TRAP = "call void @llvm.trap()"
+_FILLED = ", i8 -86, "
+_TRAP = "  call void @llvm.trap()\n"
 
 Attributes = FrozenSet[str]
 NONE: Attributes = frozenset()
@@ -61,10 +62,10 @@ class Inlining:
                             self._known[crate, function].append((modules, words))
 
     def of(self, symbol: str) -> Attributes:
-        """Returns the attributes of a function by its name in the module, as `crate::module::Type::name`.
+        """Returns the attributes of a function by its name in the module, such as `crate::module::Type::name`.
 
-        If several functions of a crate have the name, it is that of the longest path of modules that the symbol begins
-        with.
+        If several functions of a crate have the name, the one with the longest path of modules at the start of the
+        symbol counts.
         """
         parts = re.sub(r"::<#.*?>", "", symbol).split("::")
         found = self._known.get((parts[0], parts[-1]), [])
@@ -93,7 +94,7 @@ class Groups:
 
 
 def _as_built(line: str) -> str:
-    """Returns a line of attributes as a build without checks has it."""
+    """Returns a line of attributes in the form of a build without checks."""
     line = line.replace(" sanitize_address", "").replace('"target-cpu"="x86-64"', _PROCESSOR)
     line = re.sub(r' ?"frame-pointer"="all"', "", line)
     return re.sub(r"^(attributes #\d+ = \{) *\}", r"\1 nounwind }", line)
@@ -106,6 +107,9 @@ def without_checks(lines: Iterable[str], inlining: Inlining) -> Iterator[str]:
     for line in lines:
         if is_in_check:
             is_in_check = not line.startswith("}")
+        elif line.startswith("  "):
+            if line != _TRAP and not (_FILLED in line and _FILL.match(line)):
+                yield line
         elif line.startswith(_CHECK):
             is_in_check = True
             yield from (line.split("#")[0] + "alwaysinline {\n", "  ret void\n", "}\n")
@@ -115,6 +119,6 @@ def without_checks(lines: Iterable[str], inlining: Inlining) -> Iterator[str]:
             yield line.replace(" #0 {", " #%d {" % groups.number(words)) if words else line
         elif line.startswith("attributes #"):
             yield _as_built(line)
-        elif line.strip() != _TRAP and not _FILL.match(line):
+        else:
             yield line
     yield from groups.lines()

@@ -1,4 +1,4 @@
-"""The pages of the repository: their files and what is in them."""
+"""The pages of the repository: their files and their text."""
 from __future__ import annotations
 
 import os
@@ -8,7 +8,7 @@ from dev.repository import TOP
 
 
 def pages() -> list[str]:
-    """Returns the paths of all pages within the repository, in order; caches and what is built do not count."""
+    """Returns the paths of all pages within the repository, in order, without caches and build results."""
     found = []
     for folder, folders, files in os.walk(TOP):
         folders[:] = sorted(name for name in folders if not name.startswith(".") and name not in ("out", "__pycache__"))

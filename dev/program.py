@@ -1,5 +1,5 @@
-"""Which program `./colregs` runs: the proved one if no source changed since, otherwise one of the same sources that is
-not proved."""
+"""Chooses the program that `./colregs` runs: the proved one if no source changed since, otherwise an unproved one of
+the same sources."""
 from __future__ import annotations
 
 import fcntl
@@ -15,20 +15,20 @@ from .repository import Fault, PROGRAM, TOP, path_of, say
 from .sums import Record, as_text, sum_of, sums
 
 PROVED = path_of("crates", PROGRAM, "out", PROGRAM)
-CACHED_PROGRAMS = 4      # the most programs that the cache holds; the oldest goes first
+CACHED_PROGRAMS = 4      # the most programs in the cache; the oldest is removed first
 CLOCK_STEP = 50 * 10**6      # nanoseconds by which a file's time may lag behind the clock
 NOT_PROVED = "not proved yet; ./colregs --prove proves it"
 
 
 class Choice(NamedTuple):
-    """A program to run, and what its user has to know first, if anything."""
+    """A program to run, and a message for its user, if any."""
 
     program: str
     notice: str
 
 
 def cache() -> str:
-    """Returns the folder of the programs that are not proved, and makes it. Raises Fault if it cannot be written."""
+    """Returns the folder of the unproved programs, and makes it. Raises Fault if it is not writable."""
     folder = os.environ.get("COLREGS_CACHE") or path_of(".cache")
     try:
         os.makedirs(folder, exist_ok=True)
@@ -40,7 +40,7 @@ def cache() -> str:
 
 
 def alone(folder: str) -> IO[str]:
-    """Waits until no other build works in the cache, and returns what keeps others out until it is closed."""
+    """Waits until no other build uses the cache; returns a lock that excludes others until it is closed."""
     lock = open(os.path.join(folder, "lock"), "a", encoding="utf-8")
     try:
         fcntl.flock(lock, fcntl.LOCK_EX | fcntl.LOCK_NB)
@@ -51,12 +51,12 @@ def alone(folder: str) -> IO[str]:
 
 
 def stamp(path: str, begun: int) -> None:
-    """Sets the time of a file to when its sources began to be read, in nanoseconds, so that a later change of a source
-    is seen."""
+    """Sets the time of a file to the start of reading its sources, in nanoseconds, so that a later change of a source
+    is noticed."""
     try:
         os.utime(path, ns=(begun - CLOCK_STEP, begun - CLOCK_STEP))
     except OSError:
-        pass      # without it the sources are read again each time
+        pass      # then each start reads the sources again
 
 
 def _changed_since(changed: List[str]) -> str:
@@ -68,7 +68,7 @@ def _changed_since(changed: List[str]) -> str:
 
 
 def _is_proved(begun: int) -> Optional[str]:
-    """Returns nothing if the proved program is there and of these sources, otherwise what its user has to know."""
+    """Returns an empty text if the proved program exists and has these sources, otherwise a message for its user."""
     if not os.access(PROVED, os.X_OK):
         return NOT_PROVED
     changed = Record(PROVED).changed()
@@ -81,9 +81,10 @@ def _is_proved(begun: int) -> Optional[str]:
 
 
 def _unproved(folder: str) -> str:
-    """Returns the path of the program of these sources, and builds it if the cache has none."""
-    # A program is of its sources and of what builds it.
-    builders = [path_of("dev", name) for name in ("kit.py", "module_parts.py", "module_text.py", "unproved.py")]
+    """Returns the path of the program of these sources; builds it if the cache has none."""
+    # A program depends on its sources and on its build tools.
+    names = ("clauses.py", "kit.py", "module_parts.py", "module_text.py", "unproved.py")
+    builders = [path_of("dev", name) for name in names]
     key = hashlib.sha256((as_text(sums("src")) + "".join(map(sum_of, builders))).encode()).hexdigest()
     program = os.path.join(folder, "%s-%s" % (PROGRAM, key[:16]))
     if os.path.exists(program):
@@ -102,9 +103,9 @@ def _unproved(folder: str) -> str:
 
 
 def choose(is_unproved_wanted: bool = False) -> Choice:
-    """Returns the program to run, and builds one without proofs if none is there. Raises Fault if that fails.
+    """Returns the program to run; builds one without proofs if there is none. Raises Fault if that fails.
 
-    What it chose without proofs it writes into the cache, where `./colregs` reads it until a source changes.
+    It stores the choice of an unproved program in the cache, where `./colregs` reads it until a source changes.
     """
     begun = time.time_ns()
     notice = NOT_PROVED if is_unproved_wanted else _is_proved(begun)

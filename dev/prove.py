@@ -1,14 +1,14 @@
-"""Proves the crates that the program stands on, side by side, and builds the program: ./colregs --prove [--each
+"""Proves the crates that the program depends on, in parallel, and builds the program: ./colregs --prove [--each
 SECONDS]
 
 The kit's `rattle build` proves a crate and writes the library that the crates above it read. A crate starts once those
-below it are proved: first the one with the longest path of sources above it, each on as many processors as no other
-crate waits for. Finished proofs are cached in crates/colregs/out/rlib, also if you interrupt the run, with the sum of
-everything that they read. Every 20 seconds a line on standard error names the crates at work.
+below it are proved, in the order of the longest path of sources above it, and uses the processors that no other crate
+waits for. Finished proofs are cached in crates/colregs/out/rlib with the hash of everything that they read, even if you
+interrupt the run. Every 20 seconds a line on standard error names the crates in progress.
 
-It is not the gate: that is `rt ci`, which holds the sources to more, tries wrong bodies and runs the tests. Why not
-`rt` itself: `rt ci` gives one processor to a crate for which the others wait, and not each kit's caches what it proved.
-`rt all check` gives each crate one processor, and reads all sources first. `rt lib` waits for each other `rt` below it.
+It is not the gate: that is `rt ci`, which checks more, tries wrong bodies and runs the tests. Why not `rt` itself:
+`rt ci` gives one processor to a crate for which the others wait, and not every kit caches its proofs. `rt all check`
+gives each crate one processor, and reads all sources first. `rt lib` waits for each other `rt` below it.
 """
 from __future__ import annotations
 
@@ -30,19 +30,19 @@ from .program import PROVED, alone, stamp
 from .repository import NO_PROGRAM, PROGRAM, TOP, Fault, crates_of, files_of, listed_crates, path_of, read_if_there, say
 from .sums import Record, sums
 
-# Here `rt` allows sources that lie in libraries; it makes none of the program, and the gate leaves them.
+# Here `rt` allows sources in the folder of libraries; it makes no library of the program, and the gate ignores them.
 PLACE = path_of("crates", PROGRAM, "out", "rlib")
 MOST_JOBS = 4                    # the most processors that were tried for one crate
-# The facts that the last line of a proof may state. Others are refused: they may name what HANDLES does not allow, as a
-# bound by which a function need not return.
+# The facts that the last line of a proof may state. Others are refused: they may name something that HANDLES does not
+# allow, such as a bound by which a function need not return.
 EXPECTED = {
     "logic", "functions", "axioms", "target", "cpu", "sum", "native", "logic-built", "libraries-built", "statements"
 }
 
 
 class Crate:
-    """A crate that the program stands on: the crates of the repository that it names, those of the kit, and the size of
-    its sources in bytes."""
+    """A crate that the program depends on: the crates of the repository that it names, those of the kit, and the size
+    of its sources in bytes."""
 
     def __init__(self, name: str, listed: Dict[str, List[str]]):
         self.name, self.below = name, [it for it in listed[name] if it in listed]
@@ -50,12 +50,12 @@ class Crate:
         self.library, self.length = os.path.join(PLACE, name + ".rlib"), sum(map(os.path.getsize, self.files()))
 
     def files(self) -> List[str]:
-        """Returns the paths of all that a proof of the crate reads of it."""
+        """Returns the paths of the crate's files that a proof reads."""
         return files_of(self.name, "src", "specs", "proofs")
 
     def sum(self, line: str, below: Dict[str, str]) -> str:
-        """Returns the sum of all that a proof of the crate reads: the kit's line, the crate's sources, and the crates
-        below it by their own sums."""
+        """Returns the hash of everything that a proof of the crate reads: the kit's line, the crate's sources, and the
+        hashes of the crates below it."""
         made = hashlib.sha256(repr((line, self.of_kit, [(it, below[it]) for it in self.below])).encode())
         for file in self.files():
             with open(file, "rb") as source:
@@ -74,7 +74,7 @@ def path_lengths(crates: Dict[str, Crate]) -> Dict[str, int]:
 
 
 class Proof:
-    """A proof at work."""
+    """A running proof."""
 
     def __init__(self, crate: Crate, kit: Kit, room: str, jobs: int):
         self.crate, self.jobs, self._begun = crate, jobs, time.monotonic()
@@ -105,12 +105,12 @@ class Proof:
         return self._child.run.poll() is not None
 
     def words(self) -> str:
-        """Returns what the proof has written so far."""
+        """Returns the output of the proof so far."""
         self._said.seek(0)
         return self._said.read()
 
     def why_not(self) -> Optional[str]:
-        """Returns what is wrong with a proof that has ended, or None."""
+        """Returns the fault of a proof that has ended, or None."""
         verdict = re.findall(r"^logic=.*$", self.words(), re.M)[-1:]
         if self._child.run.returncode or not verdict or not verdict[0].startswith("logic=proved "):
             return "is not proved"
@@ -123,7 +123,7 @@ class Proof:
 
 
 class Work:
-    """All proofs: the cached ones, those at work and those that wait."""
+    """All proofs: cached, running and waiting ones."""
 
     def __init__(self, kit: Kit, line: str):
         listed = listed_crates()
@@ -135,13 +135,13 @@ class Work:
         self._sums: Dict[str, str] = {}
         for name, crate in self.crates.items():
             self._sums[name] = crate.sum(line, self._sums)
-            # A library is valid only above those that it was made from.
+            # A library is valid only together with those that it was made from.
             is_valid = os.path.isdir(crate.library) and read_if_there(crate.library + ".sum") == self._sums[name]
             if is_valid and set(crate.below) <= self.proved:
                 self.proved.add(name)
 
     def _begin(self, room: str) -> None:
-        """Begins what may begin, the longest path first, each with its share of the processors that are free."""
+        """Starts the proofs that can start, the longest path first, each with its share of the free processors."""
         known = self.proved | {it.crate.name for it in self.at_work}
         ready = sorted((it for it in self.crates.values() if it.name not in known and set(it.below) <= self.proved),
                        key=lambda it: -self._lengths[it.name])
@@ -152,7 +152,7 @@ class Work:
             self.at_work.append(Proof(crate, self._kit, room, max(1, min(MOST_JOBS, free // (len(ready) - k)))))
 
     def _end(self, proof: Proof) -> None:
-        """Caches what a proof has made. Raises Fault if the proof failed."""
+        """Caches the results of a proof. Raises Fault if the proof failed."""
         self.at_work.remove(proof)
         why = proof.why_not()
         if why:
@@ -174,7 +174,7 @@ class Work:
             for k, it in enumerate(at_work))
 
     def finish(self, room: str, each: float) -> None:
-        """Proves all that is left, and reports what is at work every `each` seconds. Raises Fault if a proof fails."""
+        """Runs the remaining proofs, and reports progress every `each` seconds. Raises Fault if a proof fails."""
         latest = time.monotonic()
         while len(self.proved) < len(self.crates):
             self._begin(room)
@@ -187,8 +187,8 @@ class Work:
 
 
 def put(kit: Kit, made: str, sources: Dict[str, str], begun: int) -> None:
-    """Links the program and puts it in its place, where no other run meets half of it. Raises Fault if it cannot be
-    linked, or a source changed meanwhile."""
+    """Links the program and moves it into place, so that no other run sees an incomplete file. Raises Fault if linking
+    fails, or if a source changed meanwhile."""
     new = PROVED + ".new"
     linked = subprocess.run(kit.link([made], new), stdin=subprocess.DEVNULL, stdout=subprocess.PIPE,
                             stderr=subprocess.STDOUT, errors="replace", universal_newlines=True)
@@ -203,7 +203,7 @@ def put(kit: Kit, made: str, sources: Dict[str, str], begun: int) -> None:
 
 
 def prove(each: float) -> None:
-    """Proves and builds. Raises Fault if that fails, and caches what is proved until then."""
+    """Proves and builds. Raises Fault if that fails; caches the finished proofs."""
     begun, kit, line = time.time_ns(), Kit(), asked("version")
     os.makedirs(PLACE, exist_ok=True)
     with alone(PLACE):

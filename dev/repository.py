@@ -1,4 +1,4 @@
-"""The repository: its folder, its files, its crates, and how a command ends that cannot go on."""
+"""The repository: its folder, its files, its crates, and the end of a command that cannot continue."""
 from __future__ import annotations
 
 import os
@@ -12,7 +12,7 @@ NO_PROGRAM = 21
 
 
 class Fault(Exception):
-    """Why a command cannot go on, as one sentence for its user."""
+    """Why a command cannot continue, as one sentence for its user."""
 
 
 def say(sentence: str) -> None:
@@ -26,7 +26,7 @@ def path_of(*names: str) -> str:
 
 
 def read(*names: str) -> str:
-    """Reads a text file of the repository. Raises OSError if it is not there."""
+    """Reads a text file of the repository. Raises OSError if it does not exist."""
     with open(path_of(*names), encoding="utf-8", errors="replace") as source:
         return source.read()
 
@@ -42,7 +42,7 @@ def read_if_there(path: str) -> str:
 
 def listed_crates() -> Dict[str, List[str]]:
     """Reads crates.txt: each crate with the crates that its line names, in the order of the file. A line may have more
-    words before its colon, as `staticlib`."""
+    words before its colon, such as `staticlib`."""
     listed: Dict[str, List[str]] = {}
     for line in read("crates.txt").splitlines():
         head, _, below = line.partition("#")[0].partition(":")
@@ -66,6 +66,6 @@ def crates_of(name: str, listed: Dict[str, List[str]]) -> List[str]:
 
 
 def files_of(crate: str, *parts: str) -> List[str]:
-    """Returns the paths of the files in these folders of a crate, as `src`, in order."""
+    """Returns the paths of the files in these folders of a crate, such as `src`, in order."""
     walks = [os.walk(path_of("crates", crate, part)) for part in parts]
     return sorted(os.path.join(at, file) for walk in walks for at, _, files in walk for file in files)

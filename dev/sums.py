@@ -1,4 +1,4 @@
-"""The sums of the sources by which a program is known to be of them."""
+"""The hashes of the sources, which show whether a program belongs to them."""
 from __future__ import annotations
 
 import hashlib
@@ -9,14 +9,14 @@ from .repository import PROGRAM, TOP, crates_of, files_of, listed_crates, path_o
 
 
 def sum_of(path: str) -> str:
-    """Returns the SHA-256 of a file, in hexadecimal digits. Raises OSError if it cannot be read."""
+    """Returns the SHA-256 of a file, in hexadecimal digits. Raises OSError if it is unreadable."""
     with open(path, "rb") as source:
         return hashlib.sha256(source.read()).hexdigest()
 
 
 def sums(*parts: str) -> Dict[str, str]:
-    """Returns the sum of each source that the program is made of: crates.txt, and the files in these folders of its
-    crates, by their paths in the repository."""
+    """Returns the hash of each source of the program: crates.txt, and the files in these folders of its crates, by
+    their paths in the repository."""
     listed = listed_crates()
     paths = [path_of("crates.txt"), *[file for crate in crates_of(PROGRAM, listed) for file in files_of(crate, *parts)]]
     return {os.path.relpath(path, TOP): sum_of(path) for path in paths}
@@ -28,25 +28,24 @@ def as_text(known: Dict[str, str]) -> str:
 
 
 def as_sums(text: str) -> Dict[str, str]:
-    """Returns the sums that a text of that form has."""
+    """Parses sums in that form."""
     return {path: value for value, _, path in (line.partition("  ") for line in text.splitlines())}
 
 
 class Record:
-    """What a program was proved from: a file beside it, with the sums of its sources and its own."""
+    """The record of a proved program: a file next to it, with the hashes of its sources and its own."""
 
     def __init__(self, program: str):
         self._program, self._path = program, program + ".sums"
 
     def write(self, sources: Dict[str, str], made: str) -> None:
-        """Records the sources that the program was proved from, which so far lies at the path `made`."""
+        """Records the sources of the program, which is still at the path `made`."""
         with open(self._path + ".new", "w", encoding="utf-8") as out:
             out.write(as_text({**sources, os.path.relpath(self._program, TOP): sum_of(made)}))
         os.replace(self._path + ".new", self._path)
 
     def changed(self) -> Optional[List[str]]:
-        """Returns the sources that changed since the program was proved, or None if nothing is recorded of this
-        program."""
+        """Returns the sources that changed since the program was proved, or None without a record of this program."""
         recorded = as_sums(read_if_there(self._path))
         if recorded.pop(os.path.relpath(self._program, TOP), None) != sum_of(self._program):
             return None

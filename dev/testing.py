@@ -1,4 +1,4 @@
-"""Runs all tests side by side, for `./test`."""
+"""Runs all tests in parallel, for `./test`."""
 from __future__ import annotations
 
 import argparse
@@ -16,38 +16,38 @@ from dev.children import EACH, Child, end_as_interrupted, processors
 from dev.kit import SETTINGS
 from dev.repository import TOP, Fault, files_of, listed_crates, path_of, read
 
-# What the last lines of a job say of its tests, by what ran them: `rt try`, unittest, and ours.
+# The counts in the last lines of a job, by runner: `rt try`, unittest, and the repository's own.
 COUNTS = [
     re.compile(it, re.M)
     for it in (r"^test result: \w+\. (\d+) passed; (\d+) failed", r"^(?:callers: )?(\d+) passed, (\d+) failed\b")
 ]
 RAN, FAILED = re.compile(r"^Ran (\d+) tests? in", re.M), re.compile(r"^FAILED \((.*)\)$", re.M)
 SECONDS = 900      # the longest run of the tests of a crate, on a busy machine
-SHOWN = 60      # the most last lines that are shown of a job that fails
+SHOWN = 60      # the most last lines to show of a failed job
 
 
 @dataclass(frozen=True)
 class Job:
-    """A command of tests; one that needs the program starts once that is built."""
+    """A command of tests; if it needs the program, it starts after the build."""
 
     name: str
     command: tuple[str, ...]
     folder: str = TOP
     needs_program: bool = True
-    seconds: int = 10      # its CPU time, by and large: the longest start first
+    seconds: int = 10      # its approximate CPU time; the longest start first
 
 
 @dataclass(frozen=True)
 class Count:
-    """How many tests passed, and how many failed."""
+    """The numbers of passed and failed tests."""
 
     passed: int
     failed: int
 
 
 def counted(text: str, status: int) -> Count:
-    """Returns the counts of a job from what it wrote; a job that writes none is one test. A job that fails has at least
-    one failure."""
+    """Returns the counts of a job from its output; a job without counts is one test. A failed job has at least one
+    failure."""
     for pattern in COUNTS:
         found = pattern.findall(text)
         if found:
@@ -69,7 +69,7 @@ def _has_tests(crate: str) -> bool:
 
 
 def crate_jobs() -> Iterator[Job]:
-    """Yields a job for each crate with tests. `rt try` runs them compiled with checks, and without proofs."""
+    """Yields one job per crate with tests. `rt try` runs them compiled with checks and without proofs."""
     for crate in listed_crates():
         if _has_tests(crate):
             # A program of tests is compiled with all crates below it.
@@ -100,7 +100,7 @@ def program_jobs(program: str, library: str | None = None) -> Iterator[Job]:
 
 
 class Running:
-    """A job at work."""
+    """A running job."""
 
     def __init__(self, job: Job, settings: dict[str, str]):
         self.job, self._begun = job, time.monotonic()
@@ -108,7 +108,7 @@ class Running:
         self.child = Child(list(job.command), self._said, job.folder, settings)
 
     def text(self) -> str:
-        """Returns what the job has written so far."""
+        """Returns the output of the job so far."""
         self._said.seek(0)
         return self._said.read()
 
@@ -118,7 +118,7 @@ class Running:
 
 
 class Tests:
-    """All jobs: those that wait, those at work, and what came of the others."""
+    """All jobs: waiting and running ones, and the results of the others."""
 
     BUILD = Job("program", (path_of("colregs"), "--path"), needs_program=False, seconds=1000)
 
@@ -145,7 +145,7 @@ class Tests:
             self._running.append(Running(self._waiting.pop(0), self._settings))
 
     def _end(self, done: Running) -> None:
-        """Reports what came of a job, and shows what it wrote if it failed."""
+        """Reports the result of a job, and shows its output if it failed."""
         text, status = done.text(), done.child.run.returncode
         count = counted(text, status)
         if done.job is self.BUILD:
@@ -159,7 +159,7 @@ class Tests:
             print("    " + line, flush=True)
 
     def run(self) -> int:
-        """Runs all jobs, and returns how many tests failed. Nothing is left running, also if it is stopped."""
+        """Runs all jobs; returns the number of failed tests. Leaves nothing running, even if it is stopped."""
         places, latest = processors(), time.monotonic()
         try:
             while self._waiting or self._running:
@@ -183,11 +183,11 @@ def main(description: str | None) -> int:
     """Runs `./test` with the arguments of the command line, and returns its exit status."""
     parser = argparse.ArgumentParser(prog="test", description=description,
                                      formatter_class=argparse.RawDescriptionHelpFormatter)
-    parser.add_argument("--program", metavar="P", help="take this program, and leave out the crates of tests")
+    parser.add_argument("--program", metavar="P", help="use this program, and leave out the crates of tests")
     parser.add_argument("--library", metavar="L",
                         help="also run the callers of the library for C, a folder that .ci/library made")
     parser.add_argument("--list", action="store_true", help="list the names of the jobs, and run none")
-    parser.add_argument("names", metavar="NAME", nargs="*", help="take only the jobs whose names begin so")
+    parser.add_argument("names", metavar="NAME", nargs="*", help="run only the jobs whose names begin so")
     given = parser.parse_args()
     program, library = (os.path.abspath(it) if it else None for it in (given.program, given.library))
     jobs = [*([] if program else crate_jobs()), *program_jobs(program or "", library)]
@@ -198,7 +198,7 @@ def main(description: str | None) -> int:
     if unknown:
         parser.error(f"no job's name begins with {unknown[0]}; --list lists them")
     if program and not os.access(program, os.X_OK):
-        parser.error(f"{given.program} is not a program that can be run")
+        parser.error(f"{given.program} is not an executable file")
     end_as_interrupted()
     try:
         return 1 if Tests(program, library, given.names).run() else 0

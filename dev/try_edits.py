@@ -1,9 +1,10 @@
-"""Tries the must-fail edits for which the gate has no time: python3 -m dev.try_edits [CRATE ..]
+"""Tries the must-fail edits that would take the gate too long: python3 -m dev.try_edits [CRATE ..]
 
 `rt ci` proves a crate again to try its edits, so crates/NAME/must-fail has only those of the wrong programs in
-docs/PROVED.md, or one, or none. dev/edits/NAME has the others. This command puts them into must-fail in a copy of the
-sources, and runs `rt must-fail` there. Try those of a crate whose contracts you changed, and all before a release: that
-takes about an hour on four processors. The exit status is 1 if an edit was not refused, or could not be tried.
+docs/PROVED.md, or one, or none. dev/edits/NAME has the others. This command copies the sources with these edits in
+must-fail, and runs `rt must-fail` there. Try the edits of a crate after changing its contracts, and all edits before a
+release, which takes about an hour on four processors. The exit status is 1 if the proofs accepted an edit, or if an
+edit could not be tried.
 """
 from __future__ import annotations
 
@@ -20,7 +21,7 @@ from dev.repository import listed_crates, path_of
 
 
 def copy_with_edits(room: str, wanted: list[str]) -> None:
-    """Copies the sources into a folder. A wanted crate gets its further edits there, instead of those of the gate."""
+    """Copies the sources into a folder. There, each wanted crate has its further edits instead of those of the gate."""
     for name in ("crates.txt", "HANDLES"):
         shutil.copy(path_of(name), room)
     shutil.copytree(path_of("crates"), os.path.join(room, "crates"), ignore=shutil.ignore_patterns("out", "must-fail"))
@@ -35,7 +36,7 @@ def main() -> int:
     """Tries the edits, and returns the exit status."""
     parser = argparse.ArgumentParser(prog="try_edits", description=__doc__,
                                      formatter_class=argparse.RawDescriptionHelpFormatter)
-    parser.add_argument("names", metavar="CRATE", nargs="*", help="the crates whose edits are tried (default: all)")
+    parser.add_argument("names", metavar="CRATE", nargs="*", help="the crates with the edits to try (default: all)")
     given = parser.parse_args()
     listed = listed_crates()
     unknown = sorted(set(given.names) - set(listed))

@@ -27,7 +27,7 @@ Usage: colregs [OPTIONS] <MODE> <SCENARIO>
 
 Exit status:
   0  the report is written whole
-  2  the words are no command line
+  2  invalid command line
 """
 MANUAL = """.SH MODES
 .TP
@@ -59,7 +59,7 @@ class Manual(unittest.TestCase):
         self.assertEqual(sorted(listed.statuses), ["0", "2", "21"])
         self.assertEqual(manual.entries(manual.section(MANUAL, "EXIT STATUS")), {"0": "the report is written whole"})
 
-    def test_an_entry_that_one_lacks_or_says_otherwise_is_a_fault(self) -> None:
+    def test_an_entry_that_is_missing_or_differs_is_a_fault(self) -> None:
         found, listed = Findings(), manual.Help.of(HELP)
         manual.compare(found, "mode", listed.modes, manual.entries(manual.section(MANUAL, "MODES")))
         self.assertEqual(found.faults, [])
@@ -112,7 +112,7 @@ $ exit 3
 ```
 """.split("\n")
 
-    def test_blocks_have_their_commands_and_what_they_write(self) -> None:
+    def test_blocks_have_their_commands_and_outputs(self) -> None:
         (first, second), (third,) = commands.blocks(self.PAGE)
         self.assertEqual((first.text, first.shown, first.line), ("echo a; echo b >&2", ["a", "b"], 1))
         self.assertEqual((second.text, second.shown, third.text), ("cat <<END\nx\nEND", [".."], "exit 3"))
@@ -129,7 +129,7 @@ $ exit 3
             with self.assertRaises(ValueError):
                 list(commands.blocks(text.split("\n")))
 
-    def test_what_a_machine_lacks_is_named(self) -> None:
+    def test_missing_commands_of_a_machine_are_named(self) -> None:
         with mock.patch("shutil.which", return_value=None):
             self.assertEqual(commands.Command("./colregs audit | jq .", 0).lacks(), "jq")
             self.assertIsNone(commands.Command("./colregs audit > rows.jq", 0).lacks())
@@ -161,7 +161,7 @@ class English(unittest.TestCase):
         )
         self.assertEqual(self.found("data.csv", "anew\n"), [])
 
-    def test_clean_files_and_words_that_stay(self) -> None:
+    def test_clean_files_and_allowed_words(self) -> None:
         allowed = english.Allowed("# a comment\nclean docs/*.md\nclean crates/motion/\nallow docs/A.md: once "
                                   "more\nallow docs/B.md: anew\nfree docs\n")
         self.assertTrue(allowed.is_clean("docs/A.md"))
@@ -176,12 +176,12 @@ class English(unittest.TestCase):
 class Edits(unittest.TestCase):
     FILES = {"src/lib.rt": "a < b\nc < d\n"}
 
-    def test_an_edit_changes_a_line_that_its_file_has_once(self) -> None:
+    def test_an_edit_changes_a_line_that_occurs_once_in_its_file(self) -> None:
         for words, want in (
             ("file: src/lib.rt\nold: a < b\nnew: a > b\n", ""),
             ("file: src/lib.rt\nold: a < b\nnew: c < d\nold: c < d\nnew:\n", "`c < d` is in src/lib.rt 2 times"),
             ("file: src/lib.rt\nold: e\nnew: f\n", "`e` is in src/lib.rt 0 times"),
-            ("file: src/main.rt\nold: a\nnew: b\n", "there is no file src/main.rt"),
+            ("file: src/main.rt\nold: a\nnew: b\n", "the crate has no file src/main.rt"),
             ("old: a\nnew: b\n", "a line `new:` is before any line `file:` or `old:`"),
             ("file: src/lib.rt\n", "it has no lines `old:` and `new:`"),
         ):
@@ -226,7 +226,7 @@ other : Nat
 
 
 class Rules(unittest.TestCase):
-    def test_a_text_is_read_as_the_grammar_has_it(self) -> None:
+    def test_a_text_is_parsed_by_the_grammar(self) -> None:
         self.assertEqual(Text("!risk & F[0,20] near(5) | a -> b", 10).tree(),
                          ("->", ("|", ("&", ("!", ("risk",)), ("F", 0, 2, ("near", 5))), ("a",)), ("b",)))
         self.assertEqual(Text("a S[10,20] b", 10).tree(), ("S", 1, 2, ("a",), ("b",)))
@@ -245,7 +245,7 @@ rule tick numbers =
         with self.assertRaises(ValueError):
             Definitions(text).call("no_such", [])
 
-    def test_a_vessel_with_an_odd_number_is_made_to_fish_and_no_other(self) -> None:
+    def test_only_vessels_with_an_odd_number_are_made_to_fish(self) -> None:
         def line(mmsi: int, status: int) -> str:
             return sentence(class_a(mmsi, (1, 2, 3, 4, 5, 6), status)).decode() + "\n"
 
@@ -272,13 +272,13 @@ ghost use {wide};
 
 
 class Repeats(unittest.TestCase):
-    def test_a_run_of_twelve_lines_that_stands_twice_is_reported_once_and_whole(self) -> None:
+    def test_a_repeated_run_of_twelve_lines_is_reported_once_and_whole(self) -> None:
         run = [f"    let row_{k} = take({k});" for k in range(14)]
         texts = {"a.rt": "\n".join(["fn a()", *run, "{}"]), "b.rt": "\n".join([*run[:5], "", "// a word", *run[5:]])}
         self.assertEqual([(str(one), str(other)) for one, other in repeats.repeats(texts)],
                          [("a.rt:2-15", "b.rt:1-16")])
 
-    def test_eleven_lines_and_imports_are_none(self) -> None:
+    def test_eleven_lines_and_imports_are_no_repeat(self) -> None:
         run = "\n".join(f"let row_{k} = take({k});" for k in range(11))
         imports = "\n".join(f"use crate::part_{k};" for k in range(20))
         self.assertEqual(list(repeats.repeats({"a.rt": imports + "\n" + run, "b.rt": imports + "\n" + run})), [])
@@ -297,7 +297,7 @@ class Command(unittest.TestCase):
 
     def test_wrong_uses_end_with_a_status_and_a_line(self) -> None:
         self.assertEqual(self.run_of("no_such").returncode, 2)
-        self.assertIn("/no/program is not a program that can be run",
+        self.assertIn("/no/program is not an executable file",
                       self.run_of("--program", "/no/program", "limits").stderr)
 
     def test_a_program_that_does_something_else_fails(self) -> None:

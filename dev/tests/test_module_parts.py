@@ -65,16 +65,16 @@ class Parts(unittest.TestCase):
         self.assertEqual(sorted(self.defined("hidden ")), ["big_one", "never"])
         self.assertEqual(sum("define i32 @main()" in text for text in self.parts), 1)
 
-    def test_what_is_called_is_there_in_each_part(self) -> None:
+    def test_each_part_has_the_functions_that_it_calls(self) -> None:
         for text in self.parts:
             for name in set(re.findall(r'@"([^"]+)"', text)):
                 self.assertRegex(text, rf'(?m)^(define|declare) .*@"{name}"\(ptr noundef %a0\)', name)
 
-    def test_what_main_does_not_need_is_left_out(self) -> None:
+    def test_functions_that_main_does_not_need_are_left_out(self) -> None:
         self.assertNotIn("idle", "".join(self.parts))
         self.assertIn('"by table"', "".join(self.parts))
 
-    def test_one_part_is_the_module(self) -> None:
+    def test_a_single_part_is_the_module(self) -> None:
         (one,) = ("".join(lines) for lines in parts(MODULE.splitlines(True), 1))
         self.assertNotIn("declare hidden", one)
         self.assertEqual(one.count("define "), MODULE.count("define ") - 1)
@@ -84,7 +84,7 @@ class Parts(unittest.TestCase):
             with self.assertRaises(ValueError):
                 parts(text.splitlines(True), 2)
 
-    def test_shares_need_about_the_same(self) -> None:
+    def test_shares_need_about_the_same_lines(self) -> None:
         text = "".join(function(f"f{k}", " ".join(f"f{it}" for it in range(k)), 20, 2) for k in range(12))
         module = Module(("define i32 @main() #0 {\n" + "".join(f'  call void @"f{k}"()\n' for k in range(12)) + "}\n"
                          + text + "attributes #2 = { noinline }\n").splitlines(True))

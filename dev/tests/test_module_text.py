@@ -65,13 +65,13 @@ class Text(InFolder):
         self.inlining = Inlining()
         self.inlining.read("low", self.path("src"))
 
-    def test_a_function_of_a_name_that_several_have_is_that_of_its_module(self) -> None:
+    def test_a_function_name_shared_by_several_is_resolved_by_its_module(self) -> None:
         self.assertEqual(self.inlining.of("low::deep::small"), {"alwaysinline"})
         self.assertEqual(self.inlining.of("low::small"), set())
         self.assertEqual(self.inlining.of("low::Thing::far::<#d858>"), {"cold"})
         self.assertEqual(self.inlining.of("other::small"), set())
 
-    def test_checks_fills_and_marks_go_and_all_else_stays(self) -> None:
+    def test_checks_fills_and_marks_are_removed_and_everything_else_stays(self) -> None:
         lines = list(without_checks(MODULE.splitlines(True), self.inlining))
         self.assertEqual([line.count("\n") for line in lines], [1] * len(lines))
         text = "".join(lines)
@@ -88,7 +88,7 @@ class Text(InFolder):
         self.assertRegex(
             text, r"attributes #900 = \{ alwaysinline nounwind .*\}\nattributes #901 = \{ cold nounwind .*\}\n$")
 
-    def test_what_is_left_splits_into_its_functions(self) -> None:
+    def test_the_rest_splits_into_its_functions(self) -> None:
         module = Module(without_checks(MODULE.splitlines(True), self.inlining))
         self.assertEqual(list(module.functions),
                          ["main", '"rattle-llvm-checks::overflow"', '"low::deep::small"', '"low::Thing::far::<#d858>"'])

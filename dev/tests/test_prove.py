@@ -28,7 +28,7 @@ class Prove(InRepository):
         self.assertEqual(self.run_of("./colregs", "points", "a.toml"), RAN)
         self.assertEqual(self.called(), [])
 
-    def test_a_source_that_changed_is_proved_with_all_that_stands_on_it(self) -> None:
+    def test_a_changed_source_is_proved_with_the_crates_above_it(self) -> None:
         self.run_of(*PROVE)
         self.proved()
         self.source("crates/middle/src/lib.rt", "// other sources")
@@ -42,7 +42,7 @@ class Prove(InRepository):
         self.run_of(*PROVE, LOGIC="2")
         self.assertEqual(len(self.proved()), 5)
 
-    def test_lines_name_the_crates_at_work(self) -> None:
+    def test_lines_name_the_crates_in_progress(self) -> None:
         status, _, err = self.run_of(*PROVE, "--each", "0.5", TAKES="2.2")
         self.assertEqual(status, 0)
         self.assertRegex(err, r"colregs: crate [34] of 5, (high|beside), [012] s")
@@ -57,13 +57,13 @@ class Prove(InRepository):
         self.assertEqual(self.run_of(*PROVE)[0], 0)
         self.assertEqual([it for it in self.proved() if it != "beside"], ["high", "colregs"])
 
-    def test_what_no_handle_allows_is_refused(self) -> None:
+    def test_facts_that_no_handle_allows_are_refused(self) -> None:
         for name, word in (("high", " may-wait=1"), ("colregs", " main=Net")):
             status, _, err = self.run_of(*PROVE, **{"BEYOND_" + name: word})
             self.assertEqual(status, 21)
             self.assertIn("%s is refused, since its proof also states%s" % (name, word), err)
 
-    def test_a_program_from_before_does_not_pass_for_one_that_could_not_be_built(self) -> None:
+    def test_an_older_program_does_not_replace_a_failed_build(self) -> None:
         self.run_of(*PROVE)
         self.source("crates/low/src/lib.rt", "// other sources")
         self.assertEqual(self.run_of(*PROVE, UNLINKED="1")[0], 21)
@@ -80,7 +80,7 @@ class Prove(InRepository):
         self.assertEqual(run.returncode, 21)
         self.assertIn("changed while the program was proved", err)
 
-    def test_if_it_is_stopped_so_are_the_proofs_and_it_continues_from_there(self) -> None:
+    def test_if_it_is_stopped_the_proofs_stop_and_it_continues_from_there(self) -> None:
         for number, status in ((signal.SIGTERM, 130), (signal.SIGKILL, -signal.SIGKILL)):
             run = self.start(*PROVE, "--each", "0.2", TAKES="20")
             assert run.stderr is not None

@@ -29,7 +29,7 @@ class Release(InFolder):
             return subprocess.run([*command, "audit", os.path.join(EXAMPLES, "head_on.toml")], stdin=log,
                                   capture_output=True, text=True).stdout
 
-    def test_both_hold_the_program_the_tools_and_what_they_were_made_of(self) -> None:
+    def test_both_contain_the_program_the_tools_and_their_sources(self) -> None:
         self.assertEqual(self.made("--untested"), (0, ""))
         names = sorted(os.listdir(self.path("out")))
         tar, sources, deb = (
@@ -71,7 +71,7 @@ class Release(InFolder):
             done = subprocess.run(["lintian", "--fail-on", "error,warning", deb], capture_output=True, text=True)
             self.assertEqual(done.returncode, 0, done.stdout)
 
-    def test_what_the_gate_has_not_passed_is_refused(self) -> None:
+    def test_a_commit_that_the_gate_has_not_passed_is_refused(self) -> None:
         other = shutil.copy("/bin/true", self.path("other"))
         done = subprocess.run(
             [os.path.join(TOP, ".ci", "release"), self.path("out"), other], capture_output=True, text=True)

@@ -19,7 +19,7 @@ run=ended status=0 runners=1 proved=no
 
 
 class Counts(unittest.TestCase):
-    def test_tests_of_a_crate(self) -> None:
+    def test_the_counts_of_a_crates_tests(self) -> None:
         self.assertEqual(counted(TRIED, 0), Count(43, 0))
         self.assertEqual(counted(TRIED.replace("ok. 43 passed; 0", "FAILED. 41 passed; 2"), 101), Count(41, 2))
 
@@ -78,7 +78,7 @@ class Command(unittest.TestCase):
 
     def test_wrong_uses_end_with_status_2_and_run_nothing(self) -> None:
         for words, said in ((["no such job"], "no job's name begins with no such job"),
-                            (["--program", "/no/program"], "/no/program is not a program that can be run")):
+                            (["--program", "/no/program"], "/no/program is not an executable file")):
             done = self.run_of(*words)
             self.assertEqual((done.returncode, done.stdout), (2, ""))
             self.assertIn(said, done.stderr)

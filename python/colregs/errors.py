@@ -45,7 +45,7 @@ def end(name: str, main: Callable[[], int], failed: int = FAILED) -> NoReturn:
     except OSError as error:
         if error.filename is None:
             discard_output()
-        place = "standard output cannot be written" if error.filename is None else os.fsdecode(error.filename)
+        place = "cannot write to standard output" if error.filename is None else os.fsdecode(error.filename)
         report(name, f"{place}: {reason(error)}")
         status = failed
     sys.exit(status)

@@ -1,5 +1,5 @@
-"""A headless Chromium that is asked over a pipe, by the DevTools protocol: what a page's script returns, its errors,
-and what it asks of a network."""
+"""A headless Chromium, controlled over a pipe by the DevTools protocol: results of a page's scripts, its errors, and
+its network requests."""
 import base64
 import json
 import os
@@ -12,7 +12,7 @@ import time
 from typing import Any
 
 NAMES = ("chromium", "chromium-browser", "google-chrome")
-PATIENCE = 300          # s: only a browser that hangs is so slow
+PATIENCE = 300          # s: only a hanging browser is so slow
 # the browser reads its orders from file 3 and answers on file 4, whatever these are here
 LAUNCH = """
 import fcntl, os, sys
@@ -30,7 +30,7 @@ def installed() -> str | None:
 
 
 class Browser:
-    """One tab. Errors of the console and addresses that were asked of a network are kept."""
+    """One tab. It records console errors and requested network addresses."""
 
     def __init__(self, width: int = 1280, height: int = 900) -> None:
         self.folder = tempfile.TemporaryDirectory()
@@ -87,7 +87,7 @@ class Browser:
         return dict(json.loads(text))
 
     def keep(self, told: dict[str, Any]) -> None:
-        """Takes what the tab reports unasked."""
+        """Handles an event of the tab."""
         method, more = told.get("method"), told.get("params", {})
         if method == "Runtime.exceptionThrown":
             details = more["exceptionDetails"]
@@ -102,7 +102,7 @@ class Browser:
             self.loaded = True
 
     def ask(self, method: str, **more: Any) -> Any:
-        """Returns the answer to a request."""
+        """Returns the response to a request."""
         self.number += 1
         request = {"id": self.number, "method": method, "params": more}
         if self.session:
@@ -119,7 +119,7 @@ class Browser:
             self.keep(told)
 
     def open(self, path: str, mark: str = "") -> None:
-        """Opens a page by the path of a file or an address, and waits until it is loaded."""
+        """Opens a page by a file's path or an address, and waits until it is loaded."""
         self.loaded = False
         self.ask("Page.navigate", url=path if "://" in path else "file://" + os.path.abspath(path) + mark)
         while not self.loaded:

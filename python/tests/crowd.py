@@ -1,5 +1,4 @@
-"""A log of vessels that keep course and speed, so near to each other that more than 4096 pairs are in contact; and the
-harbour of twenty."""
+"""A log of vessels that keep course and speed, with more than 4096 pairs in contact; and the harbour of twenty."""
 import functools
 import math
 import random
@@ -33,8 +32,8 @@ def log(vessels: int = 400, side: int = 28000) -> str:
 
 
 def wide() -> bytes:
-    """Returns the reports of 4200 vessels in pairs that meet head on, each pair far from all others, so that there are
-    more than a run takes."""
+    """Returns the reports of 4200 vessels, more than a run allows, in pairs that meet head-on, each pair far from all
+    others."""
     lines = []
     for second in (0, 60, 120):
         for k in range(4200):

@@ -4,9 +4,9 @@
 
 Each number draws one log, one scenario and one plan. In the log are shared MMSIs, jumps, repeats, late and future
 lines, lines without a stamp, damaged and overlong ones, messages in parts across files and windows, ship types that are
-reported once, vessels that lie still side by side, and meetings across cuts and edges of tiles. Formulas of one's own
-look back, and windows overlap by little or by half. A join has to be that of one run, or is refused, or each row in
-which they differ is marked or named in the doubts. Status 0 is that all numbers passed.
+reported once, stopped vessels side by side, and meetings across cuts and edges of tiles. Additional formulas look back,
+and windows overlap by little or by half. A join must equal that of one run, or be refused, or each differing row must
+be marked or named in the doubts. Status 0 means that all numbers passed.
 """
 import argparse
 import concurrent.futures
@@ -47,8 +47,8 @@ FORMULAS = ("engaged -> clear(150)", "begin -> !O[60,900] begin", "O[0,300] risk
 
 @dataclass(frozen=True)
 class Theme:
-    """How likely each thing is that makes a log hard to cut; one theme has much of one thing, so that it is seldom
-    hidden behind the others."""
+    """The probabilities of the things that make a log hard to cut. Each theme has much of one thing, so that the others
+    seldom hide it."""
 
     late: float = 0.0
     repeated: float = 0.0
@@ -77,7 +77,7 @@ THEMES = (Theme(), MIXED, Theme(types=0.95, ranks=(1,), shared=0,
 
 @dataclass
 class Drawn:
-    """A drawn log as lines with the moments of their arrival, its scenario and how it is planned."""
+    """A drawn log as lines with their arrival times, its scenario and its plan."""
 
     lines: list[tuple[float, bytes]] = field(default_factory=list)
     text: str = ""
@@ -129,7 +129,7 @@ def stamped(at: float, sentence: bytes, station: bytes = b"") -> bytes:
 
 
 def in_parts(fields: sentences.Fields, key: bytes, channel: bytes, damage: int) -> list[bytes]:
-    """Returns the sentences of a message in two parts; `damage` is the number of a part whose sum is wrong."""
+    """Returns the sentences of a message in two parts; `damage` is the number of a part with a wrong checksum."""
     payload, fill = sentences.payload_of(fields)
     cut, made = len(payload) * 2 // 3, []
     for number, (letters, filled) in enumerate(((payload[:cut], 0), (payload[cut:], fill)), 1):
@@ -216,7 +216,7 @@ class Log:
 
 
 def draw_tracks(draw: random.Random, log: Log) -> None:
-    """Draws vessels that cross a common place, some that lie still there, and some that share an MMSI."""
+    """Draws vessels that cross a common place, some stopped ones there, and some that share an MMSI."""
     seconds, mmsi = log.seconds, FIRST_MMSI
     for _ in range(draw.randrange(3, 8)):
         speed, course, meet = draw.uniform(4, 18), draw.uniform(0, 360), draw.uniform(0, seconds)
@@ -260,7 +260,7 @@ def drawn(number: int) -> Drawn:
 
 @dataclass
 class Outcome:
-    """What came of a number: a word for it, and what differs without a mark."""
+    """The outcome of a number: a word, and the rows that differ without a mark."""
 
     word: str
     faults: list[str] = field(default_factory=list)
@@ -269,7 +269,7 @@ class Outcome:
 
 
 class Results:
-    """The results of jobs, made in this process where the tool makes a pipeline."""
+    """The results of jobs, computed in this process instead of a pipeline."""
 
     def __init__(self, scenario: Scenario, program: str) -> None:
         self.of, self.program = scenario, program
@@ -289,7 +289,7 @@ class Results:
         return done.stdout
 
     def check_reads(self, job: Job, cut: cutter.Cut, log: bytes) -> None:
-        """Compares a share's log with the one that is made of the bytes that matter alone."""
+        """Compares a share's log with the log made of only the relevant bytes."""
         of_blocks = b"".join(
             cutter.share_of_files(job.files, [[Read(*read) for read in of_file] for of_file in job.reads or []], cut))
         if of_blocks != log:
@@ -320,8 +320,8 @@ class Results:
 
 def write_cut(files: list[str], cut: cutter.Cut, folder: str, target: str, words: str,
               reads: list[list[list[Any]]] | None = None) -> None:
-    """Does what `colregs.shares.cuts.write_cut` does, in this process: the start of another one takes longer than all
-    else."""
+    """Does the same as `colregs.shares.cuts.write_cut` in this process, because starting another process takes longer
+    than everything else."""
     log = cutter.share_lines(read_lines(files), cut) if reads is None else cutter.share_of_files(
         files, [[Read(*read) for read in of_file] for of_file in reads], cut)
     with open(target, "wb") as out:
@@ -329,7 +329,7 @@ def write_cut(files: list[str], cut: cutter.Cut, folder: str, target: str, words
 
 
 def read_lines(files: list[str]) -> list[bytes]:
-    """Returns the lines of files, packed or not."""
+    """Returns the lines of files, compressed or not."""
     whole = b""
     for name in files:
         with (gzip.open(name) if name.endswith(".gz") else open(name, "rb")) as source:
@@ -338,13 +338,13 @@ def read_lines(files: list[str]) -> list[bytes]:
 
 
 def packed(text: bytes, members: int) -> bytes:
-    """Returns a text packed by gzip, in members that begin anywhere."""
+    """Returns a text compressed by gzip, in members that start anywhere."""
     return b"".join(
         gzip.compress(text[len(text) * k // members:len(text) * (k + 1) // members], 1) for k in range(members))
 
 
 def write_files(made: Drawn, folder: str, number: int) -> list[str]:
-    """Writes the log in one to three files, some of them packed; returns their names."""
+    """Writes the log in one to three files, some of them compressed; returns their names."""
     draw, count = random.Random(number + 1), 1 + number % 3
     cuts = sorted(draw.randrange(len(made.lines) + 1) for _ in range(count - 1))
     names = []
@@ -407,7 +407,7 @@ def tried(number: int, program: str, folder: str) -> Outcome:
 
 
 def of_number(work: tuple[int, str, str | None, float | None]) -> Outcome | None:
-    """Returns what came of a number; None if its time was over."""
+    """Returns the outcome of a number; None if its time was over."""
     number, program, keep, end = work
     if end is not None and time.time() > end:
         return None

@@ -1,4 +1,4 @@
-"""What the tests share: the built program, the examples, a folder for a test, and what a machine may lack."""
+"""Helpers of the tests: the built program, the examples, a folder per test, and commands that a machine may lack."""
 import contextlib
 import importlib
 import io
@@ -11,7 +11,7 @@ import unittest
 from collections.abc import Callable
 from typing import Any, TypeVar
 
-HANGS = 600             # s: only a program that hangs takes so long, however slow the machine is
+HANGS = 600             # s: only a hanging program takes so long, even on a slow machine
 HERE = os.path.dirname(os.path.abspath(__file__))
 TOP = os.path.dirname(os.path.dirname(HERE))
 TOOLS, EXAMPLES = os.path.join(TOP, "tools"), os.path.join(TOP, "examples")
@@ -44,7 +44,7 @@ def text_of(path: str) -> str:
 
 
 class InFolder(unittest.TestCase):
-    """A test with a folder of its own."""
+    """A test with its own folder."""
 
     def setUp(self) -> None:
         folder = tempfile.TemporaryDirectory()
@@ -71,7 +71,7 @@ class InFolder(unittest.TestCase):
         return done.returncode, done.stdout.decode("utf-8", "replace"), done.stderr.decode("utf-8", "replace")
 
     def within(self, name: str, *words: str) -> tuple[int, str, str]:
-        """Runs a tool in this process, which spares the start of a Python."""
+        """Runs a tool in this process, which saves starting Python."""
         command = importlib.import_module("colregs.cli." + name.removeprefix("colregs-")).command
         out, error, before, argv = io.StringIO(), io.StringIO(), os.getcwd(), sys.argv
         os.chdir(self.folder)

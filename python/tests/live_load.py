@@ -1,4 +1,5 @@
-"""What the live page costs: live_load.py PROGRAM [--vessels N] [--hours H] [--speed S] [--each SECONDS] [--browsers N]
+"""Measures the cost of the live page: live_load.py PROGRAM [--vessels N] [--hours H] [--speed S] [--each SECONDS]
+[--browsers N]
 
 It makes a log of N vessels in a roadstead, three of eight at rest and five under way between its corners, replays it at
 S times real speed, and prints how much CPU time and memory the server and its runs of the program took.
@@ -30,7 +31,7 @@ UNIT = 0.1852                           # metres of 1/10000 minute of latitude
 
 
 class Ship:
-    """A vessel that lies still or goes from place to place."""
+    """A vessel that is stopped or moves from place to place."""
 
     def __init__(self, draw: random.Random, mmsi: int, moves: bool) -> None:
         self.draw, self.mmsi, self.moves = draw, mmsi, moves
@@ -39,7 +40,7 @@ class Ship:
         self.to = self.x, self.y
 
     def go(self, seconds: float) -> int:
-        """Goes on for some seconds; returns the course in 1/10 degree."""
+        """Moves for some seconds; returns the course in 1/10 degree."""
         if not self.moves:
             return self.mmsi * 37 % 3600
         while math.dist((self.x, self.y), self.to) < 300:
@@ -80,28 +81,41 @@ def seconds_of(pid: int) -> float:
     return sum(map(int, fields[11:13])) / CLOCK
 
 
+def children_of(pid: int) -> list[int]:
+    """Returns the children of a process. A thread that ends while they are read has none."""
+    found: list[int] = []
+    for task in os.listdir(f"/proc/{pid}/task"):
+        try:
+            with open(f"/proc/{pid}/task/{task}/children", encoding="ascii") as source:
+                found += map(int, source.read().split())
+        except FileNotFoundError:
+            continue
+    return found
+
+
+def seconds_if_running(pid: int) -> float:
+    """Returns the CPU seconds of a process, or 0 if it has ended."""
+    try:
+        return seconds_of(pid)
+    except FileNotFoundError:
+        return 0
+
+
 def all_seconds(pid: int) -> float:
     """Returns the CPU seconds of a process, of its children, and of those that have ended."""
     with open(f"/proc/{pid}/stat", encoding="ascii") as source:
         total = sum(map(int, source.read().rpartition(") ")[2].split()[11:15])) / CLOCK
-    with open(f"/proc/{pid}/task/{pid}/children", encoding="ascii") as source:
-        children = [
-            int(word)
-            for task in os.listdir(f"/proc/{pid}/task")
-            for word in open(f"/proc/{pid}/task/{task}/children", encoding="ascii").read().split()
-        ]
-        source.read()
-    return total + sum(seconds_of(child) for child in children if os.path.exists(f"/proc/{child}/stat"))
+    return total + sum(map(seconds_if_running, children_of(pid)))
 
 
 def most_memory(pid: int) -> float:
-    """Returns the most MiB that a process had."""
+    """Returns the peak memory of a process in MiB."""
     with open(f"/proc/{pid}/status", encoding="ascii") as source:
         return next(int(line.split()[1]) for line in source if line.startswith("VmHWM")) / 1024
 
 
 def listen(browser: WebSocket) -> None:
-    """Reads what a browser gets."""
+    """Reads the messages to a browser."""
     try:
         while True:
             browser.message()
@@ -110,7 +124,7 @@ def listen(browser: WebSocket) -> None:
 
 
 def main() -> int:
-    """Replays a log, and prints what that cost."""
+    """Replays a log, and prints the cost."""
     words = argparse.ArgumentParser(description=__doc__, formatter_class=argparse.RawDescriptionHelpFormatter)
     words.add_argument("program")
     for name, value in (("vessels", 400), ("hours", 24), ("speed", 60), ("each", 60), ("browsers", 1)):
@@ -133,14 +147,14 @@ def main() -> int:
             time.sleep(5)
             passed = time.monotonic() - begun
             own, every = seconds_of(server.child.pid), all_seconds(server.child.pid)
-            told = server.json("/healthz")
+            health = server.json("/healthz")
             # s that these lines take at this speed, on a machine that has room
-            due = told["lines"] / count * given.hours * 3600 / given.speed
-            print(f"{passed:.0f} s: {told['lines']} of {count} lines, due in {due:.0f} s; server "
+            due = health["lines"] / count * given.hours * 3600 / given.speed
+            print(f"{passed:.0f} s: {health['lines']} of {count} lines, due in {due:.0f} s; server "
                   f"{own / max(1, due):.2f} CPU seconds per second, with the program {every / max(1, due):.2f}; "
-                  f"{most_memory(server.child.pid):.0f} MiB; {told['rows']} rows, {told['at_rest']} at rest; answers "
-                  f"{told['answer_seconds']} s "
-                  f"{told['answer_fault']}", flush=True)
+                  f"{most_memory(server.child.pid):.0f} MiB; {health['rows']} rows, {health['at_rest']} at rest; answers "
+                  f"{health['answer_seconds']} s "
+                  f"{health['answer_fault']}", flush=True)
         print(server.ask("/metrics")[1].decode(), flush=True)
         server.stop()
         print("\n".join(server.said))

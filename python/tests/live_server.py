@@ -26,7 +26,7 @@ def has_aiohttp() -> bool:
 
 
 class Live:
-    """A server on a port of its own. Ends with `stop`, or with `kill` as a machine that loses its power."""
+    """A server on its own port. `stop` ends it, and `kill` ends it like a power failure."""
 
     def __init__(self, folder: str, *words: str, port: int = 0) -> None:
         command = [
@@ -45,7 +45,7 @@ class Live:
             raise
 
     def read(self) -> None:
-        """Takes what the server says."""
+        """Reads the output of the server."""
         assert self.child.stderr
         for line in self.child.stderr:
             self.said.append(line.rstrip("\n"))
@@ -69,7 +69,7 @@ class Live:
         return f"http://127.0.0.1:{self.port}/"
 
     def ask(self, path: str, body: bytes | None = None, **headers: str) -> tuple[int, bytes, dict[str, str]]:
-        """Returns the status, the body and the headers of an answer. `_` in the name of a header stands for `-`."""
+        """Returns the status, the body and the headers of a response. `_` in the name of a header stands for `-`."""
         request = urllib.request.Request(f"http://127.0.0.1:{self.port}{path}", body,
                                          {name.replace("_", "-"): value
                                           for name, value in headers.items()})
@@ -129,7 +129,7 @@ class WithLive(InFolder):
             out.write(lines)
 
     def until(self, done: Callable[[], Any], words: str = "it did not come") -> Any:
-        """Returns what a test waits for, once it is there."""
+        """Waits until a value is available, and returns it."""
         until = time.monotonic() + PATIENCE
         while time.monotonic() < until:
             found = done()

@@ -1,7 +1,7 @@
 """Two vessels that pass; all figures are computed by hand.
 
-On the equator a minute of longitude is 1852 m, as a minute of latitude is. EAST goes east along it from 0 at 10.8
-knots, 5.556 m a second, so that each 10 s take her 300 units of 1/10000 minute. WEST comes towards her, 1000 units
+On the equator a minute of longitude is 1852 m, like a minute of latitude. EAST moves east along it from 0 at 10.8
+knots, 5.556 m per second, which is 300 units of 1/10000 minute per 10 s. WEST comes towards her, 1000 units
 further north, which are 185.2 m or a tenth of a nautical mile, and begins 30000 units away. So they are nearest after
 500 s, at 15000 units, 1' 30'' east; and they are nearer than the safe 500 m within 464.4 m to either side of that,
 which takes 41.8 s.
@@ -36,7 +36,7 @@ def name(mmsi: int, words: str) -> str:
 
 
 def log(still: bool = False, silent_after: int = STEPS * TICK) -> str:
-    """Returns their reports every 10 s; with `still` also those of one who lies still beside the way of EAST, at 0.3
+    """Returns their reports every 10 s; with `still`, also those of a stopped vessel next to the path of EAST, at 0.3
     knots by her receiver.
 
     WEST is not heard after `silent_after` seconds.

@@ -1,8 +1,8 @@
-"""An hour in a strait, made by a script: through traffic, moored pairs, a pilot transfer, a tug with her tow, fishers,
-and a vessel that vanishes.
+"""A made-up hour in a strait: through traffic, moored pairs, a pilot transfer, a tug with her tow, fishing vessels, and
+a vessel that vanishes.
 
-All is on a plane near the equator, where a minute of longitude and of latitude is 1852 m. Each vessel goes straight
-from one point of her way to the next.
+All is on a plane near the equator, where a minute of longitude and of latitude is 1852 m. Each vessel moves straight
+from one point of her path to the next.
 """
 import math
 from collections.abc import Iterator
@@ -32,7 +32,7 @@ LEAST, NEAREST, SILENT = 120, 1800, 1560
 
 @dataclass(frozen=True)
 class Vessel:
-    """A vessel with her way, her type and status, how often she reports and until when."""
+    """A vessel with her path, her type and status, the interval of her reports, and their end."""
 
     mmsi: int
     name: str
@@ -57,7 +57,7 @@ class Vessel:
 
 
 def straight(speed: float, course: float, second: float, x: float, y: float) -> tuple[Corner, ...]:
-    """Returns the way of a vessel that keeps her speed in knots and course in degrees, and is at a place at a
+    """Returns the path of a vessel that keeps her speed in knots and course in degrees, and is at a place at a
     moment."""
     east, north = (speed * KNOT * part for part in (math.sin(math.radians(course)), math.cos(math.radians(course))))
     return tuple((at, x + east * (at - second), y + north * (at - second)) for at in (0, STEPS * TICK))

@@ -1,4 +1,4 @@
-"""A case: its files and sums, and its map, database, pictures and page, by a passing that is computed by hand
+"""A case: its files and hashes, map, database, pictures and page, for a passing that is computed by hand
 (passing.py)."""
 import hashlib
 import json
@@ -20,7 +20,7 @@ WRONG_USES = [
     (["passing.log", "--scenario", "none.toml"], "none.toml"),
     (["passing.log", "--scenario", "/dev/zero"], "/dev/zero is a device"),
     (["passing.log", "--scenario", "passing.log"], "passing.log: not TOML: "),
-    (["passing.log", "--program", "none"], "cannot be run as a program"),
+    (["passing.log", "--program", "none"], "is not an executable file"),
     (["passing.log", "--chart", "passing.toml"], "GeoJSON"),
     (["passing.log", "-o", "."], "exists already"),
     (["passing.toml", "--scenario", "passing.toml"], "no sentence and no row was read"),
@@ -48,7 +48,7 @@ class Cases(InFolder):
 
 
 class Files(Cases):
-    def test_the_sums_are_those_of_the_files(self) -> None:
+    def test_the_hashes_are_those_of_the_files(self) -> None:
         self.make()
         told = json.loads(self.held("case.json"))
         names = set(os.listdir(self.path("made")))
@@ -58,12 +58,12 @@ class Files(Cases):
                 self.assertEqual(hashlib.sha256(source.read()).hexdigest(), about["sha256"], name)
         self.assertEqual(told["given"][0]["sha256"], hashlib.sha256(passing.log(still=True).encode()).hexdigest())
 
-    def test_the_summary_tells_the_nearest_of_those_under_way(self) -> None:
+    def test_the_summary_names_the_nearest_meeting_of_vessels_under_way(self) -> None:
         said = self.make()[1]
         self.assertIn("EAST and WEST, 185 m (0.10 nautical miles) at 2023-11-14 22:21:40 UTC",
                       said.replace("WEST and EAST", "EAST and WEST"))
 
-    def test_a_window_that_is_given_is_kept_for_the_other_tools(self) -> None:
+    def test_a_given_window_is_stored_for_the_other_tools(self) -> None:
         self.make("--start", str(passing.START + 100), "--ticks", "80")
         self.assertEqual(json.loads(self.held("case.json"))["window"]["start"], passing.START + 100)
         for words in (["made"], ["made/scenario.toml", "--points", "made/points.csv", "--audit", "made/report.csv"]):
@@ -71,12 +71,12 @@ class Files(Cases):
         with open(self.path("picture.svg"), encoding="utf-8") as source:
             self.assertIn("185 m at 22:21:40", source.read())
 
-    def test_a_scenario_is_guessed_where_none_is_given(self) -> None:
+    def test_a_scenario_is_guessed_if_none_is_given(self) -> None:
         status, said, error = self.tool("colregs-case", "passing.log", "--program", PROGRAM, "-o", "made")
         self.assertEqual(status, 0, error)
         self.assertIn("The scenario was guessed", said)
 
-    def test_what_goes_wrong_is_named_and_leaves_nothing(self) -> None:
+    def test_failures_are_named_and_leave_no_output(self) -> None:
         for words, told in WRONG_USES:
             usual = (("--program", PROGRAM), ("-o", "made"))
             status, _, error = self.tool("colregs-case", *words,
@@ -86,7 +86,7 @@ class Files(Cases):
             self.assertNotIn("Traceback", error)
             self.assertEqual(sorted(os.listdir(self.folder)), ["passing.log", "passing.toml"])
 
-    def test_a_refusal_of_the_program_is_handed_on(self) -> None:
+    def test_a_refusal_of_the_program_is_passed_on(self) -> None:
         self.write("passing.toml", passing.SCENARIO.replace("tick = 10", "tick = 61"))
         self.assertRegex(self.make(status=1)[2], "status 3, scenario: window.tick: range")
 
@@ -142,7 +142,7 @@ class Parts(Cases):
         window: dict[str, int] = json.loads(self.held("case.json"))["window"]
         return window
 
-    def test_the_window_that_is_asked_for_is_audited(self) -> None:
+    def test_the_requested_window_is_audited(self) -> None:
         """From 22:15:00, 100 s after the start, to 22:23:20, 500 s later: 50 steps of 10 s."""
         for end in ("22:23:20", "2023-11-14T22:23:20Z", "1700000600"):
             with self.subTest(end):
@@ -151,7 +151,7 @@ class Parts(Cases):
                     window = json.load(source)["window"]
                 self.assertEqual((window["start"], window["ticks"]), (1700000100, 50))
 
-    def test_a_guess_takes_the_window_that_is_asked_for(self) -> None:
+    def test_a_guess_uses_the_requested_window(self) -> None:
         status, _, error = self.tool("colregs-case", "passing.log", "--program", PROGRAM, "-o", "made", "--from",
                                      "22:15", "--to", "22:23:20")
         self.assertEqual(status, 0, error)
@@ -167,8 +167,8 @@ class Parts(Cases):
                              ("EAST", 80))
         base.close()
 
-    def test_only_pairs_with_a_vessel_that_is_asked_for_are_audited(self) -> None:
-        """WEST is given by her name, EAST by her number; of the one who lies still only pairs with WEST stay."""
+    def test_only_pairs_with_a_requested_vessel_are_audited(self) -> None:
+        """WEST is given by her name, EAST by her number; of the stopped vessel only pairs with WEST stay."""
         for vessel, mmsi in (("west", passing.WEST), (str(passing.EAST), passing.EAST)):
             with self.subTest(vessel):
                 said = self.make("--vessel", vessel, "-o", "of" + vessel)[1]
@@ -179,8 +179,8 @@ class Parts(Cases):
                 self.assertTrue(all(str(mmsi) in pair for pair in pairs), pairs)
 
     def test_only_vessels_that_were_in_an_area_are_audited(self) -> None:
-        """EAST goes along the equator from 0 to 0.05 degrees east, WEST 0.00167 degrees further north, and the third
-        lies as far to the south."""
+        """EAST moves along the equator from 0 to 0.05 degrees east, WEST 0.00167 degrees further north, and the third
+        is as far to the south."""
         ring = [[-1, -0.0001], [1, -0.0001], [1, 1], [-1, 1]]
         self.write("north.geojson", json.dumps({"type": "Polygon", "coordinates": [ring]}))
         for area in ("-0.0001,-1,1,1", "north.geojson"):
@@ -191,10 +191,10 @@ class Parts(Cases):
                     seen = {int(row.split(",")[1]) for row in source if row.startswith("point")}
                 self.assertEqual(seen, {passing.EAST, passing.WEST})
         for area, told in (("10,10,20,20", "no vessel of the log was in it"), ("5,0,1,9", "south below north"),
-                           ("passing.log", "not JSON"), ("none", "cannot be read|no such")):
+                           ("passing.log", "not JSON"), ("none", "cannot read|no such")):
             self.assertRegex(self.make("--area=" + area, status=1)[2], told)
 
-    def test_what_cannot_be_asked_is_named(self) -> None:
+    def test_requests_that_cannot_be_met_are_named(self) -> None:
         for words, status, told in (
             (["--from", "23:00", "--to", "22:59:00"], 1, "no vessel has a position|no time lies between"),
             (["--from", "noon"], 1, "`noon` is no time"),
@@ -223,7 +223,7 @@ class Times(Cases):
             self.assertRegex(self.make(status=1)[2], "no sentence and no row was read. passing.log: no lines, "
                                                      "compressed by a capture")
 
-    def test_dates_in_the_future_are_a_doubt(self) -> None:
+    def test_dates_in_the_future_are_doubtful(self) -> None:
         """4000000000 s are 2 October 2096, 07:06:40 UTC."""
         later = re.sub(r"\\c:(\d+)\*..\\", lambda found: block(int(found[1]) % 10**9 + 4 * 10**9 - 7 * 10**8).decode(),
                        passing.log())
@@ -252,7 +252,7 @@ class Maps(Cases):
                 if f["properties"]["kind"] == "end"}
         self.assertEqual(ends["EAST", "first"], [0, 0])
 
-    def test_the_database_has_metres_miles_utc_and_who_lies_still(self) -> None:
+    def test_the_database_has_metres_miles_utc_and_vessels_at_rest(self) -> None:
         self.make()
         with sqlite3.connect(self.path("made/case.db")) as base:
             row = base.execute("select round(least, 1), nautical_miles, nearest, at_rest from meeting where subject = "
@@ -279,7 +279,7 @@ class Pictures(Cases):
         self.assertIn("22:20:00 to 22:23:00 UTC", text)
         self.assertNotIn(str(passing.STILL), text)
 
-    def test_what_cannot_be_drawn_is_named(self) -> None:
+    def test_pictures_that_cannot_be_drawn_are_named(self) -> None:
         self.make()
         for words, told in ((["--pair", "EAST",
                               "NORTH"], "`NORTH` is no vessel"), (["--from", "noon"], "`noon` is no time"), ([
@@ -304,7 +304,7 @@ class Pages(Cases):
         self.assertEqual((broken["first"], broken["last"]), passing.UNSAFE)
         self.assertIn("passing at a safe distance", held["rules"][broken["rule"]]["words"])
 
-    def test_a_name_is_kept_as_it_was_told(self) -> None:
+    def test_a_name_is_written_as_it_was_sent(self) -> None:
         self.make()
         with sqlite3.connect(self.path("made/case.db")) as base:
             self.assertEqual(
@@ -312,7 +312,7 @@ class Pages(Cases):
                 (passing.HOSTILE,))
         base.close()
 
-    def test_words_of_a_title_are_no_markup(self) -> None:
+    def test_a_title_cannot_contain_markup(self) -> None:
         self.make("--title", "</script><script>document.title='taken'</script>")
         self.assertNotIn("<script>document.title", self.held("case.html"))
 
@@ -328,7 +328,7 @@ class Pages(Cases):
         self.assertEqual(page.leaflet(self.folder), ("", ""))
 
     @unittest.skipUnless(browser.installed(), "chromium is not installed")
-    def test_in_a_browser_rows_answer_a_click_with_no_error_and_no_request(self) -> None:
+    def test_in_a_browser_clicks_on_rows_work_without_error_or_request(self) -> None:
         self.write(
             "coast.geojson",
             json.dumps({"type": "Polygon", "coordinates": [[[0.01, 0.01], [0.02, 0.01], [0.02, 0.02], [0.01, 0.01]]]}))

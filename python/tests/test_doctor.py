@@ -1,5 +1,5 @@
-"""The doctor names each wrong use, and is silent on the shipped examples. Where the program ends with status 0 all the
-same, that is said here."""
+"""The doctor names each wrong use, and is silent on the shipped examples. The tests also show where the program ends
+with status 0 in spite of the wrong use."""
 import gzip
 import os
 import re
@@ -16,7 +16,7 @@ from colregs.model.scenario_checks import Finding
 TOML, LOG = text_of(example("crossing.toml")), text_of(example("crossing.log"))
 GIVING, GIVING_LOG = text_of(example("giving_way.toml")), text_of(example("giving_way.log"))
 BEFORE, MIDDLE = 28950000, -74100000
-# the finding, what is done to the scenario of the crossings, and whether the program refuses it
+# the finding, the change of the crossings' scenario, and whether the program refuses it
 SCENARIOS = [
     ("misspelt key", "max_speed = 400", "max_speed = 400\nmaxbytes = 1000000", False),
     ("misspelt key", "[rules]", "[[formulas]]\nname = \"x\"\ntext = \"true\"\n[rules]", False),
@@ -85,7 +85,7 @@ class WrongUses(InFolder):
                 self.assertIn(name, found)
                 self.assertEqual("refused run" in found, is_refused)
 
-    def test_a_log_that_cannot_be_read_as_it_is_is_named(self) -> None:
+    def test_a_log_that_needs_a_conversion_is_named(self) -> None:
         table = "MMSI,BaseDateTime,LAT,LON,SOG,COG,Heading\n200000011,2023-11-14T22:13:21,48.25,-123.5,14,90,90\n"
         logs: tuple[tuple[str, str | bytes],
                     ...] = (("compressed log", gzip.compress(LOG.encode())), ("log in UTF-16", LOG.encode("utf-16")),
@@ -112,13 +112,13 @@ class WrongUses(InFolder):
         self.assertEqual(self.names(short, LOG), ["gap shorter than reports are apart"])
 
     def test_a_shared_mmsi_is_named(self) -> None:
-        """Every second report of the second ship goes under the number of the first, ten miles to the north of her."""
+        """Every second report of the second ship has the MMSI of the first, ten miles to the north of her."""
         more = [report(1700000002 + 10 * k, 200000011, BEFORE + 100000, MIDDLE - 40 * k) for k in range(12)]
         told = words_of(self.found(TOML, by_time(LOG.splitlines() + more)))
         self.assertEqual(len(told), 1)
         self.assertRegex(told[0], "^shared MMSI: 200000011 goes on at two places")
 
-    def test_one_wild_place_is_no_shared_mmsi(self) -> None:
+    def test_one_wrong_position_is_not_a_shared_mmsi(self) -> None:
         self.assertEqual(
             self.names(TOML, by_time(LOG.splitlines() + [report(1700000102, 200000011, BEFORE + 300000, MIDDLE)])), [])
 
@@ -143,7 +143,7 @@ class WrongUses(InFolder):
         self.assertEqual(told, ["clock that is off: the log's times are 3600 s (1.00 hours) ahead of the UTC that base "
                                 "stations send in 1 messages"])
 
-    def test_times_that_have_not_come_yet_are_named(self) -> None:
+    def test_times_in_the_future_are_named(self) -> None:
         """The crossings 1024 weeks, 619315200 s, later: on 30 June 2043, until which this test holds."""
         later = re.sub(r"\\c:(1700\d{6})\*..\\", lambda found: sentences.block(int(found[1]) + 619315200).decode(), LOG)
         told = words_of(self.found(TOML.replace("start = 1700000000", "start = 2319315200"), later))
@@ -151,9 +151,9 @@ class WrongUses(InFolder):
         self.assertRegex(told[0], "^times in the future: the log has times up to 2043-06-30 .*1024 weeks of a GPS "
                                   "roll-over it would be 2023-11-14 22:2")
 
-    def test_verdicts_of_vessels_that_lie_still_are_named(self) -> None:
-        """The vessel that is to give way reports 0.3 knots all the time, as one that drifts about her anchor, and
-        another passes near."""
+    def test_verdicts_of_vessels_at_rest_are_named(self) -> None:
+        """The vessel that must give way reports 0.3 knots all the time, like a vessel at anchor, and another passes
+        near."""
         still = [report(1700000001 + 30 * k, 200000041, BEFORE, MIDDLE, way=3, course=0, heading=0) for k in range(26)]
         past = [
             report(1700000002 + 30 * k, 200000042, BEFORE + 300, MIDDLE + 4000 - 260 * k, way=120, course=2700,
@@ -199,7 +199,7 @@ class WrongUses(InFolder):
                 self.assertIn(old, GIVING)
                 self.assertIn(name, self.names(GIVING.replace(old, new), GIVING_LOG, plan))
 
-    def test_a_report_that_says_why_there_is_no_plan_is_written_again(self) -> None:
+    def test_a_report_of_reasons_is_written_unchanged(self) -> None:
         hemmed = GIVING.replace("courses = [0, 150, 300, 450, 600]",
                                 "courses = [0]").replace("speeds = [0, -40]", "speeds = [0]")
         scenario, log = self.write("hemmed.toml", hemmed), example("giving_way.log")
@@ -210,7 +210,7 @@ class WrongUses(InFolder):
         self.assertIn("\nwhy,", report)
         self.assertEqual(self.names(hemmed, GIVING_LOG, report), [])
 
-    def test_the_status_says_whether_something_is_amiss(self) -> None:
+    def test_the_status_shows_whether_there_are_findings(self) -> None:
         wrong = self.write("wrong.toml", TOML.replace("watch = 4000", "watch = 3"))
         status, out, _ = self.tool("colregs-doctor", "--program", PROGRAM, wrong, example("crossing.log"))
         self.assertEqual(status, 1)

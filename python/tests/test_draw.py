@@ -1,4 +1,4 @@
-"""The pictures: well-formed, with the vessels and the numbers of the reports that they are drawn from."""
+"""The pictures: well-formed, with the vessels and the numbers of their reports."""
 import re
 import unittest
 import xml.etree.ElementTree
@@ -7,7 +7,7 @@ from given import InFolder, PROGRAM, example, text_of, with_program
 
 
 def words_of(text: str) -> str:
-    """Returns all words of a picture; raises ParseError if it is no XML."""
+    """Returns all texts of a picture; raises ParseError if it is not XML."""
     return " ".join("".join(element.itertext())
                     for element in xml.etree.ElementTree.fromstring(text).iter()
                     if element.tag.endswith("text"))
@@ -32,7 +32,7 @@ class Pictures(InFolder):
         for name in re.findall(r"(?m)^vessel,\d+,([^,]+),", report):
             self.assertIn(name, words)
 
-    def test_a_plan_that_fails_says_so(self) -> None:
+    def test_a_failed_plan_is_reported(self) -> None:
         text = text_of(example("giving_way.toml"))
         tight = re.sub(r"(?m)^(base\s*=\s*)\d+", r"\g<1>5000", text)
         self.assertNotEqual(tight, text)
@@ -40,14 +40,14 @@ class Pictures(InFolder):
                            PROGRAM, "--plan")
         self.assertRegex(words, r"none of \d+ plans passes")
 
-    def test_an_audit_names_two_vessels_and_the_time_that_are_asked_for(self) -> None:
+    def test_an_audit_selects_the_requested_vessels_and_time(self) -> None:
         words = self.drawn(example("crossing.toml"), "out", "--log", example("crossing.log"), "--program", PROGRAM,
                            "--pair", "LARCH", "MAPLE", "--from", "22:18", "--to", "22:24", "--title", "Two of them")
         self.assertTrue("LARCH" in words and "MAPLE" in words and "Two of them" in words)
         self.assertIn("22:18:00 to 22:24:00 UTC", words)
         self.assertIn("UTC", words_of(text_of(self.path("out_times.svg"))))
 
-    def test_what_does_not_go_together_is_refused(self) -> None:
+    def test_options_that_contradict_each_other_are_refused(self) -> None:
         log = ["--log", example("crossing.log"), "--program", PROGRAM]
         refusals: tuple[tuple[list[str], str], ...] = (
             (["--plan", "p", "--pair", "a", "b", "--points", "x"], "--pair, --from and --to are of an audit"),

@@ -1,5 +1,5 @@
-"""Shares on other engines, each for real: GNU parallel, two nodes of Slurm on this machine, and workers of Dask, of
-which one is killed."""
+"""Shares on other real engines: GNU parallel, two nodes of Slurm on this machine, and workers of Dask; a test kills
+one."""
 import getpass
 import os
 import shutil
@@ -42,7 +42,7 @@ def parent_of(process: int) -> int:
 
 
 def is_alive(process: int) -> bool:
-    """Returns whether a process is there and no zombie."""
+    """Returns whether a process exists and is not a zombie."""
     try:
         return "State:\tZ" not in text_of(f"/proc/{process}/status")
     except OSError:
@@ -64,7 +64,7 @@ class Engines(test_shares.Shares):
                    for name in os.listdir(folder)) if os.path.isdir(folder) else 0
 
     def slow_program(self) -> None:
-        """Takes a program whose first audit waits."""
+        """Makes a program whose first audit waits."""
         self.used = self.write("slow", SLOW % {"folder": self.folder, "program": PROGRAM})
         os.chmod(self.used, 0o755)
 
@@ -168,7 +168,7 @@ class Slurm(Engines):
                               timeout=300).stdout.strip()
 
     def submit(self) -> None:
-        """Writes the script, and hands it to Slurm."""
+        """Writes the script, and submits it to Slurm."""
         os.environ["SLURM_CONF"] = self.path("slurm.conf")
         self.addCleanup(lambda: os.environ.pop("SLURM_CONF", None))
         script = self.write("script", self.many("slurm", "jobs", "--memory", "300")[1])
@@ -282,7 +282,7 @@ class Dask(Engines):
 class Ends(Engines):
     def interrupted(self, number: int) -> tuple[int, int, str]:
         """Starts a run whose first audit waits, and ends the tool by a signal; returns its status, the audit's process,
-        and what it said."""
+        and its output."""
         self.slow_program()
         self.plan("--ticks-each", "1000", "--group", "4")
         # the tests may run in the background of a shell, which lets its commands ignore SIGINT
@@ -328,7 +328,7 @@ class Ends(Engines):
                                                                                                      "--kept", "file")):
             error = self.many(*words, status=1)[2]
             self.assertIn("file", error)
-            self.assertIn("cannot be written", error)
+            self.assertIn("cannot write", error)
             self.assertNotIn("standard output", error)
 
 
@@ -353,7 +353,7 @@ class Scripts(Engines):
         self.assertNotIn("--array", text)
         self.assertIn("0 of 5 jobs have no result: each gets 128 MB and 10 minutes", error)
 
-    def test_limits_are_by_what_was_needed(self) -> None:
+    def test_limits_follow_the_measured_needs(self) -> None:
         cases: list[tuple[list[Any], Limits]] = [([], Limits(512, 240, 9)),
                                                  ([Need(30, 40000), Need(600, 39000)], Limits(192, 50, 9))]
         for needs_, limits in cases:

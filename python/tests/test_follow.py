@@ -1,4 +1,4 @@
-"""A stream that is followed: each row once, over turned windows, a midnight, cuts, kills and a limit of pairs."""
+"""Following a stream: each row once, across windows, midnight, interruptions, kills and a limit of pairs."""
 import json
 import os
 import re
@@ -65,7 +65,7 @@ class Streams(InFolder):
         return done[1], done[2]
 
     def again(self, after: int) -> list[str]:
-        """Returns the lines again, `after` seconds later."""
+        """Returns the lines moved by `after` seconds."""
         return [line + "\n" for line in crowd.moved([line.rstrip("\n") for line in self.lines], after)]
 
     def rows(self, text: str) -> list[str]:
@@ -151,13 +151,13 @@ class Once(Streams):
             time.sleep(0.05)
         self.fail("it did not come in 30 s")
 
-    def test_from_a_command_into_a_command(self) -> None:
+    def test_a_command_feeds_another_command(self) -> None:
         self.write("log", "".join(self.lines))
         self.follow("--command", "cat log", "--to", "cat > out", "--whole")
         self.assertEqual(self.rows(text_of(self.path("out"))), self.whole())
 
     @unittest.skipUnless(has_watch(), "the program has no mode watch")
-    def test_alarms_of_watch_are_there_once(self) -> None:
+    def test_alarms_of_watch_occur_once(self) -> None:
         out, _ = self.follow("--modes", "watch", "--whole", source="".join(self.lines))
         self.assertEqual(self.rows(out), self.whole("watch"))
         self.assertGreater(len(self.rows(out)), 50)
@@ -173,12 +173,12 @@ exec %s "$@"
 
 
 class Killed(Streams):
-    def test_a_run_that_is_killed_while_it_writes_a_row_begins_again(self) -> None:
+    def test_a_run_killed_while_it_writes_a_row_starts_again(self) -> None:
         program = self.write("wrapped", KILLED % (PROGRAM, PROGRAM))
         os.chmod(program, 0o755)
         out, error = self.follow("--whole", "--program", program, source="".join(self.lines))
         self.assertTrue(os.path.isdir(self.path("once")))
-        self.assertIn("was killed by signal 9, and begins again from the day files", error)
+        self.assertRegex(error, "signal 9 killed a run of .*; it starts again from the day files")
         self.assertEqual(sorted(self.rows(out)), sorted(self.whole()))
 
 
@@ -216,7 +216,7 @@ class Meetings(InFolder):
         self.assertTrue(all(test_joins.YACHT in (line["subject"], line["other"]) for line in marked))
 
     def abreast(self) -> list[tuple[float, bytes]]:
-        """Two vessels that meet head on, then turn to go abreast, too near to be clear and without a risk."""
+        """Two vessels that meet head-on and then turn to move abreast, too near to be clear but without risk."""
         return [
             *test_joins.way(test_joins.EAST, 9, 0, 0, 3, to=5400),
             *test_joins.way(test_joins.NORTH, 9, 180, 500, 4, x=100, y=2615, to=500),
@@ -253,7 +253,7 @@ class Meetings(InFolder):
         shared = [*test_joins.way(test_joins.YACHT, 0, 0, 0, 22, x=30000, to=2900), *test_joins.two(at=2300, to=5400)]
         rows, _, whole = self.followed(shared, test_joins.SCENARIO.replace("ticks = 2160", "ticks = 540"), "--overlap",
                                        "2000")
-        self.assertIn(f"differ about {test_joins.YACHT} and {test_joins.CARGO}, as if two vessels had one MMSI",
+        self.assertIn(f"differ about {test_joins.YACHT} and {test_joins.CARGO}; two vessels may share an MMSI",
                       self.error)
         self.assertLessEqual(set(rows), set(whole))
 
@@ -271,8 +271,7 @@ class Meetings(InFolder):
 
 class Healths(Streams):
     def of_stations(self, ahead: int) -> str:
-        """The harbour's lines as three stations hear them, a third of the vessels each; the clock of the last is
-        ahead."""
+        """The harbour's lines from three stations, each with a third of the vessels; the clock of the last is ahead."""
         made = []
         for line in self.lines:
             if not line.startswith("\\"):
@@ -294,10 +293,10 @@ class Healths(Streams):
     def test_a_station_whose_clock_is_ahead_is_named(self) -> None:
         out, error = self.follow("--whole", source=self.of_stations(1200))
         self.assertIn("the clock of the station C is", error)
-        self.assertIn("are `late`: a station whose clock is ahead", error)
+        self.assertIn("are `late`: a station's clock is ahead", error)
         self.assertGreater(self.health()["stations"]["C"]["lead"], 1000)
 
-    def test_by_the_clock_of_most_stations_its_vessels_meet_as_they_did(self) -> None:
+    def test_the_median_clock_preserves_the_meetings(self) -> None:
         wanted = self.met(self.follow("--whole", source=self.of_stations(0), days="good")[0])
         self.assertGreater(len(wanted), 8)
         out, error = self.follow("--whole", "--clock", "median", source=self.of_stations(1200))
@@ -317,7 +316,7 @@ class Healths(Streams):
                                  days=f"days{ahead}")
             self.assertEqual(sorted(self.rows(out)), sorted(self.whole()), ahead)
 
-    def test_lines_without_a_stamp_are_of_no_station(self) -> None:
+    def test_lines_without_a_stamp_belong_to_no_station(self) -> None:
         said: list[str] = []
         health = Health(self.folder, 30, said.append)
         for line in (b"!AIVDM,2,2,1,A,x,0*00", sentences.block(1700000000, b"s:A") + b"!x",
@@ -326,14 +325,14 @@ class Healths(Streams):
         health.write(1700000005, 0)
         self.assertEqual((said, sorted(health.stations), health.lines), ([], ["A", "B"], 3))
 
-    def test_a_minute_without_a_line_is_told_once(self) -> None:
+    def test_a_minute_without_a_line_is_reported_once(self) -> None:
         said: list[str] = []
         health = Health(self.folder, 30, said.append)
         health.heard -= 61
         health.look(None, 0)
         health.look(None, 0)
         health.came()
-        self.assertEqual(said, ["no line came for 60 s", "lines come again"])
+        self.assertEqual(said, ["no line arrived for 60 s", "lines arrive again"])
 
 
 class Limits(Streams):
@@ -351,14 +350,14 @@ class Limits(Streams):
             for row in crowd.stretches(self.within("colregs-many", "join", "jobs", "--program", PROGRAM)[1])
         ]
         out, error = self.follow("--whole", "--group", "30", "--ticks-each", "480", source=log)
-        self.assertIn("more than 4096 pairs in the window from", error)
+        self.assertIn("has more than 4096 pairs: split by subjects", error)
         self.assertGreater(len(wanted), 200)
         self.assertEqual(sorted(self.rows(out)), sorted(wanted))
 
     def test_a_window_with_too_many_vessels_is_audited_by_areas(self) -> None:
         self.write("s.toml", crowd.SCENARIO.replace("watch = 5000", "watch = 900").replace("risk = 500", "risk = 100"))
         out, error = self.follow("--whole", "--ticks-each", "1200", source=crowd.wide().decode())
-        self.assertIn("more than 4096 vessels in the window from", error)
+        self.assertIn("has more than 4096 vessels; an audit by areas starts", error)
         met = [row for row in map(json.loads, out.splitlines()) if row["kind"] == "meeting"]
         self.assertEqual(sorted((row["subject"], row["other"]) for row in met),
                          [(200000001 + k, 200000001 + (k ^ 1)) for k in range(4200)])
@@ -367,20 +366,20 @@ class Limits(Streams):
         self.write("s.toml", crowd.SCENARIO.replace("watch = 5000", "watch = 900").replace("risk = 500", "risk = 100"))
         out, error = self.follow("--whole", "--modes", "watch", "--ticks-each", "1200", source=crowd.wide().decode(),
                                  status=1)
-        self.assertIn("a run takes 4096 vessels", error)
+        self.assertIn("a run allows 4096 vessels", error)
         told = [json.loads(line) for line in out.splitlines() if '"missing"' in line]
         self.assertEqual({(row["kind"], row["mode"], row["ends"] > row["begins"], "vessels" in row["why"])
                           for row in told}, {("missing", "watch", True, True)})
 
-    def test_a_meeting_longer_than_the_overlap_is_told(self) -> None:
+    def test_a_meeting_longer_than_the_overlap_is_reported(self) -> None:
         error = self.follow("--whole", "--overlap", "400", "--ticks-each", "40", source="".join(self.lines))[1]
         self.assertIn("longer than the overlap", error)
 
-    def test_wrong_words_are_refused(self) -> None:
+    def test_wrong_arguments_are_refused(self) -> None:
         for words, told in (
             (["--overlap", "0"], "the overlap is 32 ticks or more"),
             (["--ticks-each", "20000"], "at most 20000"),
-            (["--log", "none"], "none is not there"),
+            (["--log", "none"], "none does not exist"),
             (["--log", "s.toml", "--command", "x"], "not both"),
             (["--out", "a", "--to", "b"], "not to both"),
         ):
@@ -394,7 +393,7 @@ class Limits(Streams):
 
 
 class Parts(InFolder):
-    def test_a_time_far_ahead_is_no_clock_until_more_tell_it(self) -> None:
+    def test_a_time_far_ahead_does_not_count_until_more_lines_have_it(self) -> None:
         clock = Clock()
         leapt = 1000 + LEAP
         for at, told in ((1000, 1000), (990, 1000), (leapt, leapt), (10**9, leapt), (2000, leapt)):
@@ -411,8 +410,8 @@ class Parts(InFolder):
             self.assertEqual(clock.take(b"\\s:%s,c:%d*00\\" % (name.encode(), at)), told, name)
 
     def heard(self, clock: MedianClock, name: str, at: int) -> list[tuple[int | None, int | None]]:
-        """Returns the stamps of the lines that a clock releases at a line of a station: as they came, and as they are
-        written."""
+        """Returns the stamps of the lines that a clock releases at a line of a station: as they arrived, and as they
+        are written."""
         line = sentences.block(at, b"s:" + name.encode()) + b"!x"
         clock.take(line)
         return [(stamp(came), stamp(written)) for came, written in clock.released(line)]
@@ -439,7 +438,7 @@ class Parts(InFolder):
                 clock.released(sentences.block(at))
         self.assertEqual(clock.last(), ([(sentences.block(101), sentences.block(101))], 3))
 
-    def test_windows_are_compared_where_the_own_steps_of_the_earlier_one_end(self) -> None:
+    def test_windows_are_compared_at_the_end_of_the_earlier_ones_own_steps(self) -> None:
         # windows of 200 ticks, 100 apart: step 180 of the first, its last own one, is step 80 of the second
         said: list[str] = []
         borders = Borders(180, 120, 100, 1000, {"own": sight_of("seen")}, said.append)
@@ -451,17 +450,17 @@ class Parts(InFolder):
         for row, marks in (("meeting,1,2,head_on,50,95,5", ()),             # begins alike
                            ("meeting,5,6,passing,20,96,5", ("begins_before",)),
                            ("verdict,1,2,own,broken,93,97", ("doubt",)),    # as `seen` is of all times
-                           ("verdict,7,8,r8d,broken,94,98", ("doubt",)),    # the meeting before is not there
+                           ("verdict,7,8,r8d,broken,94,98", ("doubt",)),    # the earlier meeting is missing
                            ("verdict,9,10,r8d,broken,79,99", ("begins_before",)),
                            ("verdict,9,10,r8d,broken,81,99", ())):
             self.assertEqual(borders.take(1000, row), marks, row)
         self.assertEqual(borders.end(1000), [("meeting,3,4,passing,150,190,5", ())])
-        self.assertEqual([line.split(" differ about ")[1].split(",")[0] for line in said], ["7 and 8"])
+        self.assertEqual([line.split(" differ about ")[1].split(";")[0] for line in said], ["7 and 8"])
         again = Borders(180, 120, 100, 1000, {}, said.append)
         again.load(told)
         self.assertEqual(len(again.end(1000)), 3)
 
-    def test_a_line_that_was_cut_off_is_not_gone_on_with(self) -> None:
+    def test_an_incomplete_line_is_not_continued(self) -> None:
         files = DayFiles(self.folder)
         files.write(b"one\n", 0)
         files.write(b"tw", 86399)

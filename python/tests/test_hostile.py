@@ -10,7 +10,7 @@ from given import HANGS, TOOLS, InFolder, example, text_of, with_program
 from colregs.io import files
 
 SCENARIO, LOG = example("crossing.toml"), example("crossing.log")
-CLOSED = "standard output cannot be written: bad file descriptor"
+CLOSED = "cannot write to standard output: bad file descriptor"
 
 
 class Hostile(InFolder):
@@ -49,7 +49,7 @@ class Streams(Hostile):
         for name, words in (("tagged", [LOG]), ("geojson", [SCENARIO, "--log", LOG]), ("case", ["--help"])):
             status, _, error = self.shell(">/dev/full", f"colregs-{name}", *words)
             self.assertEqual((status, error.splitlines()[-1]),
-                             (1, f"{name}: standard output cannot be written: no space left on device"))
+                             (1, f"{name}: cannot write to standard output: no space left on device"))
 
 
 @with_program

@@ -1,4 +1,4 @@
-"""Further forms of logs, each with times, places and speeds by hand: captures of a network, Danish raw data, tables,
+"""More forms of logs, each with times, places and speeds computed by hand: network captures, Danish raw data, tables,
 JSON, GPX, and receivers' clocks."""
 import datetime
 import gzip
@@ -29,7 +29,7 @@ def udp(payload: bytes, ipv6: bool = False) -> bytes:
 
 
 def pcap(order: str, magic: int, *packets: bytes, link: int = 1) -> bytes:
-    """Returns a pcap of a link type, as its specification gives it: an hour of packets, one a second."""
+    """Returns a pcap of a link type by its specification: an hour of packets, one per second."""
     head = struct.pack(order + "IHHiIII", magic, 2, 4, 0, 0, 65535, link)
     return head + b"".join(
         struct.pack(order + "4I", AT + k, 5, len(data), len(data)) + data for k, data in enumerate(packets))
@@ -76,7 +76,7 @@ class Captures(Logs):
             _, out = self.made(log)
             self.assertEqual(out, TAGGED + TAGGED.replace(block(AT).decode(), block(AT + 1).decode()))
 
-    def test_what_is_no_udp_or_is_cut_off_gives_what_is_whole(self) -> None:
+    def test_packets_without_udp_or_incomplete_ones_do_not_hide_the_others(self) -> None:
         _, out = self.made(pcap("<", 0xA1B2C3D4, udp(S), b"short", udp(S))[:-20])
         self.assertEqual(out, TAGGED)
         for size in range(4, 80, 7):
@@ -102,13 +102,13 @@ class Captures(Logs):
         packet[14 + 7] = 1                      # the fragment's offset in 8 bytes (RFC 791)
         self.assertEqual(self.made(pcap("<", 0xA1B2C3D4, bytes(packet), udp(S)))[1].count("\n"), 1)
 
-    def test_a_packed_capture_is_one_too(self) -> None:
+    def test_a_compressed_capture_is_read(self) -> None:
         found, out = self.made(gzip.compress(pcap("<", 0xA1B2C3D4, udp(S))))
         self.assertEqual((out, found.files[0].packed), (TAGGED, "gzip, as a capture"))
 
 
 class Cut(Logs):
-    def test_a_cut_gzip_is_read_as_far_as_it_goes_and_that_is_said(self) -> None:
+    def test_an_incomplete_gzip_is_read_to_its_end_and_reported(self) -> None:
         lines = "".join(f"{block(AT + k).decode()}{S.decode()}\n" for k in range(3000))
         found, out = self.made(gzip.compress(lines.encode())[:-2000], "log.gz")
         self.assertTrue(lines.startswith(out[:-1]))
@@ -128,13 +128,13 @@ class Danish(Logs):
 
 
 class TimesOfDay(Logs):
-    def test_times_without_a_date_take_the_one_that_is_given_and_go_on_after_midnight(self) -> None:
+    def test_times_without_a_date_use_the_given_one_and_continue_after_midnight(self) -> None:
         times = Times(date=datetime.date(2023, 11, 14))
         self.assertEqual([(times.read(text) or (0,))[0] - AT
                           for text in (b"22:13:21 ", b"23:59:59", b"00:00:01", b"23:59:58", b"00:00:02")],
                          [0, 6398, 6400, 6397, 6401])
 
-    def test_a_date_that_cannot_be_read_is_not_hidden_by_the_one_that_is_given(self) -> None:
+    def test_an_unreadable_date_is_reported_even_if_one_is_given(self) -> None:
         with self.assertRaisesRegex(Unsure, "day and month may be exchanged"):
             Times(date=datetime.date(2023, 11, 14)).read(b"14/11/2023 22:13:21")
 
@@ -185,7 +185,7 @@ class Tables(Logs):
         self.assertRegex(" ".join(found.words()), "known as mmsi, latitude, longitude among .*; --columns names "
                                                   "`vessel`, which is not there")
 
-    def test_a_head_that_is_not_known_is_named_with_its_heads(self) -> None:
+    def test_an_unknown_header_is_named_with_its_columns(self) -> None:
         found, _ = self.made("# by hand\nship,when,y,x,v\n200000011,2023-11-14 22:13:21,48.25,-123.58234,14.0\n")
         self.assertRegex(" ".join(found.words()), "a table whose head is not known: no column is known as mmsi, time, "
                                                   "latitude, longitude among ship, when, y, x, v; "
@@ -203,7 +203,7 @@ class Tables(Logs):
 
 class Jsons(Logs):
     def test_aishub_and_aisstream(self) -> None:
-        """As their pages give them."""
+        """In the forms of their documentation."""
         hub = [{"ERROR": False, "USERNAME": "A", "FORMAT": "HUMAN", "RECORDS": 1},
                [{
                    "MMSI": 200000011, "TIME": "2023-11-14 22:13:21 GMT", "LONGITUDE": -123.58234, "LATITUDE": 48.25,

@@ -11,7 +11,7 @@ from given import HANGS, PROGRAM, TOP, InFolder, example, text_of, with_program
 @with_program
 class Installed(InFolder):
     def run_of(self, *words: str) -> subprocess.CompletedProcess[str]:
-        """Runs a command in a folder of its own, with no path to the clone and no network."""
+        """Runs a command in its own folder, without a path to the clone and without a network."""
         environment = {
             "PATH": "/usr/bin:/bin", "COLREGS_PROGRAM": PROGRAM, "HOME": self.folder, "PIP_NO_INDEX": "1",
             "PIP_FIND_LINKS": self.folder

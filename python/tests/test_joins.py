@@ -1,5 +1,4 @@
-"""Joins that could be wrong without a word: each is now that of one run, or is refused, or marks the rows in question
-by name."""
+"""Joins that could be silently wrong: each equals that of one run, or is refused, or marks the rows in question."""
 import csv
 import gzip
 import io
@@ -34,7 +33,7 @@ CROSSING = 3 * 3600 + 1800          # s after the start at which two vessels cro
 
 def way(mmsi: int, knots: int, course: int, at: int, offset: int, x: float = 0.0, y: float = 0.0, to: int = 21600,
         every: int = 30, status: int = 15) -> Iterator[Row]:
-    """Reports of a vessel that is at a place at a time, with the moments at which they come."""
+    """Returns the reports of a vessel that is at a place at a time, with their arrival times."""
     for second in range(offset, to, every):
         far = knots * 1852 / 3600 * (second - at)
         east, north = x + far * math.sin(math.radians(course)), y + far * math.cos(math.radians(course))
@@ -104,7 +103,7 @@ class Windows(Joins):
             if len(joined) > len(whole):
                 self.assertIn(str(YACHT), [doubt["subject"] for doubt in self.doubts()], each)
 
-    def test_a_formula_of_ones_own_that_looks_back_beyond_the_gap(self) -> None:
+    def test_a_users_formula_that_looks_back_beyond_the_gap(self) -> None:
         rows = list(way(CARGO, 0, 0, 0, 7, to=10800))
         for second, line in [
                 *way(YACHT, 5, 90, 3300, 5, y=150, to=4500), *way(YACHT, 5, 270, 5700, 4505, y=150, to=10800)
@@ -179,7 +178,7 @@ class Plans(Joins):
             with unittest.mock.patch("colregs.shares.index.read_span",
                                      side_effect=AssertionError if not more else read_span):
                 self.assertEqual(self.many("plan", *words, *more, "--index", "index")[1], plan)
-            # beside the file, if no folder is named
+            # next to the file, if no folder is named
             self.assertTrue(os.path.exists(self.path(".one.gz.colregs-index")))
         self.log(rows, "two.gz")
         self.assertEqual(self.many("plan", *words, "--index", "index")[1], self.many("plan", *words)[1])
@@ -222,7 +221,7 @@ class Tiles(Joins):
 
 
 class KeptResults(Joins):
-    def test_a_result_that_is_empty_or_cut_off_is_made_again(self) -> None:
+    def test_an_empty_or_incomplete_result_is_computed_again(self) -> None:
         self.log(two())
         joined, _ = self.joined("--ticks-each", "360")
         names = sorted(name for name in os.listdir(self.path("jobs.kept")) if name.endswith(".csv") and len(name) > 60)
@@ -233,7 +232,7 @@ class KeptResults(Joins):
         self.assertIn("3 were cached, 2 ran, 0 failed", self.many("jobs")[2])
         self.assertEqual(crowd.stretches(self.many("join", "jobs")[1]), joined)
 
-    def test_a_result_ends_with_the_sum_of_its_lines(self) -> None:
+    def test_a_result_ends_with_the_checksum_of_its_lines(self) -> None:
         self.log(two())
         self.joined("--ticks-each", "360")
         name = next(name for name in os.listdir(self.path("jobs.kept")) if len(name) > 60)
@@ -318,7 +317,7 @@ class Parts(InFolder):
         assert message is not None
         self.assertEqual((message.time, message.earliest, bits_of(message.parts).number(232, 8)), (70, 40, 36))
 
-    def test_what_a_formula_sees(self) -> None:
+    def test_the_sight_of_a_formula(self) -> None:
         for text, back, ahead, meetings, no_edge in (("engaged -> clear(100)", 0, 0, True,
                                                       True), ("begin -> !O[60,900] begin", 900, 0, True,
                                                               True), ("H[0,600] engaged -> seen", 600, 0, True, False),
@@ -339,7 +338,7 @@ class Parts(InFolder):
             with self.assertRaisesRegex(Fault, "is no formula, at its byte", msg=text):
                 sight_of(text)
 
-    def test_times_that_few_lines_have_are_not_believed(self) -> None:
+    def test_times_of_few_lines_are_not_believed(self) -> None:
         spans = [
             Span("a", "", {10: [500, 36000, 39000], 11: [400, 39600, 40000]}),
             Span("b", "", {99: [2, 356400, 356500], 999: [1, 3596400, 3596400]})
@@ -372,7 +371,7 @@ class Parts(InFolder):
         self.assertEqual(Block(1, True, 5, 6, 6).joined(Block(2, False, 1, 0, 0)), Block(3, True, 5, 6, 6))
         self.assertEqual(Block(1, True, 5, 9, 6).joined(Block(2, True, 4, 8, 7)), Block(3, True, 4, 9, 7))
 
-    def test_a_packed_file_is_begun_at_the_member_before_what_is_needed(self) -> None:
+    def test_a_compressed_file_starts_at_the_member_before_the_needed_bytes(self) -> None:
         lines = [stamped(second, b"!x" * 90) + b"\n" for second in range(0, 30000)]
         name = self.write("log.gz",
                           b"".join(gzip.compress(b"".join(lines[k:k + 5000]), 1) for k in range(0, 30000, 5000)))
@@ -390,7 +389,7 @@ class Parts(InFolder):
         self.assertFalse(Scenario(self.write("s.toml", SCENARIO)).ranks)
 
     def test_each_limit_has_its_number_and_a_next_step(self) -> None:
-        # the words of docs/REPORT.md
+        # the texts of docs/REPORT.md
         for words, number, step in (
             ("limit: log 1073741824", "1 GiB", "split the log"),
             ("limit: vessels 4096", "4096", "--tiles"),

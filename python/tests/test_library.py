@@ -68,7 +68,7 @@ class LibraryAndProgram(unittest.TestCase):
                     self.same(mode, scenario_of("giving_way"), log_of("giving_way"),
                               **{**({"ticks": 20} if mode == "drill" else {}), **options})
 
-    def test_rows_that_say_why_are_checked_alike(self) -> None:
+    def test_rows_of_reasons_are_checked_alike(self) -> None:
         # A domain of 60 km round each target leaves own ship no plan.
         text = scenario_of("giving_way").read_text()
         near = text.replace("range = 8000", "range = 100000").replace("base = 300", "base = 60000")
@@ -78,13 +78,13 @@ class LibraryAndProgram(unittest.TestCase):
         self.assertEqual(self.same("recheck", near, log_of("giving_way"), rows=why.text).status, 0)
         self.assertEqual(self.same("recheck", near, log_of("giving_way"), rows=b"why,0,1,domain,1,1,1\n").status, 10)
 
-    def test_hostile_bytes_end_alike(self) -> None:
+    def test_hostile_bytes_give_the_same_end_as_the_program(self) -> None:
         for scenario in (b"", b"\xff\x00", b"version = 1", b" " * (1 << 21)):
             for log in (b"", b"\n" * 5000, bytes(range(256)) * 40):
                 with self.subTest(scenario=scenario[:12], log=log[:12]):
                     self.assertIn(self.same("audit", scenario, log).status, (3, 7))
 
-    def test_a_report_larger_than_the_first_room_is_whole(self) -> None:
+    def test_a_report_larger_than_the_first_buffer_is_complete(self) -> None:
         report = self.same("points", scenario_of("harbour_of_twenty"), log_of("harbour_of_twenty"))
         self.assertGreater(len(report.text), 1 << 16)
 
@@ -131,7 +131,7 @@ class TypedRows(unittest.TestCase):
 
 @with_program
 class WrongUses(InFolder):
-    def test_a_report_that_is_not_whole_is_a_fault(self) -> None:
+    def test_an_incomplete_report_is_a_fault(self) -> None:
         with self.assertRaisesRegex(Fault, "status 3.*version: missing"):
             by_program("plan", b"", b"")
         self.assertEqual(by_program("plan", b"", b"", whole=False).status, 3)
@@ -148,7 +148,7 @@ class WrongUses(InFolder):
         with self.assertRaisesRegex(Fault, "missing.toml"):
             by_program("plan", Path(self.path("missing.toml")), b"")
 
-    def test_a_library_that_is_named_and_is_none_is_a_fault(self) -> None:
+    def test_a_named_file_that_is_not_a_library_is_a_fault(self) -> None:
         other = ctypes.util.find_library("m")
         for named, words in ((self.write("empty.so", b""), "cannot be loaded"), (other, "is not the library colregs")):
             with self.subTest(named=named), mock.patch.dict(

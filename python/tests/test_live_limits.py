@@ -1,5 +1,5 @@
-"""The limits of the live page's server: connections that ask nothing, too many of them, and a browser that takes
-nothing."""
+"""The limits of the live page's server: connections without a request, too many connections, and a browser that does
+not read."""
 import socket
 import time
 import unittest
@@ -9,7 +9,7 @@ from live_server import PATIENCE, Live
 from test_live_server import WithHarbour, with_server
 from web_socket import WebSocket
 
-CONNECTIONS = 100           # beside those of browsers (SECURITY.md)
+CONNECTIONS = 100           # in addition to those of browsers (SECURITY.md)
 
 
 def is_ended(one: socket.socket) -> bool:
@@ -25,7 +25,7 @@ def is_ended(one: socket.socket) -> bool:
 @with_server
 class Limits(WithHarbour):
     def connect(self, server: Live, words: bytes = b"") -> socket.socket:
-        """Returns a connection that sends some bytes and no whole request."""
+        """Returns a connection that sends some bytes but no complete request."""
         found = socket.create_connection(("127.0.0.1", server.port), PATIENCE)
         self.addCleanup(found.close)
         found.sendall(words)
@@ -61,7 +61,7 @@ class Limits(WithHarbour):
 
         self.until(is_open_again)
 
-    def test_a_browser_that_takes_nothing_is_cut_off(self) -> None:
+    def test_a_browser_that_does_not_read_is_disconnected(self) -> None:
         server = self.live("--log", "log")
         self.grow("log", "".join(self.lines[:700]))
         self.until(lambda: server.json("/healthz")["lines"] == 700)

@@ -1,5 +1,5 @@
-"""The state of a live page: alarms as stretches, preliminary ones, encounters, changes, acknowledgements, and who may
-ask."""
+"""The state of a live page: alarms as stretches, preliminary alarms, encounters, changes, acknowledgements, and
+access."""
 import json
 import os
 import time
@@ -118,14 +118,14 @@ class Items(WithScenario):
         self.alarms.pass_time(START + 301 + self.stretches.wait)
         self.assertEqual(self.only().state, WITHDRAWN)
 
-    def test_what_goes_beyond_the_settled_steps_is_withdrawn_alone(self) -> None:
+    def test_only_the_part_beyond_the_settled_steps_is_withdrawn(self) -> None:
         self.settle(10)
         self.alarms.answer({KEY: [(START + 100, START + 160)]}, START)
         self.assertEqual(self.only().last - START, 160)
         self.alarms.answer({}, START)
         self.assertEqual((self.only().state, self.only().last - START), (SETTLED, 110))
 
-    def test_an_answer_adds_nothing_where_alarms_are_settled(self) -> None:
+    def test_an_answer_adds_nothing_at_settled_alarms(self) -> None:
         self.alarms.answer({KEY: [(START + 100, START + 130)]}, START + 130)
         self.assertEqual(self.alarms.items, {})
 
@@ -145,7 +145,7 @@ class Items(WithScenario):
         self.settle(11)
         self.assertEqual((self.only().state, self.only().first - START, self.only().last - START), (SETTLED, 100, 150))
 
-    def test_an_item_is_not_over_while_alarms_may_be_on_their_way(self) -> None:
+    def test_an_item_is_not_over_while_alarms_may_still_arrive(self) -> None:
         self.settle(10)
         late = START + 120 + self.stretches.wait
         self.alarms.pass_time(late)
@@ -155,7 +155,7 @@ class Items(WithScenario):
         self.alarms.pass_time(late)
         self.assertEqual((self.only().over, self.only().last - START), (True, 110))
 
-    def test_old_items_go(self) -> None:
+    def test_old_items_are_removed(self) -> None:
         self.settle(10)
         self.alarms.pass_time(START + 100)
         self.assertTrue(self.alarms.items)
@@ -165,7 +165,7 @@ class Items(WithScenario):
 
 
 class Acknowledgements(InFolder):
-    def test_they_stand_after_a_restart_also_if_the_alarm_grew(self) -> None:
+    def test_acknowledgements_stay_after_a_restart_even_if_the_alarm_grew(self) -> None:
         notes = Notes(self.folder)
         notes.add(KEY, Note(START, START + 10, True, "seen \u2013 called on 16", 5))
         notes.add((1, 2, "r8d"), Note(START, START + 10, True, "", 6))
@@ -185,7 +185,7 @@ class Acknowledgements(InFolder):
 
 
 class Numbered(unittest.TestCase):
-    def test_what_was_missed_is_sent_or_a_snapshot_is_needed(self) -> None:
+    def test_missed_changes_are_sent_or_a_snapshot_is_needed(self) -> None:
         changes = Changes()
         for k in range(1, MOST_CHANGES + 51):
             changes.add(str(k))
@@ -206,7 +206,7 @@ class Fleets(unittest.TestCase):
             fleet.take_line(block(START) + line + b"\n", START)
         return fleet
 
-    def test_what_vessels_say_of_themselves(self) -> None:
+    def test_the_static_data_of_vessels(self) -> None:
         a, b = 200000001, 200000002
         report = 0, 0, 100, 900, 87, 10
         fleet = self.taken(*sentences(voyage(a, "<IMG SRC=X ONERROR=A", 70, (100, 20, 5, 5)), 3),
@@ -217,7 +217,7 @@ class Fleets(unittest.TestCase):
         self.assertEqual((fleet.kind_words(a), fleet.status_words(a), fleet.name(3)),
                          ("cargo", "engaged in fishing", "3"))
 
-    def test_a_damaged_sentence_says_nothing(self) -> None:
+    def test_a_damaged_sentence_is_ignored(self) -> None:
         line = sentence(class_a(200000001, (0, 0, 100, 900, 87, 10), 7))
         self.assertEqual(self.taken(line[:-2] + b"00").about, {})
 
@@ -291,7 +291,7 @@ class Speeds(unittest.TestCase):
         def stop(self) -> None:
             pass
 
-    def test_a_replayed_log_takes_its_time_and_loses_no_line_and_no_place(self) -> None:
+    def test_a_replayed_log_keeps_its_pace_and_loses_no_line_and_no_position(self) -> None:
         lines = [block(START + at) + b"!%d\n" % k for k, at in enumerate((0, 0, 30, 30, 29, 60))]
         paced, begun = Paced(self.Told([lines[:3], lines[3:]]), 100), time.monotonic()
         found: list[Lines] = list(paced.lines())
@@ -338,8 +338,8 @@ class Doors(InFolder):
 
     def test_weak_tokens_and_open_files_are_refused(self) -> None:
         for word, mode, told in (
-            ("short", 0o600, "a word of 16 or more letters"),
-            ("0123456789abcdef", 0o644, "others can read the token"),
+            ("short", 0o600, "at least 16 letters"),
+            ("0123456789abcdef", 0o644, "other users can read the token"),
             ("0123456789 abcdef", 0o600, "a word of"),
         ):
             with self.assertRaisesRegex(Fault, told):
@@ -378,7 +378,7 @@ class Doors(InFolder):
 
 @with_program
 class Streams(WithScenario):
-    """What `colregs-follow --stretches` writes."""
+    """The output of `colregs-follow --stretches`."""
 
     # a busy machine may let alarms or positions wait for long
     WORDS = ["--days", "days", "--program", PROGRAM, "--ticks-each", "60", "--overlap", "900", "--modes", "watch"]
@@ -391,7 +391,7 @@ class Streams(WithScenario):
         return [json.loads(line) for line in out.splitlines()]
 
     def spans(self, alarms: list[Any]) -> dict[tuple[int, int, str], list[tuple[int, int]]]:
-        """Returns the stretches that rows of alarms make."""
+        """Returns the stretches of rows of alarms."""
         steps: dict[tuple[int, int, str], set[int]] = {}
         for row in alarms:
             fields = row["row"].split(",")
@@ -406,7 +406,7 @@ class Streams(WithScenario):
         return found
 
     def over(self, rows: list[Any]) -> dict[tuple[int, int, str], list[tuple[int, int]]]:
-        """Returns the stretches that lines of stretches say are over."""
+        """Returns the stretches that are over by lines of stretches."""
         found: dict[tuple[int, int, str], list[tuple[int, int]]] = {}
         for row in rows:
             if row["kind"] == "stretch" and row["state"] == "over":
@@ -440,7 +440,7 @@ class Streams(WithScenario):
             sorted(told),
             sorted((row["subject"], row["other"], row["rule"], row["state"], row["begins"]) for row in whole))
 
-    def test_it_needs_watch(self) -> None:
+    def test_stretches_need_watch(self) -> None:
         status, _, error = self.tool("colregs-follow", "s.toml", "--days", "days", "--program", PROGRAM, "--stretches")
         self.assertEqual(status, 1)
         self.assertIn("give --modes watch", error)
@@ -497,7 +497,7 @@ class States(WithScenario):
         self.assertIsNotNone(state.acknowledge(alarm["id"], True, "seen", 7))
         self.assertEqual(state.change()["alarms"][0]["note"], {"acknowledged": True, "note": "seen", "at": 7})
         self.assertIsNone(state.acknowledge("none", True, "", 7))
-        state.answer(Answer(START, START + 110, fault="status 7"))          # it says nothing of the alarm
+        state.answer(Answer(START, START + 110, fault="status 7"))          # it does not mention the alarm
         self.assertNotIn("alarms", state.change())
         state.answer(Answer(START, START + 120))
         self.assertEqual(state.change()["alarms"][0]["state"], WITHDRAWN)

@@ -1,6 +1,6 @@
 """The live page in Chromium: alarms once and in order, through cuts and kills; names as text; keys, sizes and colours.
 
-Delays and frames are stated and not tested, for they depend on the machine."""
+Delays and frames are printed but not tested, because they depend on the machine."""
 import glob
 import json
 import os
@@ -20,7 +20,7 @@ from test_live_server import WithHarbour
 from colregs.io.sentences import block, class_a, name_part, sentence
 
 SETTLED = 240       # s: the delay of a settled alarm in the harbour
-# what the page shows of each alarm, and when it came to be shown as settled, in ms since the Unix epoch
+# the page's text of each alarm, and when it first appeared as settled, in ms since the Unix epoch
 WATCH = """
 window.came = {}; window.order = [];
 const look = () => { for (const li of document.querySelectorAll("#list-alarms li")) { const { id, state } = li.dataset;
@@ -28,13 +28,13 @@ const look = () => { for (const li of document.querySelectorAll("#list-alarms li
 const watched = { childList: true, subtree: true, attributes: true };
 new MutationObserver(look).observe(document.getElementById("list-alarms"), watched); look(); true
 """
-# how often the page draws its map: each time it clears the canvas first
+# the number of map drawings: each one first clears the canvas
 FRAMES = """
 window.times = []; const { clearRect } = CanvasRenderingContext2D.prototype;
 CanvasRenderingContext2D.prototype.clearRect = function (...room) {
   times.push(performance.now()); clearRect.apply(this, room); };
 true"""
-# drawings a second, and the ms of the longest
+# drawings per second, and the ms of the longest
 MEASURED = """(() => { const gaps = times.slice(1).map((now, k) => now - times[k]);
 return [1000 * gaps.length / (times[times.length - 1] - times[0]), Math.max(...gaps)]; })()"""
 VESSELS = '[...document.querySelectorAll("#list-vessels li")].map((li) => li.dataset.id)'
@@ -42,7 +42,7 @@ IDS = '[...document.querySelectorAll("#list-alarms li")].map((li) => [li.dataset
 
 
 class Proxy:
-    """A way to a port that a test can cut and restore."""
+    """A connection to a port that a test can cut and restore."""
 
     def __init__(self, port: int) -> None:
         self.to, self.cut, self.ends = port, False, set()
@@ -73,7 +73,7 @@ class Proxy:
 
     @staticmethod
     def copy(one: socket.socket, two: socket.socket) -> None:
-        """Hands on bytes until one end is closed."""
+        """Passes on bytes until one end is closed."""
         try:
             while piece := one.recv(1 << 16):
                 two.sendall(piece)
@@ -95,7 +95,7 @@ class Proxy:
 
 
 class Rows(threading.Thread):
-    """Notes when each alarm's first row is in the day files."""
+    """Records when each alarm's first row is in the day files."""
 
     def __init__(self, days: str) -> None:
         super().__init__(daemon=True)
@@ -128,7 +128,7 @@ class Pages(WithHarbour):
 
     def setUp(self) -> None:
         super().setUp()
-        self.tab.open("about:blank")            # so that the page of the test before says nothing more
+        self.tab.open("about:blank")            # so that the page of the previous test reports nothing more
         self.tab.errors, self.tab.asked = [], []
 
     def open(self, address: str) -> None:
@@ -152,7 +152,7 @@ class Pages(WithHarbour):
         return self.until(lambda: self.value(script), script)
 
     def check_quiet(self) -> None:
-        """Checks that the page reported no error but lost connections, which it makes again, and asked no other
+        """Checks that the page reported no errors except lost connections, which it restores, and requested no other
         address."""
         lost = "WebSocket connection to", "ERR_CONNECTION"
         self.assertEqual([words for words in self.tab.errors if not any(word in words for word in lost)], [])

@@ -1,4 +1,4 @@
-"""Preliminary alarms of the live page: what the program says of the lines so far, until it settles or is withdrawn."""
+"""Preliminary alarms of the live page: the program's result for the lines so far, until it settles or is withdrawn."""
 import unittest
 from typing import Any
 
@@ -16,8 +16,8 @@ EARLY, LATER, LATEST = 135, 255, 900        # s: the encounter has begun; r14a i
 
 
 def turns() -> list[tuple[int, str]]:
-    """Returns seconds and reports of the two vessels that pass, each every half a minute in turn, so that one is always
-    known longer than the other."""
+    """Returns seconds and reports of the two vessels that pass; each reports every half minute in turn, so one is
+    always known for longer than the other."""
     reports = []
     for second in range(0, LATEST, 15):
         if second % 30:
@@ -103,7 +103,7 @@ class Preliminaries(WithLive):
         wanted = {expected(row) for row in rows if row.startswith("verdict,") and ",broken," in row}
         self.assertGreater(len(wanted), 100)
         try:
-            self.until(lambda: self.spans(server) == wanted)        # the earliest come as settled ones
+            self.until(lambda: self.spans(server) == wanted)        # the earliest arrive as settled ones
         except AssertionError:
             self.assertEqual(self.spans(server), wanted)
         told = server.json("/healthz")

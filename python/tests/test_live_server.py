@@ -1,4 +1,4 @@
-"""The server of the live page, from outside: its socket, lists, limits, and what stands after a kill."""
+"""The server of the live page, from outside: its socket, lists, limits, and its data after a kill."""
 import io
 import json
 import os
@@ -29,7 +29,7 @@ class WithHarbour(WithLive):
         self.lines = text_of(example("harbour_of_twenty.log")).splitlines(keepends=True)
 
     def expected(self, shift: int = 0) -> Spans:
-        """Returns the stretches of alarms that one run of `watch` makes of the whole log."""
+        """Returns the stretches of alarms of one run of `watch` over the whole log."""
         from colregs.run.program import Run
         self.write("whole",
                    "".join(line + "\n" for line in crowd.moved((line.rstrip("\n") for line in self.lines), shift)))
@@ -137,7 +137,7 @@ class Sockets(WithHarbour):
 @with_program
 @with_server
 class Kills(WithHarbour):
-    def test_after_a_kill_acknowledgements_stand_and_rows_are_there_once(self) -> None:
+    def test_after_a_kill_acknowledgements_stay_and_rows_occur_once(self) -> None:
         server = self.live("--log", "log")
         self.grow("log", "".join(self.lines[:1500]))
         alarms = self.until(
@@ -179,7 +179,7 @@ class Kills(WithHarbour):
         self.assertEqual({(alarm["subject"], alarm["other"], alarm["rule"]) for alarm in past["alarms"]},
                          {key for key, spans in wanted.items() if any(first <= 1700006520 for first, _ in spans)})
 
-    def test_a_flood_of_garbage_stops_nothing(self) -> None:
+    def test_a_flood_of_garbage_does_not_stop_the_page(self) -> None:
         server = self.live("--log", "log", "--whole")
         server.stop()
         garbage = "".join(f"!AIVDM,1,1,,A,{k:x}garbage<script>,0*00\n\\c:x*00\\$%&\n{chr(7)}\n"
@@ -229,7 +229,7 @@ class Answers(WithHarbour):
         self.assertEqual((past["clock"], len(past["vessels"]), len(past["tracks"])), (crowd.START + 400, 20, 20))
         self.assertTrue(all(values[1] <= crowd.START + 400 for values in past["vessels"]))
         self.until(lambda: server.ask("/healthz")[0] == 503)
-        self.assertIn("no line came for", server.json("/healthz")["why"])
+        self.assertIn("no line arrived for", server.json("/healthz")["why"])
         self.grow("log", "".join(self.lines[1200:1201]))
         self.until(lambda: server.ask("/healthz")[0] == 200)
 
@@ -245,7 +245,7 @@ class Answers(WithHarbour):
             "case.db", "case.geojson", "case.html", "case.json", "case.log", "points.csv", "report.csv", "scenario.toml"
         })
 
-    def test_what_is_refused(self) -> None:
+    def test_refusals(self) -> None:
         server = self.live("--log", "log")
         self.grow("log", "".join(self.lines[:700]))
         name = self.until(lambda: server.json("/api/alarms")["alarms"])[0]["id"]
@@ -283,7 +283,7 @@ class Answers(WithHarbour):
         self.check_rate(server)
 
     def check_rate(self, server: Live) -> None:
-        """Sends more requests at once than are let through."""
+        """Sends more requests at once than the limit."""
         with socket.create_connection(("127.0.0.1", server.port), 60) as asked:
             asked.sendall(f"GET /settings HTTP/1.1\r\nHost: 127.0.0.1:{server.port}\r\n\r\n".encode() * 3000)
             told = b""
@@ -292,7 +292,7 @@ class Answers(WithHarbour):
                 self.assertTrue(piece, "all were let through")
                 told = told[-10:] + piece
 
-    def test_a_token_is_asked_of_browsers_and_programs(self) -> None:
+    def test_browsers_and_programs_need_a_token(self) -> None:
         os.chmod(self.write("token", "0123456789abcdef\n"), 0o600)
         server = self.live("--log", "log", "--token-file", "token")
         self.assertEqual((server.ask("/")[0], server.ask("/")[2]["Location"]), (303, "/login"))
@@ -331,19 +331,19 @@ class Answers(WithHarbour):
         self.assertIn(b'"ok": true', told)
         self.assertEqual(server.stop(), 0)
 
-    def test_wrong_words_end_it(self) -> None:
+    def test_wrong_arguments_end_the_server(self) -> None:
         for words, told in (
             (["--listen", "0.0.0.0:0"], "give --token-file"),
-            (["--log", "none"], "none is not there"),
+            (["--log", "none"], "none does not exist"),
             (["--speed", "2"], "give --log FILE"),
-            (["--chart", "s.toml"], "not a map"),
+            (["--chart", "s.toml"], "not a GeoJSON map"),
             (["--log", "log", "--overlap", "0"], "the overlap is"),
         ):
             status, _, error = self.tool("colregs-live", "s.toml", "--days", "days", "--program", PROGRAM, *words)
             self.assertEqual((status, error.count("\n")), (1, 1), error)
             self.assertIn(told, error)
 
-    def test_a_scenario_that_the_program_refuses_is_said(self) -> None:
+    def test_a_scenario_that_the_program_refuses_is_reported(self) -> None:
         self.write("s.toml", crowd.harbour().replace("risk = 300", "risk = 0"))
         server = self.live("--log", "log")
         self.grow("log", "".join(self.lines[:100]))

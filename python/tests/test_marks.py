@@ -1,4 +1,4 @@
-"""Marks on the meetings of an hour in a strait (strait.py), whose ways say what each pair does, and ship types and
+"""Marks on the meetings of an hour in a strait (strait.py), whose paths show what each pair does; and ship types and
 statuses in words."""
 import sqlite3
 import unittest
@@ -51,7 +51,7 @@ class Strait(strait.InStrait):
         self.assertEqual(through, [("", 0, 0, 0, 0, 0)])
 
     def test_the_vanished_pair_is_named_with_how_near_both_would_have_come(self) -> None:
-        """By the ways that they were given: 120 m at 22:43:20, after a last report at 22:39:20."""
+        """By their paths: 120 m at 22:43:20, after a last report at 22:39:20."""
         self.assertRegex(self.said, r"(CEDAR and CHERRY|CHERRY and CEDAR): contact lost 22:39:20; .*; if both went on: "
                                     r"120 m at 22:43:(19|20|21) ")
         least, at = self.of(strait.CEDAR, strait.CHERRY, "if_both_went_on, if_both_went_on_at")[0]

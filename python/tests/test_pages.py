@@ -1,4 +1,4 @@
-"""The commands' pages: each manual page and completion has what `--help` says, by the commands as a user calls them."""
+"""The commands' pages: each manual page and completion has the options of `--help`, by the commands that users call."""
 import os
 import re
 import subprocess
@@ -62,7 +62,7 @@ class Pages(InFolder):
         for old, new in OLD.items():
             self.assertEqual(text_of(os.path.join(TOOLS, old)), text_of(os.path.join(TOOLS, new)))
 
-    def test_a_wrong_command_line_is_told_in_one_line_with_status_2(self) -> None:
+    def test_a_wrong_command_line_is_reported_in_one_line_with_status_2(self) -> None:
         for name in COMMANDS:
             status, out, error = self.within(name, "--nothing")
             self.assertEqual((status, out, error.count("\n")), (2, "", 1), error)

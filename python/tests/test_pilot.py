@@ -1,4 +1,4 @@
-"""The pilot: what it says at each moment, its choices, areas, routes and sentences, and the loop over a stream."""
+"""The pilot: its decisions, choices, areas, routes and sentences, and the loop over a stream."""
 import functools
 import json
 import os
@@ -32,14 +32,14 @@ NOW = 1700000000
 
 
 def plan(*courses: float, made: int = NOW, leg: int = 180, speed: float = 14.0) -> Plan:
-    """A plan with a leg of so many seconds for each course."""
+    """Returns a plan with one leg of `seconds` per course."""
     return Plan(7, made,
                 tuple(Leg(course, speed, made + k * leg, made + (k + 1) * leg) for k, course in enumerate(courses)))
 
 
 class States(unittest.TestCase):
     def after(self, *answers: Answer, every: int = 60) -> list[Decision]:
-        """The decisions after answers that come one after the other."""
+        """Returns the decisions after successive answers."""
         memory, found = Memory(), list[Decision]()
         for k, answer in enumerate(answers):
             memory, decision = decide(memory, answer, NOW + k * every, TRACK)
@@ -68,7 +68,7 @@ class States(unittest.TestCase):
         self.assertEqual([each.state for each in found], [State.MANOEUVRING, State.HELD, State.MANOEUVRING])
         self.assertEqual(found[2].course, 50.0)
 
-    def test_without_any_plan_the_track_is_steered_and_nothing_is_promised(self) -> None:
+    def test_without_any_plan_she_steers_the_track_without_a_promise(self) -> None:
         first, = self.after(Answer(cause=Cause.EVERY_PLAN_FAILS))
         self.assertEqual((first.state, first.course, first.speed, first.promised), (State.NONE, 350.0, 14.0, False))
 
@@ -103,16 +103,16 @@ class Choices(unittest.TestCase):
 
 
 class Escapes(unittest.TestCase):
-    """Without a plan that keeps the rules: the last one is held while it leaves a way out, and then own ship takes the
-    way out."""
+    """Without a plan that keeps the rules, own ship holds the last plan while it leaves an escape, and then follows the
+    escape."""
 
-    def test_a_plan_is_held_if_to_go_on_leaves_a_way_out(self) -> None:
+    def test_a_plan_is_held_if_continuing_leaves_an_escape(self) -> None:
         memory, _ = decide(Memory(), Answer(plan(20.0)), NOW, TRACK)
         _, held = decide(memory, Answer(cause=Cause.EVERY_PLAN_FAILS, escape=plan(20.0, 350.0, made=NOW + 60)),
                          NOW + 60, TRACK)
         self.assertEqual((held.state, held.course, held.promised, held.escaping), (State.HELD, 20.0, True, False))
 
-    def test_the_way_out_is_taken_if_to_go_on_leaves_none(self) -> None:
+    def test_the_escape_is_followed_if_continuing_leaves_none(self) -> None:
         memory, _ = decide(Memory(), Answer(plan(20.0)), NOW, TRACK)
         memory, away = decide(memory, Answer(cause=Cause.EVERY_PLAN_FAILS, escape=plan(80.0, made=NOW + 60)), NOW + 60,
                               TRACK)
@@ -135,14 +135,14 @@ class Areas(InFolder):
         ):
             self.assertEqual(self.SQUARE.is_entered(path), is_entered, path)
 
-    def test_what_is_no_area_is_refused_with_the_name_of_the_file(self) -> None:
+    def test_a_file_without_areas_is_refused_by_name(self) -> None:
         scenario = PilotScenario.read(example("giving_way.toml"))
         for text, words in (("[", "not JSON"), ('{"type": "Point", "coordinates": [1, 2]}',
-                                                "`Point` is no area"), ('{"type": "Polygon"}', "a list is missing"),
+                                                "`Point` is not an area"), ('{"type": "Polygon"}', "a list is missing"),
                             ('{"type": "Polygon", "coordinates": [[[1, 2], [3, 4]]]}',
                              "fewer than three"), ("[" * 100000, "not JSON"),
                             ('{"type": "Polygon", "coordinates": [[[1, 2], [3, 400], [5, 6]]]}',
-                             "no longitude and latitude")):
+                             "not a longitude and a latitude")):
             path = self.write("areas.geojson", text)
             with self.assertRaisesRegex(Exception, "areas.geojson.*" + words):
                 read_areas(path, scenario)
@@ -163,12 +163,12 @@ class Routes(InFolder):
         self.assertEqual(route.track_at((9000.0, 5556.0)), Track(90.0, 8.0))
         self.assertTrue(route.is_done)
 
-    def test_beside_the_line_she_steers_for_it(self) -> None:
+    def test_off_the_line_she_steers_for_it(self) -> None:
         route = self.route("latitude,longitude\n0,0\n0.5,0\n")
         self.assertEqual(route.track_at((1000.0, 1000.0)).course, 315.0)
         self.assertEqual(route.track_at((-1000.0, 1000.0)).course, 45.0)
 
-    def test_a_route_that_is_none_is_refused_with_its_line(self) -> None:
+    def test_a_wrong_route_is_refused_with_its_line(self) -> None:
         for text, words in (
             ("latitude,longitude\n0,0\n91,0\n", "line 3"),
             ("a,b\n1,2\n", "line 2"),
@@ -189,14 +189,14 @@ class Sentences(unittest.TestCase):
                          "$INHTC,V,,,H,T,,,,60.0,60.0,,,T*%02X" % total(b"INHTC,V,,,H,T,,,,60.0,60.0,,,T"))
         self.assertEqual(len(command_sentence(decision, 60.0).split(",")), 14)
 
-    def test_words_cannot_break_a_sentence(self) -> None:
+    def test_a_text_cannot_break_a_sentence(self) -> None:
         text = text_sentence(Decision(State.NONE, 60.0, 14.0, words="a,b*c$d\r\n\u00e9 <x>" + "z" * 200))
         self.assertRegex(text, r"^\$INTXT,01,01,04,none: a b c d    <x>z+\*[0-9A-F]{2}$")
         self.assertLessEqual(len(text), 82)
 
 
 class Records(unittest.TestCase):
-    def test_static_data_stays_when_its_line_is_too_old(self) -> None:
+    def test_static_data_stays_after_its_line_is_dropped(self) -> None:
         lines = text_of(example("giving_way.log")).splitlines()
         record = Record(60)
         for k, line in enumerate(lines):
@@ -216,7 +216,8 @@ class Records(unittest.TestCase):
 
 
 class Answers:
-    """A runner by whose clock each run takes some seconds; it has no plan, and a clock's `monotonic` and `time`."""
+    """A runner with a clock by which each run takes some seconds; it has no plan. It also acts as the clock:
+    `monotonic` and `time`."""
 
     def __init__(self, seconds: float) -> None:
         self.seconds, self.now = seconds, 1000.0
@@ -238,7 +239,7 @@ class Answers:
 
 class Lateness(unittest.TestCase):
     def test_an_answer_that_takes_more_than_half_of_the_time_between_two_lines_is_late(self) -> None:
-        # points, audit, plan, recheck and the escape: five runs for a moment
+        # points, audit, plan, recheck and the escape: five runs per moment
         for seconds, is_late in ((2.9, False), (3.1, True)):
             runner = Answers(seconds)
             scenario = PilotScenario.read(example("giving_way.toml"))
@@ -283,22 +284,22 @@ class Live(InFolder):
         self.assertIn("r16", {each["rule"] for each in found["reasons"]["by_target"]})
         self.assertIn(found["state"], ("held", "none"))
 
-    def test_a_scenario_that_the_program_refuses_is_a_state(self) -> None:
+    def test_a_scenario_that_the_program_refuses_gives_a_state(self) -> None:
         self.write("s.toml", text_of(self.scenario).replace("risk = 500", "risk = 0"))
         found = self.pilot("--every", "60", source="\n".join(self.lines))[-1]
         self.assertEqual((found["state"], found["cause"]), ("none", "scenario"))
         self.assertIn("scenario: detect.risk: range", found["words"])
 
-    def test_rows_that_no_program_of_ours_writes_are_a_state(self) -> None:
-        for rows, status, words in (("point,x,y\nmeeting,a\nvessel,,,,,,\nplan,x", 0, "no plan"),
-                                    ("why,99,9,9,9,9,9\nnone,1,,,,,", 1, "no reasons"), ("", 1, "no row `none`")):
+    def test_rows_that_the_program_does_not_write_give_a_state(self) -> None:
+        for rows, status, words in (("point,x,y\nmeeting,a\nvessel,,,,,,\nplan,x", 0, "rows as a plan"),
+                                    ("why,99,9,9,9,9,9\nnone,1,,,,,", 1, "rows as reasons"), ("", 1, "no row `none`")):
             program = self.write("program", f"#!/bin/sh\ncat <<'END'\n{rows}\nEND\nexit {status}\n")
             os.chmod(program, 0o755)
             found = self.pilot("--every", "60", "--program", program, source="\n".join(self.lines))[-1]
             self.assertEqual((found["state"], found["cause"]), ("none", "program"))
             self.assertIn(words, found["words"])
 
-    def test_an_own_ship_that_is_not_heard_is_not_ready(self) -> None:
+    def test_an_own_ship_without_reports_is_not_ready(self) -> None:
         self.write("s.toml", text_of(self.scenario).replace("mmsi = 200000031 ", "mmsi = 200000030 "))
         found = self.pilot("--every", "60", source="\n".join(self.lines))[-1]
         self.assertEqual((found["state"], found["cause"]), ("own_unready", "own_unready"))
@@ -336,7 +337,7 @@ class Live(InFolder):
         self.write_reef([(3000 * x, 3000 * y) for x, y in square], [(1500 * x, 1500 * y) for x, y in square])
         found = self.pilot("--every", "60", "--no-go", "areas.geojson", source="\n".join(self.lines))[-1]
         self.assertEqual((found["state"], found["cause"], found["promised"]), ("none", "areas", False))
-        self.assertIn("`reef` is entered", found["words"])
+        self.assertIn("such as `reef`", found["words"])
 
     def test_a_plan_that_enters_an_area_is_not_used(self) -> None:
         # the plan of the example turns to 60 degrees; an area about the point 1.5 km ahead on that course bars it
@@ -397,12 +398,12 @@ class Child:
             try:
                 pipe.close()
             except OSError:
-                pass            # what was not written when it was killed
+                pass            # the rest that was not written when it was killed
 
 
 @with_program
 class Going(InFolder):
-    """The pilot as a process over a stream that is alive."""
+    """The pilot as a process over a live stream."""
 
     def start(self, *words: str, program: str = PROGRAM) -> Child:
         text = text_of(example("giving_way.toml"))
@@ -415,14 +416,14 @@ class Going(InFolder):
         return child
 
     def feed(self, child: Child, seconds: int) -> None:
-        """Own ship's reports, one a second of the clock."""
+        """Yields own ship's reports, one per second of the clock."""
         for k in range(seconds):
             report = class_a(200000031, (29000000 + 25 * k, -74200000, 140, 0, 0, k % 60))
             child.stdin.write(block(int(time.time())) + sentence(report, b"AIVDO") + b"\n")
             child.stdin.flush()
             time.sleep(1)
 
-    def test_a_stalled_input_is_stale_and_the_lines_go_on(self) -> None:
+    def test_a_stalled_input_is_stale_and_the_lines_continue(self) -> None:
         child = self.start("--stale", "2")
         self.feed(child, 4)
         found = child.lines(8)
@@ -435,9 +436,9 @@ class Going(InFolder):
         child.run.send_signal(signal.SIGTERM)
         self.assertEqual(child.run.wait(20), 0)
 
-    def test_a_program_that_is_killed_or_hangs_is_a_state(self) -> None:
+    def test_a_program_that_is_killed_or_hangs_gives_a_state(self) -> None:
         for body, words in (("kill -9 $$", "signal 9"), ("sleep 30", "no answer in"), ("exit 8", "status 8"),
-                            ("echo plan,x", "no plan")):
+                            ("echo plan,x", "rows as a plan")):
             program = self.write("program", "#!/bin/sh\n%s\n" % body)
             os.chmod(program, 0o755)
             child = self.start(program=program)
@@ -472,7 +473,7 @@ class Library(InFolder):
         reasons = process.report("plan", few, log, why=True).text
         self.assertEqual([runner.report("recheck", few, log, rows=reasons).status for runner in runners], [0, 0])
 
-    def test_a_call_that_fails_or_hangs_is_a_status(self) -> None:
+    def test_a_call_that_fails_or_hangs_returns_a_status(self) -> None:
         def hangs(*_: object, **more: object) -> types.SimpleNamespace:
             time.sleep(1)
             return types.SimpleNamespace(status=0, text=b"", fault="")

@@ -43,7 +43,7 @@ class Page(strait.InStrait):
         super().setUp()
         self.said = self.make("made", "--sweep", "safe=100,500")
 
-    def test_a_meeting_is_told_in_a_sentence(self) -> None:
+    def test_a_meeting_is_described_in_a_sentence(self) -> None:
         base = sqlite3.connect(self.path("made/case.db"))
         self.addCleanup(base.close)
         words = base.execute("select in_words from meeting where subject = ? and other = ?",

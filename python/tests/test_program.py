@@ -1,4 +1,4 @@
-"""Which program the tools run: never one in the current folder, which may be a folder of evidence."""
+"""The choice of the program: never one in the current folder, which may be a folder of evidence."""
 import os
 import subprocess
 import sys
@@ -23,20 +23,20 @@ class Found(InFolder):
         return subprocess.run([sys.executable, *(words or ("-P", "-c", ASK))], cwd=self.path("evidence"),
                               env=environment, capture_output=True, text=True, timeout=HANGS)
 
-    def test_one_in_the_current_folder_is_not_run(self) -> None:
+    def test_a_program_in_the_current_folder_is_not_run(self) -> None:
         for path in ("/none", ".", "", ":/none", "./", "../evidence"):
             with self.subTest(path):
                 done = self.asked(path)
                 self.assertEqual((done.returncode, done.stdout), (1, ""))
-                self.assertIn("there is no program", done.stderr)
+                self.assertIn("cannot find the program", done.stderr)
 
-    def test_one_on_an_absolute_folder_of_path_is_run(self) -> None:
+    def test_a_program_in_an_absolute_folder_of_path_is_run(self) -> None:
         os.mkdir(self.path("bin"))
         good = self.write("bin/colregs", "#!/bin/sh\n")
         os.chmod(good, 0o755)
         self.assertEqual(self.asked(f".:{self.path('bin')}").stdout.strip(), good)
 
-    def test_one_beside_the_tool_comes_before_path(self) -> None:
+    def test_a_program_next_to_the_tool_comes_before_path(self) -> None:
         os.mkdir(self.path("bin"))
         for name in ("bin/colregs", "bin/tool"):
             self.write(name, ASK)
@@ -45,6 +45,6 @@ class Found(InFolder):
             self.asked(self.path("evidence"), self.path("bin/tool")).stdout.strip(),
             os.path.realpath(self.path("bin/colregs")))
 
-    def test_a_named_one_that_is_none_is_refused(self) -> None:
-        with self.assertRaisesRegex(Fault, "cannot be run as a program"):
+    def test_a_named_file_that_is_not_a_program_is_refused(self) -> None:
+        with self.assertRaisesRegex(Fault, "is not an executable file"):
             program.found(self.path("none"))

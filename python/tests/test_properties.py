@@ -1,5 +1,5 @@
-"""Whatever the bytes: each reader ends with a value or a named fault, each line is counted, and what `tagged` writes is
-read again as it is.
+"""For any bytes, each reader ends with a value or a named fault, each line is counted, and the output of `tagged` is
+read unchanged.
 
 The bytes are Hypothesis's (Debian package python3-hypothesis). Its seed is fixed, so that each run tries the same.
 """
@@ -86,7 +86,7 @@ def changed_row(row: str, at: int, text: str) -> str:
 
 class Properties(unittest.TestCase):
     def gathered(self, log: bytes, **more: Any) -> tuple[Gathered, bytes]:
-        """Returns what came of a log, and the log that was made."""
+        """Returns the result of reading a log, and the log that was made."""
         with tempfile.TemporaryDirectory() as folder:
             path, out = os.path.join(folder, "log"), os.path.join(folder, "out")
             with open(path, "wb") as made:
@@ -96,7 +96,7 @@ class Properties(unittest.TestCase):
                 return found, source.read()
 
     def only(self, faults: type[Exception] | tuple[type[Exception], ...], call: Callable[[], object]) -> None:
-        """Checks that a call ends with a value, or with one of these faults that has words."""
+        """Checks that a call ends with a value, or with one of these faults and a message."""
         try:
             call()
         except faults as fault:
@@ -119,7 +119,7 @@ class Properties(unittest.TestCase):
 
     @FEW
     @given(LINES)
-    def test_what_tagged_writes_is_read_again_as_it_is(self, lines: list[bytes]) -> None:
+    def test_the_output_of_tagged_is_read_unchanged(self, lines: list[bytes]) -> None:
         try:
             found, made = self.gathered(b"\n".join(lines))
         except Fault:
@@ -167,7 +167,7 @@ class Properties(unittest.TestCase):
 
     @FEW
     @given(JSON, some.dictionaries(some.sampled_from(sorted(json.loads(REPORT))), JSON, max_size=3))
-    def test_any_json_is_read(self, value: Any, other: dict[str, Any]) -> None:
+    def test_any_json_is_searched_for_sentences(self, value: Any, other: dict[str, Any]) -> None:
         reader = jsons.Objects(forms.Times())
         for held in [*jsons.objects(value), json.loads(REPORT) | other]:
             self.assertIsInstance(reader.read(held).form, str)
@@ -175,7 +175,7 @@ class Properties(unittest.TestCase):
     @FEW
     @given(some.binary(max_size=60),
            some.sampled_from([magic for magic, _ in packing.MAGIC] + [b"", b"\xff\xfe", b"\xfe\xff"]))
-    def test_a_file_is_unpacked_or_refused(self, rest: bytes, magic: bytes) -> None:
+    def test_a_file_is_decompressed_or_refused(self, rest: bytes, magic: bytes) -> None:
         self.only(Fault, lambda: self.gathered(magic + rest))
 
     @FEW

@@ -1,4 +1,4 @@
-"""The one reader of reports knows its window, and refuses a report that does not fit; and it knows who lies still."""
+"""The reader of reports knows its window, refuses a report that does not fit, and finds vessels at rest."""
 import unittest
 
 import passing
@@ -44,7 +44,7 @@ class Windows(InFolder):
         points, audit = self.texts()
         self.refused("does not fit the points", points, audit.replace(",1852000\n", ",1862000\n"))
 
-    def test_a_report_that_is_cut_off_is_refused(self) -> None:
+    def test_an_incomplete_report_is_refused(self) -> None:
         points, audit = self.texts()
         for end in range(0, len(audit) - 1, 97):
             with self.assertRaises(Fault):
@@ -70,7 +70,7 @@ def track(*reports: tuple[int, float, int]) -> Track:
 
 
 class AtRest(unittest.TestCase):
-    def test_half_a_knot_is_no_rest(self) -> None:
+    def test_half_a_knot_is_not_at_rest(self) -> None:
         self.assertTrue(rest.at_rest(track((0, 0, 4), (60, 0, 4)), 0, 60))
         self.assertFalse(rest.at_rest(track((0, 0, 4), (60, 0, 5)), 0, 60))
 
@@ -80,12 +80,12 @@ class AtRest(unittest.TestCase):
         self.assertFalse(rest.at_rest(moving_before, 50, 250))
 
     def test_without_a_speed_the_way_counts(self) -> None:
-        # half a knot is 15.43 m a minute
+        # half a knot is 15.43 m per minute
         self.assertTrue(rest.at_rest(track((0, 0, NONE), (60, 15.4, NONE), (120, 15.4, 0)), 0, 59))
         self.assertFalse(rest.at_rest(track((0, 0, NONE), (60, 15.5, NONE), (120, 15.5, 0)), 0, 59))
 
     @with_program
-    def test_rows_of_one_who_lies_still_are_marked_and_kept(self) -> None:
+    def test_rows_of_a_vessel_at_rest_are_marked_and_stay(self) -> None:
         folder = InFolder()
         folder.setUp()
         self.addCleanup(folder.doCleanups)

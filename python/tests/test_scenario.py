@@ -1,5 +1,5 @@
-"""A suggested scenario: its window, tick and reference by hand reckoning, what it says of its guesses, and that the
-program takes it."""
+"""A suggested scenario: its window, tick and reference computed by hand, its notes on guesses, and that the program
+accepts it."""
 import os
 import tomllib
 import unittest
@@ -54,7 +54,7 @@ class Suggested(InFolder):
             report(1700000000 + 10 * k, 200000001, 600000, 1200000) for k in range(60))
         self.assertEqual(self.values(log)[0]["window"], {"start": 1700000000, "tick": 10, "ticks": 59})
 
-    def test_the_region_with_most_reports_is_taken_and_the_rest_told(self) -> None:
+    def test_the_region_with_most_reports_is_used_and_the_rest_reported(self) -> None:
         log = b"".join(
             report(1700000000 + 10 * k, 200000001 + (k % 4 == 0), 600000 + (9000000 if k % 4 == 0 else 0), 1200000)
             for k in range(80))
@@ -81,28 +81,28 @@ class Suggested(InFolder):
         self.assertEqual(values["detect"]["watch"], 1500)
         self.assertIn("the watch is 1500 m instead of 5000", reasons)
 
-    def test_where_no_watch_does_the_window_is_cut(self) -> None:
-        """65 ships in one place, 4160 pairs; the last comes in the second half."""
+    def test_the_window_is_cut_if_no_watch_suffices(self) -> None:
+        """65 ships in one place, 4160 pairs; the last one arrives in the second half."""
         log = b"".join(report(1700000000 + 60 * minute, 200000001 + k, 600000, 1200000)
                        for minute in range(21) for k in range(65) if k < 64 or minute > 14)
         values, reasons = self.values(log)
         self.assertEqual((values["window"]["ticks"], values["detect"]["watch"]), (10, 1000))
         self.assertIn("the window is cut to 10 of 20 ticks", reasons)
 
-    def test_a_long_log_begins_the_window_and_is_told(self) -> None:
+    def test_a_long_log_begins_the_window_and_is_reported(self) -> None:
         log = b"".join(report(1700000000 + 10000 * k, 200000001, 600000, 1200000 + 5 * k) for k in range(300))
         values, reasons = self.values(log)
         self.assertEqual((values["window"]["start"], values["window"]["ticks"]), (1700000000, 20000))
         self.assertIn("a window may have 20000", reasons)
 
-    def test_what_has_no_reports_ends_with_words(self) -> None:
+    def test_a_log_without_reports_ends_with_a_message(self) -> None:
         for log in (b"", b"nothing\n", sentences.sentence(sentences.name_part(200000001, "ELM")) + b"\n"):
             with self.assertRaisesRegex(Fault, "no position report"):
                 self.values(log)
         status, out, error = self.tool("scenario", "--program", PROGRAM, "no.log")
-        self.assertEqual((status, out, error), (1, "", "scenario: no.log cannot be read: no such file or directory\n"))
+        self.assertEqual((status, out, error), (1, "", "scenario: cannot read no.log: no such file or directory\n"))
         status, out, error = self.tool("scenario", "--program", "no_program", example("crossing.log"))
-        self.assertEqual((status, out, error), (1, "", "scenario: no_program cannot be run as a program\n"))
+        self.assertEqual((status, out, error), (1, "", "scenario: no_program is not an executable file\n"))
 
     def test_each_example_log_has_one(self) -> None:
         for name in sorted(os.listdir(EXAMPLES)):

@@ -1,4 +1,4 @@
-"""Shares of an audit: planned, run, kept, resumed and joined; the joined rows are byte for byte those of the whole
+"""Shares of an audit: planned, run, cached, resumed and joined; the joined rows are byte for byte those of the whole
 run."""
 import gzip
 import json
@@ -21,14 +21,14 @@ FAULTS = [
     ('{"files": ["log"], "scenario": "s.toml", "start": 0, "ticks": 20001}', "1 to 20000 ticks"),
     ('{"files": ["log"], "scenario": "s.toml", "start": 0, "ticks": 1, "more": 1}', "`more` is missing or wrong"),
     ('{"files": ["log"], "scenario": "s.toml", "start": 0, "ticks": 1, "subjects": ["x"]}', "`subjects` has a value of "
-                                                                                            "another kind"),
+                                                                                            "the wrong type"),
     ('{"files": ["log"], "scenario": "s.toml", "start": 0, "ticks": 1, "heads": [[1]]}', "`heads` has a value of "
-                                                                                         "another kind"),
+                                                                                         "the wrong type"),
     ('{"files": ["log"], "scenario": "s.toml", "start": 0, "ticks": 1, "types": {"x": 36}}', "`types` has a value of "
-                                                                                             "another kind"),
-    ('{"files": ["log"], "scenario": "none.toml", "start": 0, "ticks": 1}', "none.toml cannot be read: no such file"),
-    ('{"files": ["none"], "scenario": "s.toml", "start": 0, "ticks": 1}', "none cannot be read: no such file"),
-    ('{"files": ["cut.gz"], "scenario": "s.toml", "start": 0, "ticks": 1}', "were not read to their end"),
+                                                                                             "the wrong type"),
+    ('{"files": ["log"], "scenario": "none.toml", "start": 0, "ticks": 1}', "cannot read none.toml: no such file"),
+    ('{"files": ["none"], "scenario": "s.toml", "start": 0, "ticks": 1}', "cannot read none: no such file"),
+    ('{"files": ["cut.gz"], "scenario": "s.toml", "start": 0, "ticks": 1}', "cannot read its files to the end"),
     ('{"files": ["log"], "scenario": "wrong.toml", "start": 0, "ticks": 1}', "status 3, scenario: window.ticks: range"),
 ]
 WRAPPER = """#!/bin/sh
@@ -72,12 +72,12 @@ class Joined(Shares):
             self.assertGreater(len(self.plan(*way)), 1)
             self.assertEqual(crowd.stretches(self.joined()), rows, way)
 
-    def test_by_subjects_all_but_the_totals_is_there(self) -> None:
+    def test_by_subjects_everything_except_the_totals_is_joined(self) -> None:
         self.plan("--ticks-each", "1000", "--group", "10")
         self.assertEqual(self.joined().splitlines(),
                          [row for row in self.whole().splitlines() if not row.startswith("total,")])
 
-    def test_subjects_of_the_scenario_are_kept(self) -> None:
+    def test_subjects_of_the_scenario_stay(self) -> None:
         self.write("own.toml", "subjects = [200000108, 200000113,\n  200000119]\n" + crowd.harbour())
         jobs = self.plan("--ticks-each", "1000", "--group", "2", scenario="own.toml")
         self.assertEqual([json.loads(line)["subjects"] for line in jobs], [[200000108], [200000113, 200000119]])
@@ -85,7 +85,7 @@ class Joined(Shares):
         self.assertIn("meeting,200000112,200000113,crossing_gives,17,44,13049700", rows)
         self.assertEqual(crowd.stretches(self.joined()), rows)
 
-    def test_where_the_whole_has_too_many_pairs_groups_of_20_and_of_40_give_the_same(self) -> None:
+    def test_if_the_whole_has_too_many_pairs_groups_of_20_and_of_40_give_the_same(self) -> None:
         self.write("s.toml", crowd.SCENARIO)
         self.write("log.gz", gzip.compress(crowd.log().encode()))
         self.write("log", crowd.log())
@@ -99,7 +99,7 @@ class Joined(Shares):
         self.assertGreater(len(crowd.stretches(found[0])), 200)
         self.assertEqual(found[0], found[1])
 
-    def test_where_there_are_too_many_vessels_tiles_have_the_meeting_of_each_pair_once(self) -> None:
+    def test_if_there_are_too_many_vessels_tiles_have_the_meeting_of_each_pair_once(self) -> None:
         self.write("s.toml", crowd.SCENARIO.replace("watch = 5000", "watch = 900").replace("risk = 500", "risk = 100"))
         self.write("log.gz", gzip.compress(crowd.wide(), 1))
         self.plan("--ticks", "10", "--tiles", "2x1", "--ticks-each", "1000")
@@ -125,13 +125,13 @@ class Covered(Shares):
         jobs = [json.loads(line) for line in text_of(self.path("jobs")).splitlines()]
         self.many("jobs", "--jobs", "4")
         tile = [k for k, job in enumerate(jobs) if job["tile"] == jobs[0]["tile"]]
-        self.refused("leave a part of the plane", *tile)
+        self.refused("do not cover the plane", *tile)
         self.refused("are in no group", *range(1, len(jobs)))
 
     def test_windows_that_overlap_too_little_are_refused(self) -> None:
         self.plan("--ticks-each", "60", "--overlap", "600")
         self.many("jobs", "--jobs", "4")
-        self.assertIn("less than this scenario needs",
+        self.assertIn("too short for this scenario",
                       self.many("plan", "s.toml", "log.gz", "--ticks-each", "60", "--overlap", "300", status=1)[2])
 
     def test_tiles_cover_the_plane(self) -> None:
@@ -141,7 +141,7 @@ class Covered(Shares):
 
 
 class KeptResults(Shares):
-    def test_a_killed_run_goes_on_where_it_stopped(self) -> None:
+    def test_a_killed_run_continues_where_it_stopped(self) -> None:
         self.used = self.write("wrapped", WRAPPER % PROGRAM)
         os.chmod(self.used, os.stat(self.used).st_mode | stat.S_IXUSR)
         self.plan("--ticks-each", "1000", "--group", "4")
@@ -153,7 +153,7 @@ class KeptResults(Shares):
         self.assertEqual(text_of(self.path("calls")).count("run"), 6)
         self.assertEqual(crowd.stretches(self.many("join", "jobs")[1]), crowd.stretches(self.whole()))
 
-    def test_another_scenario_is_another_result_and_another_file_asks_for_another_plan(self) -> None:
+    def test_a_changed_scenario_needs_another_result_and_a_changed_file_another_plan(self) -> None:
         self.plan("--ticks-each", "1000")
         for change, kept in ((None, 0), (None, 1), ("s.toml", 0), ("log.gz", 0)):
             if change:
@@ -164,7 +164,7 @@ class KeptResults(Shares):
                 self.plan("--ticks-each", "1000")
             self.assertIn(f"1 job: {kept} were cached", self.many("jobs")[2])
 
-    def test_what_goes_wrong_is_told(self) -> None:
+    def test_failures_are_reported(self) -> None:
         self.write("wrong.toml", crowd.harbour().replace("ticks = 198 ", "ticks = 0 "))
         self.write("log", "")
         self.write("cut.gz", gzip.compress(os.urandom(1000))[:900])
@@ -176,7 +176,7 @@ class KeptResults(Shares):
 
 
 class Parts(InFolder):
-    def test_whose_a_sentence_is(self) -> None:
+    def test_the_vessel_of_a_sentence(self) -> None:
         senders = Senders()
         lines = [line.encode() for line in passing.log().splitlines()[:6]]
         self.assertEqual([senders.of(line) for line in lines],
@@ -185,7 +185,7 @@ class Parts(InFolder):
             [senders.of(line)
              for line in (b"", b"!AIVDM,1,1", b"$GPRMC,1", b"!AIVDM,1,1,,A,\x80abcdefg,0*00")], [None] * 4)
 
-    def test_a_sieve_keeps_the_times_of_all(self) -> None:
+    def test_a_sieve_preserves_the_times_of_all_lines(self) -> None:
         lines = [line.encode() + b"\n" for line in passing.log().splitlines()]
         left = list(Sieve({passing.WEST}.__contains__, 30).left(lines))
         # the later part of a message has no tag block
@@ -194,7 +194,7 @@ class Parts(InFolder):
         self.assertEqual([line for line in left if b"!" in line and Senders().of(line) == passing.EAST], lines[:1])
         self.assertIn(b"\\c:1700000010*5E\\\n", left)
 
-    def test_subjects_are_put_in_and_nothing_else_is_changed(self) -> None:
+    def test_subjects_are_inserted_and_nothing_else_changes(self) -> None:
         scenario = Scenario(self.write("s.toml", "subjects = [200000001,\n 200000002] # two\n" + passing.SCENARIO))
         self.assertEqual(scenario.with_subjects([200000009]), "subjects = [200000009]\n" + passing.SCENARIO)
         self.assertEqual(scenario.with_subjects(None), scenario.text)
@@ -204,5 +204,5 @@ class Parts(InFolder):
         text = passing.SCENARIO + '[[formula]]\nname = "f"\ntext = "G[0,100] F[20,80] seen"\n'
         self.assertEqual(Scenario(self.write("s.toml", text)).reach, 18)
 
-    def test_the_tool_is_one_that_can_be_run(self) -> None:
+    def test_the_tool_is_executable(self) -> None:
         self.assertTrue(os.access(os.path.join(TOOLS, "colregs-many"), os.X_OK))

@@ -1,5 +1,5 @@
-"""Logs as receivers, gpsd, AIS-catcher, SignalK and OpenCPN write them; packed files, encodings, order, and what cannot
-be read."""
+"""Logs of receivers, gpsd, AIS-catcher, SignalK and OpenCPN; compressed files, encodings, order, and unreadable
+input."""
 import bz2
 import gzip
 import lzma
@@ -53,7 +53,7 @@ class Sources(InFolder):
 
 
 class Receivers(Sources):
-    def test_rmc_and_zda_tell_the_time_of_what_follows(self) -> None:
+    def test_rmc_and_zda_give_the_time_of_what_follows(self) -> None:
         log = [
             rmc("221321.00", "141123"), S,
             sentence("GPZDA,221331.00,14,11,2023,00,00"), T,
@@ -65,7 +65,7 @@ class Receivers(Sources):
         self.assertEqual(found.aside, {"other sentence (GGA)": 1})
         self.assertIn("own ship's places stand in 2 lines", found.notes[0])
 
-    def test_the_date_rolls_over_at_new_year_and_where_it_lags(self) -> None:
+    def test_the_date_rolls_over_at_new_year_and_if_it_lags(self) -> None:
         new_year = [rmc("235959", "311223"), S, rmc("000000", "010124"), T]
         self.assertEqual(self.times("\n".join(new_year)), [1704067199, 1704067200])
         lagging = [rmc("235959", "311223"), S, rmc("000000", "311223"), T, rmc("000001", "010124"), S]
@@ -73,24 +73,24 @@ class Receivers(Sources):
         weeks = [rmc("221321", "141123"), S, rmc("221322", "300304"), T]          # 1024 weeks before
         self.assertEqual(self.times("\n".join(weeks)), [1700000001, 1700000002])
 
-    def test_a_fix_without_validity_tells_no_time(self) -> None:
+    def test_a_fix_without_validity_gives_no_time(self) -> None:
         void = rmc("221331", "060180", "V", ",,,", ",")
         found, made = self.gathered("\n".join([void, S, sentence("GPZDA,221331,06,01,1980,00,00"), T]))
         self.assertEqual((found.sentences, found.untimed), (0, 2))
-        self.assertEqual(made, [S, T])                                           # no time in all the log: as they stand
+        self.assertEqual(made, [S, T])                                           # no time in the whole log: unchanged
         self.assertEqual(found.aside["RMC without a valid fix"], 1)
         _, made = self.gathered("\n".join([rmc("221321", "141123"), S, void, T]))
-        self.assertEqual(made, ["\\c:1700000001*5E\\" + S])                    # nobody knows how long after
+        self.assertEqual(made, ["\\c:1700000001*5E\\" + S])                    # it is unknown how long after
         unset = rmc("000010", "060180")
         self.assertEqual(self.gathered(unset + "\n" + S)[0].aside["RMC of a clock that is not set"], 1)
 
-    def test_in_a_gap_of_the_receiver_no_time_is_made_up(self) -> None:
+    def test_a_gap_of_the_receiver_gets_no_invented_time(self) -> None:
         log = [rmc("221321", "141123"), S, rmc("222321", "141123"), T]
         found, made = self.gathered("\n".join(log))
         self.assertEqual(made, ["\\c:1700000601*58\\" + T])
         self.assertEqual(found.unread["a sentence in a gap between two times"], Unread(1, S))
 
-    def test_base_stations_tell_the_time_where_nothing_else_does(self) -> None:
+    def test_base_stations_give_the_time_if_nothing_else_does(self) -> None:
         """Message 4 of 2023-11-14 22:13:21 and :31; of a receiver's clock beside it the receiver's counts, and a
         repeated one never does."""
         base = [base_station(second) for second in (21, 31)]
@@ -102,17 +102,17 @@ class Receivers(Sources):
         self.assertEqual(self.times("\n".join(["1700000100 " + T, base[0], S])), [1700000100] * 3)
         self.assertEqual(self.gathered(base_station(21, repeat=1) + "\n" + S)[0].first, None)
 
-    def test_what_stands_before_the_first_time_is_told(self) -> None:
+    def test_lines_before_the_first_time_are_reported(self) -> None:
         found, made = self.gathered("\n".join([S, rmc("221331", "141123"), T]))
         self.assertEqual((len(made), found.unread["a sentence before the first time of its log"]), (1, Unread(1, S)))
 
-    def test_a_clock_in_local_time_is_told_by_the_receivers_own(self) -> None:
+    def test_a_clock_in_local_time_is_found_by_the_receivers_own(self) -> None:
         log = ["2023-11-14 23:13:21 " + rmc("221321", "141123"), "2023-11-14 23:13:21 " + S]
         found, _ = self.gathered("\n".join(log))
         self.assertIn("ahead of the receiver's UTC by 1:00 hours; give an offset of +01:00", "".join(found.notes))
 
     @needs("gpsdecode")
-    def test_own_ship_comes_from_rmc_where_her_mmsi_is_given(self) -> None:
+    def test_own_ship_comes_from_rmc_if_her_mmsi_is_given(self) -> None:
         log = [rmc("221321", "141123"), sentence("HEHDT,091.4,T"), rmc("221322", "141123"), rmc("221322.5", "141123")]
         found, made = self.gathered("\n".join(log), mmsi=200000031)
         self.assertEqual((found.own, [line[17:23] for line in made]), (2, ["!AIVDO", "!AIVDO"]))
@@ -125,8 +125,8 @@ class Receivers(Sources):
 
     @with_program
     def test_plan_runs_on_a_log_that_was_only_received(self) -> None:
-        """The log of giving_way without own ship's reports, and a receiver that reports her each ten seconds, as
-        encounters.py has her."""
+        """The log of giving_way without own ship's reports, and a receiver that reports her every ten seconds, with the
+        data of encounters.py."""
         others = [
             line for line in text_of(example("giving_way.log")).splitlines()
             if "12vg27h" not in line and ",52vg27h" not in line
@@ -145,8 +145,8 @@ class Receivers(Sources):
 
 
 def own_place(second: int) -> str:
-    """Returns where OAK is: at 29000000 north, -74200000 east in 1/10000 minute, 1297 m to the south, going north at 14
-    knots."""
+    """Returns the place of OAK: at 29000000 north, -74200000 east in 1/10000 minute, 1297 m to the south, moving north
+    at 14 knots."""
     latitude = round(29000000 + (-1297 + second * 14 * 1852 / 3600) / 1852 * 10000)
     return f"{latitude // 600000:02d}{latitude % 600000 / 10000:07.4f},N,12340.0000,W"
 
@@ -194,7 +194,7 @@ class Servers(Sources):
                 report = self.program("audit", example(name + ".toml"), self.path("out"))
                 self.assertEqual(counted_out(report), counted_out(text_of(example(name + ".csv"))))
 
-    def test_aiscatchers_values_become_a_report_where_it_keeps_no_sentence(self) -> None:
+    def test_aiscatchers_values_become_a_report_if_it_has_no_sentence(self) -> None:
         values = (
             '{"class":"AIS","device":"AIS-catcher","rxtime":"20231114221321","scaled":true,"channel":"B","type":1,"repeat":0,"mmsi":200000011,'
             '"status":0,"turn":-128,"speed":14.0,"accuracy":false,"lon":-123.582343,"lat":48.25,"course":90.0,"heading":90,"second":1}'
@@ -238,7 +238,7 @@ def counted_out(report: str) -> list[str]:
 
 
 class Blocks(Sources):
-    def test_other_fields_of_a_tag_block_stay_and_a_wrong_sum_is_told(self) -> None:
+    def test_other_fields_of_a_tag_block_stay_and_a_wrong_checksum_is_reported(self) -> None:
         found, made = self.gathered(f"\\g:1-2-7,s:r1,c:1700000001*3D\\{S}\n\\c:1700000001*00\\{T}\n")
         self.assertEqual(made, ["\\c:1700000001,g:1-2-7,s:r1*3D\\" + S])
         self.assertEqual(found.unread["a tag block with a wrong checksum"].count, 1)
@@ -248,9 +248,9 @@ class Blocks(Sources):
         self.assertEqual(made[1], "\\c:1700000000*5F\\!AIVDM,2,2,0,A,1@0000000000000,2*55")
         self.assertEqual((found.sentences, found.back, found.unread), (312, 0, {}))
 
-    def test_a_time_holds_for_few_lines_behind_it(self) -> None:
-        """A part has the time of its message whatever comes; other lines have it as long as the next time is near, or
-        few follow it."""
+    def test_a_time_counts_for_few_lines_after_it(self) -> None:
+        """A part always has the time of its message; other lines have it if the next time is near, or if few lines
+        follow it."""
         parts = ["\\c:1700000000*5F\\!AIVDM,2,1,0,A,52vg22h000000000000Dhl000000000000000016;@N::000004i@E53,0*77",
                  "!AIVDM,2,2,0,A,1@0000000000000,2*55"]
         self.assertEqual(self.times("\n".join([*parts, "1700009000 " + T])), [1700000000, 1700000000, 1700009000])
@@ -265,7 +265,7 @@ class Blocks(Sources):
         self.assertEqual((made, found.back > 0), (gather_lines(self, lines), True))
         self.assertIn("sorted by time", " ".join(found.notes))
 
-    def test_a_clock_that_was_not_set_is_told(self) -> None:
+    def test_a_clock_that_was_not_set_is_reported(self) -> None:
         log = "\n".join(f"{1700000000 + 10 * k} {S}" for k in range(2000)) + "\n1000000000 " + T
         self.assertIn("1 sentence has a time more than a day off nearly all others, as 2001-09-09",
                       "".join(self.gathered(log)[0].notes))
@@ -288,8 +288,8 @@ def gather_lines(test: InFolder, lines: Iterable[str]) -> list[str]:
 
 
 class Mutated(Sources):
-    def test_whatever_the_bytes_nothing_breaks_and_no_line_is_lost(self) -> None:
-        """Lines of all forms and tables with bytes put in, taken out and changed, from seeds."""
+    def test_any_bytes_break_nothing_and_lose_no_line(self) -> None:
+        """Lines of all forms and tables with bytes inserted, removed and changed, from seeds."""
         chance = random.Random(1)
         clocks = rmc("221321", "141123"), sentence("HEHDT,091.4,T"), base_station(21)
         plain = [line.encode() for line in (*test_times.FORMS, *test_times.UNSURE, *clocks)]
@@ -304,7 +304,7 @@ class Mutated(Sources):
 
 
 def mutated(chance: random.Random, line: bytes) -> bytes:
-    """Returns the line with up to three bytes put in, changed or taken out; some mean much here."""
+    """Returns the line with up to three bytes inserted, changed or removed; some bytes are special here."""
     for _ in range(chance.randrange(4)):
         at, byte = chance.randrange(len(line) + 1), bytes(
             [chance.choice([chance.randrange(256), *b",.;:\"\\!$*{}[]0"])])
@@ -316,7 +316,7 @@ class Files(Sources):
     TEXT = (f"{S},1700000001\r\n{T},1700000011\r\n").encode()
     MADE = ["\\c:1700000001*5E\\" + S, "\\c:1700000011*5F\\" + T]
 
-    def test_packed_files_are_unpacked(self) -> None:
+    def test_compressed_files_are_decompressed(self) -> None:
         made = {
             "gzip": gzip.compress(self.TEXT), "xz": lzma.compress(self.TEXT), "bzip2": bz2.compress(self.TEXT),
             "plain": self.TEXT
@@ -332,7 +332,7 @@ class Files(Sources):
                 found, lines = self.gathered(packed)
                 self.assertEqual((lines, found.files[0].packed, found.files[0].lines), (self.MADE, name, 2))
 
-    def test_a_file_that_is_damaged_or_cut_off_is_refused(self) -> None:
+    def test_a_damaged_or_incomplete_file_is_refused(self) -> None:
         cut_off = gzip.compress(self.TEXT)[:14], lzma.compress(self.TEXT)[:-10]
         for packed in (*cut_off, b"PK\x03\x04nonsense", b"\x1f\x8bnonsense", b"\x28\xb5\x2f\xfd.."):
             with self.subTest(packed[:4]), self.assertRaisesRegex(Fault, "damaged or cut off|install the command zstd"):
@@ -352,9 +352,9 @@ class Files(Sources):
         self.assertEqual((text_of(self.path("out")).splitlines(), [part.name for part in found.files]),
                          (self.MADE, ["b", "a"]))
 
-    def test_what_is_no_log_ends_with_words_and_a_status(self) -> None:
+    def test_a_file_that_is_not_a_log_ends_with_a_message_and_a_status(self) -> None:
         empty = [self.write("empty", "")]
-        for words, told in ((["nothing"], "cannot be read: no such file"), (["."], "is a folder"),
+        for words, told in ((["nothing"], "cannot read nothing: no such file"), (["."], "is a folder"),
                             (empty, "no sentence and no row")):
             status, out, error = self.tool("tagged", *words)
             self.assertEqual((status, out), (1, ""))
@@ -375,16 +375,16 @@ class Files(Sources):
         with self.assertRaisesRegex(Fault, "is a device"):
             gather(["/dev/zero"], self.path("out"))
 
-    def test_sentences_are_stamped_as_they_come(self) -> None:
+    def test_sentences_are_stamped_when_they_arrive(self) -> None:
         before = int(time.time())
         status, out, _ = self.tool("tagged", "--now", source=(f"{S}\r\nnothing\n\\c:1700000001*5E\\{T}\n").encode())
         lines = out.splitlines()
         self.assertEqual((status, lines[0][17:], lines[1:]), (0, S, ["nothing", "\\c:1700000001*5E\\" + T]))
         self.assertTrue(before <= int(lines[0][3:13]) <= time.time())
 
-    def test_a_log_is_not_written_over(self) -> None:
+    def test_an_input_log_is_not_overwritten(self) -> None:
         log = self.write("log", self.TEXT)
-        with self.assertRaisesRegex(Fault, "cannot be written too"):
+        with self.assertRaisesRegex(Fault, "is also an input"):
             gather([log], log)
 
 

@@ -1,4 +1,4 @@
-"""Tables of positions by their heads, read back by gpsdecode and by libais (python3-ais); the examples through
+"""Tables of positions by their headers, read back by gpsdecode and by libais (python3-ais); the examples through
 MarineCadastre's columns and back."""
 import json
 import math
@@ -36,7 +36,7 @@ HUB = ("MMSI,TSTAMP,LATITUDE,LONGITUDE,COG,SOG,HEADING,ROT,NAVSTAT,IMO,NAME,CALL
 HUB_RAW = ("MMSI,TIME,LONGITUDE,LATITUDE,COG,SOG,HEADING,ROT,NAVSTAT,IMO,NAME,CALLSIGN,TYPE,A,B,C,D,DRAUGHT,DEST,ETA\n"
            "200000011,1700000001,-74149404,28950000,905,140,91,128,0,9123456,ELM,WDA1234,70,0,120,0,20,50,KIEL,11-20 "
            "10:00\n")
-# what the fields above say, in the words of gpsdecode: degrees, knots, metres; 360 and 511 are none
+# the fields above by the names of gpsdecode: degrees, knots, metres; 360 and 511 mean none
 ELM = {
     "type": 1, "mmsi": 200000011, "status": 0, "speed": 14.0, "lon": -123.58234, "lat": 48.25, "course": 90.5,
     "heading": 91, "second": 21
@@ -117,7 +117,7 @@ class Tables(InFolder):
                 "dim_d": 20
             })
 
-    def test_what_a_row_lacks_is_told_and_its_neighbours_stay(self) -> None:
+    def test_missing_fields_of_a_row_are_reported_and_the_others_stay(self) -> None:
         bad = (
             "200000011,2023-11-14T22:13:31,x,-123.58234,14.0,90.5,91,ELM,,,70,0,120,20,5.0,70,A\n200000011,2023-11-14T22:13:31,48.25\n"
             "none,2023-11-14T22:13:31,48.25,-123.5,14.0,90.5,91,ELM,,,70,0,120,20,5.0,70,A\n200000011,14/11/2023 "
@@ -130,7 +130,7 @@ class Tables(InFolder):
                  ("a row with a field that is no number", 1),
                  ("a row with another number of fields than its head", 1)]))
 
-    def test_columns_that_are_not_known_are_named(self) -> None:
+    def test_unknown_columns_are_named(self) -> None:
         table = "mmsi;timestamp;lat;lon;velocity;way\n200000011;2023-11-14 22:13:21;48.25;-123.5;140;900\n"
         found, sentences = self.made(table)
         self.assertEqual((found.notes, len(sentences)), (["columns that are not read: velocity, way"], 1))
@@ -158,8 +158,7 @@ def said(report: str) -> list[list[str]]:
 
 
 def cadastre(name: str) -> str:
-    """Returns the rows that MarineCadastre would have of an example: degrees with five decimals, knots and degrees with
-    one."""
+    """Returns an example in the form of MarineCadastre: degrees with five decimals, knots and degrees with one."""
     with open(example(name + ".toml"), "rb") as source:
         values = tomllib.load(source)
     window, reference, rows = values["window"], values["reference"], []

@@ -1,4 +1,4 @@
-"""Each usual form of a time in a line, by the moment 2023-11-14 22:13:21 UTC, which `date -u -d @1700000001` writes."""
+"""Each usual form of a time in a line, for 2023-11-14 22:13:21 UTC, which `date -u -d @1700000001` prints."""
 import unittest
 
 from given import InFolder
@@ -58,7 +58,7 @@ UNSURE = {
 
 
 class Times(InFolder):
-    def test_each_form_tells_its_moment(self) -> None:
+    def test_each_form_gives_its_time(self) -> None:
         for form in FORMS:
             with self.subTest(form):
                 log = self.write("log", form + "\n")
@@ -76,14 +76,14 @@ class Times(InFolder):
         self.assertEqual((gathered.sentences, sum(gathered.forms.values()), gathered.first, gathered.last),
                          (len(FORMS), len(FORMS), MOMENT, MOMENT))
 
-    def test_what_can_be_read_in_two_ways_is_told_and_not_guessed(self) -> None:
+    def test_ambiguous_values_are_reported_and_not_guessed(self) -> None:
         for form, name in UNSURE.items():
             with self.subTest(form):
                 gathered = gather([self.write("log", form + "\n")], self.path("out"))
                 self.assertEqual((gathered.sentences, list(gathered.unread)), (0, [name]))
                 self.assertEqual(gathered.unread[name], Unread(1, form))
 
-    def test_an_offset_is_of_times_without_a_zone_alone(self) -> None:
+    def test_an_offset_applies_only_to_times_without_a_zone(self) -> None:
         log = self.write("log", f"2023-11-14 23:13:21 {S}\n2023-11-14T22:13:21Z {S}\n1700000001 {S}\n")
         gathered = gather([log], self.path("out"), offset=3600)
         self.assertEqual((gathered.first, gathered.last), (MOMENT, MOMENT))

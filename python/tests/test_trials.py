@@ -1,4 +1,4 @@
-"""Sea trials: the same run by its seed, what is counted, and the page."""
+"""Sea trials: reproducible runs, the counts, and the page."""
 import json
 import math
 import os
@@ -24,13 +24,13 @@ OWN = Track(0.0, 14.0)
 
 
 def result(seed: int = 1, least: float = 1000.0, **more: Any) -> Result:
-    """A run in which nothing happened, but for what is given."""
+    """Returns a run in which nothing happened, except the given values."""
     other = Begin(200000100, "OTHER 1", 100, (0.0, 9000.0), Track(180.0, 14.0), "head_on")
     return replace(Result(seed, "head_on", [other], least=least, room=least - 400, replans=10, length=100), **more)
 
 
 class Drawing(unittest.TestCase):
-    def test_all_others_of_a_kind_would_come_near_and_begin_beyond_the_watch_or_the_horizon(self) -> None:
+    def test_all_others_of_a_kind_come_near_and_start_beyond_the_watch_or_the_horizon(self) -> None:
         scenario = PilotScenario.read(SCENARIO)
         for kind in KINDS:
             for seed in range(30):
@@ -59,7 +59,7 @@ class Drawing(unittest.TestCase):
 
 @with_program
 class Reports(InFolder):
-    def test_what_a_ship_sends_is_what_the_program_reads(self) -> None:
+    def test_the_program_reads_what_a_ship_sends(self) -> None:
         scenario = PilotScenario.read(SCENARIO)
         ship = Ship(200000100, "A <b>", 100, (1500.0, -800.0), Track(33.0, 12.3), Rates(1.0, 0.1))
         sender = Transmitter(ship, Plane(scenario.latitude, scenario.longitude), CLASS_B, random.Random(1))
@@ -107,7 +107,7 @@ class Same(InFolder):
             self.assertEqual(logs[0], logs[1])
             self.assertEqual(len(logs[0]), 2)
 
-    def test_the_pilot_over_the_log_of_a_run_says_what_it_said_in_the_run(self) -> None:
+    def test_the_pilot_over_the_log_of_a_run_repeats_its_decisions(self) -> None:
         # the pilot reads own ship's reports by `points`, and cuts its windows at each line; a run knows what was sent,
         # and cuts none so short
         for words in (["--targets", "2"], ["--targets", "2", "--noise"]):
@@ -121,7 +121,7 @@ class Same(InFolder):
             self.assertEqual(said[:len(run["states"])], [state[1:] for state in run["states"]])
             self.assertGreater(len(said), 10)
 
-    def test_one_seed_alone_is_the_run_that_it_is_among_others(self) -> None:
+    def test_a_seed_alone_gives_the_same_run_as_among_others(self) -> None:
         self.trials("--json", "two.json")
         self.trials("--json", "one.json", "--runs", "1", "--seed", "8")
         two, one = (json.loads(text_of(self.path(name)))["runs"] for name in ("two.json", "one.json"))
@@ -134,7 +134,7 @@ class Same(InFolder):
         self.assertEqual(done[0], 1)
         self.assertIn("signal 9", done[2])
 
-    def test_wrong_words_are_refused(self) -> None:
+    def test_wrong_arguments_are_refused(self) -> None:
         for words in (
             ["--targets", "0"],
             ["--targets", "4..1"],
@@ -147,8 +147,8 @@ class Same(InFolder):
                 self.trials(*words)
         self.assertEqual(self.within("colregs-trials", "none.toml", "--program", PROGRAM)[0], 1)
 
-    def test_two_that_keep_on_and_never_plan_collide(self) -> None:
-        # a pilot that may only keep on is no pilot: the measure has to see that it fails
+    def test_two_vessels_without_plans_collide(self) -> None:
+        # a pilot that may only keep course is not a pilot: the measure must show that it fails
         values = PilotScenario.read(SCENARIO).with_own(courses=[0], speeds=[0])
         other = Begin(200000100, "OTHER 1", 100, (0.0, 14 * KNOT * 2 * 700), Track(180.0, 14.0), "head_on")
         runner = ProcessRunner(PROGRAM)
@@ -161,7 +161,7 @@ class Same(InFolder):
 
 
 class BlindRunner:
-    """A runner whose escapes never come: a question without rules is answered that every plan fails."""
+    """A runner without escapes: it answers a question without rules that every plan fails."""
 
     def __init__(self, runner: Runner) -> None:
         self.runner = runner
@@ -178,7 +178,7 @@ class Summaries(unittest.TestCase):
         self.assertEqual(quartiles([5, 1, 4, 2, 3]), (1, 2, 3, 4, 5))
         self.assertEqual(quartiles([7]), (7, 7, 7, 7, 7))
 
-    def test_shares_are_of_replans_and_of_runs(self) -> None:
+    def test_shares_count_replans_and_runs(self) -> None:
         group = groups_of([
             result(1, none=1),
             result(2, entered=[200000100]),
@@ -193,7 +193,7 @@ class Summaries(unittest.TestCase):
 
 @unittest.skipUnless(browser.installed(), "chromium is not installed")
 class Pages(InFolder):
-    def test_a_name_with_markup_stays_a_name_and_nothing_is_asked_of_a_network(self) -> None:
+    def test_a_name_with_markup_stays_a_name_and_the_page_uses_no_network(self) -> None:
         name = "</script><img src=x onerror=document.title='taken'>"
         made = result(9, fixes=[Fix(0, [(0, 0), (0, 9000)]), Fix(10, [(0, 70), (0, 8900)])],
                       states=[(0, "clear", 0.0, 14.0)], broken=[Breach("r14a", 200000100, 0, 0, True)])

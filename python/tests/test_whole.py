@@ -1,5 +1,5 @@
-"""A case is audited whole: shares give the rows of one run, long windows and many vessels are no reason to cut, and
-what is left out is said."""
+"""A case is audited whole: shares give the rows of one run, long windows and many vessels are not cut, and omissions
+are reported."""
 import json
 import os
 import sqlite3
@@ -44,7 +44,7 @@ class Shares(InFolder):
                 self.assertEqual(found.shares > 1, room == 40)
 
     def test_tiles_give_the_rows_of_one_run(self) -> None:
-        """A run takes 4096 vessels; here 18 are too many, of twenty."""
+        """A run allows 4096 vessels; here 18 of twenty are too many."""
         place, case, whole = self.harbour()
         near, scenario = pairs.near_pairs(case, 20000), Scenario(place.path("scenario.toml"))
         with mock.patch.object(audit, "MOST_VESSELS", 18):
@@ -112,7 +112,7 @@ class LeftOut(strait.InStrait):
         self.addCleanup(base.close)
         return set(base.execute("select subject, other from meeting where subject < other").fetchall())
 
-    def test_pairs_that_lie_still_are_left_out_and_counted_unless_all_are_asked_for(self) -> None:
+    def test_pairs_at_rest_are_left_out_and_counted_without_all(self) -> None:
         """Twelve moored vessels within 2 km: 66 pairs. All others make way."""
         said = self.make("made")
         self.assertIn("Left out: 66 pairs of the 12 vessels that never make half a knot in the window", said)
@@ -124,7 +124,7 @@ class LeftOut(strait.InStrait):
         self.assertTrue(moored)
         self.assertEqual(self.meetings("every") - moored, self.meetings("made"))
 
-    def test_a_second_case_takes_the_log_of_the_first(self) -> None:
+    def test_a_second_case_reuses_the_log_of_the_first(self) -> None:
         self.make("first")
         self.write("strait.toml", strait.SCENARIO.replace("safe = 500", "safe = 100"))
         os.remove(self.path("strait.log"))

@@ -1,4 +1,4 @@
-"""A WebSocket (RFC 6455) to a server, for tests: it reads what the server sends, as slowly as a test asks."""
+"""A WebSocket (RFC 6455) to a server, for tests; it reads as slowly as a test needs."""
 import base64
 import json
 import os
@@ -12,8 +12,8 @@ class Refused(Exception):
 
 
 class WebSocket:
-    """A connection. Its `state` is the snapshot with the changes so far, its `numbers` those of all changes that came,
-    in their order."""
+    """A connection. Its `state` is the snapshot with the changes so far, its `numbers` are those of all changes
+    received, in order."""
 
     def __init__(self, port: int, query: str = "", origin: str | None = None, headers: str = "",
                  buffer: int | None = None) -> None:
@@ -35,7 +35,7 @@ class WebSocket:
             raise Refused(head.split("\r\n")[0].split(" ", 1)[1])
         self.epoch, self.number = "", -1
         self.alarms: dict[str, Any] = {}
-        self.came: list[str] = []           # the names of alarms, each when it came first
+        self.came: list[str] = []           # the names of alarms, in the order of first arrival
         self.vessels: dict[int, Any] = {}
         self.snapshots = 0
         self.numbers: list[int] = []
@@ -72,7 +72,7 @@ class WebSocket:
         return head[0] & 15, self.exactly(size)
 
     def send(self, kind: int, content: bytes) -> None:
-        """Sends a frame, with a mask as RFC 6455 asks of a client."""
+        """Sends a frame, with the mask that RFC 6455 requires of a client."""
         mask = os.urandom(4)
         size = (
             struct.pack("!BB", 0x80 | kind, 0x80 | len(content))
@@ -82,7 +82,7 @@ class WebSocket:
         self.socket.sendall(size + mask + bytes(value ^ mask[k % 4] for k, value in enumerate(content)))
 
     def message(self) -> Any:
-        """Returns the next message; answers pings on the way."""
+        """Returns the next message; answers pings before it."""
         while True:
             kind, content = self.frame()
             if kind == 1:
@@ -93,7 +93,7 @@ class WebSocket:
                 raise EOFError("the server closed the connection")
 
     def take(self) -> Any:
-        """Takes the next message into the state, and returns it."""
+        """Adds the next message to the state, and returns it."""
         told = self.message()
         if told["kind"] == "snapshot":
             self.snapshots += 1
@@ -118,5 +118,5 @@ class WebSocket:
             self.alarms[alarm["id"]] = alarm
 
     def close(self) -> None:
-        """Ends the connection without a word, as a cut cable does."""
+        """Ends the connection without a message, like a cut cable."""
         self.socket.close()

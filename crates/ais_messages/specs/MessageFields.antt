@@ -17,11 +17,11 @@ use Rattle.ais_messages.specs.declared.message.Decoded.TheVariants as decoded
 
 -- ---- values that may not be available
 
--- the value, which from the limit on means that it is not available
+-- the value; from the limit on it means "not available"
 abbrev pub below : ℕ → ℕ → Option ℕ
 below limit value = if nat_lt value limit then Some value else None
 
--- the same, if a step of the value is ten of the unit
+-- the same for values in tens of the unit
 abbrev pub tenfold_below : ℕ → ℕ → Option ℕ
 tenfold_below limit value = if nat_lt value limit then Some (value * 10) else None
 
@@ -37,7 +37,7 @@ coarse_place_of latitude longitude =
     if nat_le (unsigned_abs latitude) 54000 && nat_le (unsigned_abs longitude) 108000
     then Some (latitude *ℤ pos 1000, longitude *ℤ pos 1000) else None
 
--- ---- what all messages begin with
+-- ---- the start of all messages
 
 abbrev pub type_of : List Bool → ℕ
 type_of bits = unsigned_at bits 0 6
@@ -90,7 +90,7 @@ long_range_of bits = record {
   second = 60;
 }
 
--- type and size, if five fields begin at these bits
+-- type and size, whose five fields begin at these bits
 abbrev pub ship_at : List Bool → ℕ → ℕ → ℕ → ℕ → ℕ → ShipData
 ship_at bits kind bow stern port starboard = record {
   kind = unsigned_at bits kind 8;
@@ -103,7 +103,7 @@ ship_at bits kind bow stern port starboard = record {
 abbrev pub static_of : List Bool → Option (List ℕ) → Option ShipData → StaticReport
 static_of bits name ship = record { mmsi = mmsi_of bits; name = name; ship = ship }
 
--- what the bits of each layout say: message 5 is table 52, message 24 tables 77 and 78
+-- the fields of each layout: message 5 is table 52, message 24 tables 77 and 78
 unfoldable pub message_of : Layout → List Bool → Message
 message_of layout.ClassA bits = message.Position (class_a_of bits)
 message_of layout.ClassB bits = message.Position (class_b_of bits)
@@ -152,11 +152,11 @@ decoded_as bits (Ok layout) =
     else if not (is_ship (mmsi_of bits)) then decoded.Dropped NotShip
     else decoded.Message (message_of layout bits)
 
--- what the bits of a message are read as, with the first cause that applies
+-- the reading of a message's bits, or the first cause that applies
 unfoldable pub decoded_of : List Bool → Decoded
 decoded_of bits = if nat_lt (length bits) 38 then decoded.Dropped Short else decoded_as bits (layout_of bits)
 
--- the position report of a message that is one and nothing else
+-- the position report of a message with no other content
 abbrev pub position_in : Decoded → Option PositionReport
 position_in (decoded.Message (message.Position report)) = Some report
 position_in (decoded.Message (message.Static _)) = None

@@ -1,4 +1,4 @@
--- The bits of a position report that is written: the fields in their order (ITU-R M.1371-5, annex 8, tables 48 and 70).
+-- The bits of a written position report: the fields in their order (ITU-R M.1371-5, annex 8, tables 48 and 70).
 use Rattle.std.specs.Prelude.{ℕ, ◌+◌, ◌-◌, ◌^◌, ◌≤◌, ◌<◌, ◌≡◌, ◌⊎◌, ◌==◌, Bool, List, [], ◌∷◌, flat_map, Option, Some, None, IfSome, unwrap_or, unsigned_abs, ℤ, pos, negsuc, if◌then◌else◌}
 use Rattle.aivdm.specs.BitFields.{binary}
 use Rattle.ais_messages.specs.declared.message.PositionReport.{PositionReport}
@@ -15,7 +15,7 @@ abbrev pub code_of : ℕ → ℤ → ℕ
 code_of width (pos n) = n
 code_of width (negsuc n) = 2 ^ width - (n + 1)
 
--- 91 and 181 degrees stand for a place that is not available
+-- 91 and 181 degrees mean that the place is not available
 abbrev pub latitude_code : Option (ℤ × ℤ) → ℕ
 latitude_code None = 54600000
 latitude_code (Some place) = code_of 27 place.0
@@ -31,7 +31,7 @@ class_a_fields report =
     ∷ (28, longitude_code report.place) ∷ (27, latitude_code report.place) ∷ (12, unwrap_or report.cog 3600)
     ∷ (9, unwrap_or report.heading 511) ∷ (6, report.second) ∷ (2, 0) ∷ (3, 0) ∷ (1, 0) ∷ (19, 0) ∷ []
 
--- message 18: what is not reported is 0
+-- message 18: fields that are not in the report are 0
 unfoldable pub class_b_fields : PositionReport → List Written
 class_b_fields report =
     (6, report.kind) ∷ (2, 0) ∷ (30, report.mmsi) ∷ (8, 0) ∷ (10, unwrap_or report.sog 1023) ∷ (1, 0)

@@ -26,6 +26,6 @@ unfoldable pub trimmed : List ℕ → List ℕ
 trimmed [] = []
 trimmed (character ∷ more) = spaced character (trimmed more)
 
--- what this many characters from a bit on say
+-- the text of this many characters from a bit on
 unfoldable pub text_at : List Bool → ℕ → ℕ → List ℕ
 text_at bits first count = trimmed (before_at (characters_at bits first count))

@@ -30,7 +30,7 @@ pub(crate) enum Layout {
 }
 
 impl Layout {
-    /// So many bits it needs.
+    /// Returns the least number of bits.
     fn least_bits(self) -> usize
         ensures { result ≡ least_bits self }
     {
@@ -44,7 +44,7 @@ impl Layout {
         }
     }
 
-    /// The layout of a message, or why it is not read.
+    /// Returns the layout of a message, or why it has none.
     #[tactic(auto, unfolding(crate::specs::MessageFields::layout_of))]
     fn of(bits: &BitSlice<'_>) -> Result<Layout, MessageCause>
         requires { 38 ≤ length bits.now }
@@ -62,7 +62,7 @@ impl Layout {
     }
 }
 
-/// The layout of a message 24.
+/// Returns the layout of a message 24.
 fn part_layout(bits: &BitSlice<'_>) -> Result<Layout, MessageCause>
     ensures { result ≡ part_layout bits.now }
 {
@@ -76,7 +76,7 @@ fn part_layout(bits: &BitSlice<'_>) -> Result<Layout, MessageCause>
     }
 }
 
-/// The layout by which a message is read, or why it is not.
+/// Returns the layout for reading a message, or the cause to drop it.
 #[inline(always)]
 #[tactic(auto, unfolding(crate::specs::MessageFields::decoded_of))]
 fn readable(bits: &BitSlice<'_>) -> Result<Layout, MessageCause>
@@ -112,7 +112,7 @@ pub fn decode(bits: &Bits) -> Decoded
     }
 }
 
-/// The position report of a message that is one and nothing else, as messages 1, 2, 3, 18 and 27 are.
+/// Returns the position report of a message with no other content: messages 1, 2, 3, 18 and 27.
 #[inline(always)]
 pub fn position(bits: &BitSlice<'_>) -> Option<PositionReport>
     ensures report { result ≡ position_in (decoded_of bits.now) }
@@ -124,7 +124,7 @@ pub fn position(bits: &BitSlice<'_>) -> Option<PositionReport>
     }
 }
 
-/// The position report of a message of this layout, if it is one and nothing else.
+/// Returns the position report of a message of this layout, if the layout has no other content.
 #[inline(always)]
 #[tactic(auto, unfolding(crate::specs::MessageFields::message_of))]
 fn position_by(bits: &BitSlice<'_>, layout: Layout) -> Option<PositionReport>
@@ -141,7 +141,7 @@ fn position_by(bits: &BitSlice<'_>, layout: Layout) -> Option<PositionReport>
     }
 }
 
-/// The message that this ship sent.
+/// Reads the message that this ship sent.
 #[tactic(auto, unfolding(crate::specs::MessageFields::message_of))]
 fn message(bits: &BitSlice<'_>, layout: Layout) -> Message
     requires long { least_bits layout ≤ length bits.now }
@@ -179,7 +179,7 @@ fn message(bits: &BitSlice<'_>, layout: Layout) -> Message
     }
 }
 
-/// The fields of messages 1, 2 and 3.
+/// Returns the fields of messages 1, 2 and 3.
 #[inline(always)]
 #[tactic(auto, unfolding(crate::specs::MessageFields::class_a_of))]
 fn class_a(bits: &BitSlice<'_>) -> PositionReport
@@ -200,7 +200,7 @@ fn class_a(bits: &BitSlice<'_>) -> PositionReport
     }
 }
 
-/// The position's fields of messages 18 and 19.
+/// Returns the position's fields of messages 18 and 19.
 #[tactic(auto, unfolding(crate::specs::MessageFields::class_b_of))]
 fn class_b(bits: &BitSlice<'_>) -> PositionReport
     requires long { 168 ≤ length bits.now }
@@ -220,7 +220,7 @@ fn class_b(bits: &BitSlice<'_>) -> PositionReport
     }
 }
 
-/// The fields of message 27.
+/// Returns the fields of message 27.
 #[tactic(auto, unfolding(crate::specs::MessageFields::long_range_of))]
 fn long_range(bits: &BitSlice<'_>) -> PositionReport
     requires long { 96 ≤ length bits.now }
@@ -240,7 +240,7 @@ fn long_range(bits: &BitSlice<'_>) -> PositionReport
     }
 }
 
-/// A ship's type and size, from the bits at which the five fields begin.
+/// Returns a ship's type and size, from the bits at which the five fields begin.
 fn ship(
     bits: &BitSlice<'_>,
     kind: usize,
@@ -266,7 +266,7 @@ fn ship(
     }
 }
 
-/// A latitude and a longitude in 1/10000 minute, if both are on the Earth: at most 90 and 180 degrees in size.
+/// Returns a latitude and a longitude in 1/10000 minute, if both are on the Earth: at most 90 and 180 degrees in size.
 pub fn place(latitude: i32, longitude: i32) -> Option<(i32, i32)>
     ensures value { result ≡ place_of latitude longitude }
     ensures range { IfSome result
@@ -279,7 +279,7 @@ pub fn place(latitude: i32, longitude: i32) -> Option<(i32, i32)>
     }
 }
 
-/// The same, from tenths of a minute.
+/// Returns the same from 1/10 minute.
 fn coarse_place(latitude: i32, longitude: i32) -> Option<(i32, i32)>
     ensures value { result ≡ coarse_place_of latitude longitude }
     ensures range { IfSome result
@@ -292,7 +292,7 @@ fn coarse_place(latitude: i32, longitude: i32) -> Option<(i32, i32)>
     }
 }
 
-/// The value, if it is below the limit from which on it is not available.
+/// Returns the value, if it is below `limit`; values from there on mean "not available".
 fn below(limit: u16, value: u16) -> Option<u16>
     ensures value { result ≡ below limit value }
     ensures range { IfSome result (λ value. value < limit) }
@@ -300,7 +300,7 @@ fn below(limit: u16, value: u16) -> Option<u16>
     if value < limit { Some(value) } else { None }
 }
 
-/// Ten times the value, if it is below the limit from which on it is not available.
+/// Returns ten times the value, if it is below `limit`; values from there on mean "not available".
 fn tenfold_below(limit: u16, value: u16) -> Option<u16>
     requires { limit ≤ 360 }
     ensures value { result ≡ tenfold_below limit value }

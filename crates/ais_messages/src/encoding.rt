@@ -10,9 +10,9 @@ use aivdm::Bits;
 use out_of_memory::Memory;
 use std::alloc::Global;
 
-/// Writes a position report of kind 1, 2, 3 or 18 as the 168 bits of its message (ITU-R M.1371-5, annex 8, tables 48 and 70), which
-/// decode to the report. A field that is absent has its value for "not available", the rate of turn too; fields that a report
-/// does not hold are 0.
+/// Writes a position report of kind 1, 2, 3 or 18 as the 168 bits of its message (ITU-R M.1371-5, annex 8, tables 48
+/// and 70), which decode to the report. An absent field, and the rate of turn, has its value for "not available";
+/// fields that are not in a report are 0.
 pub fn encode_position(alloc: Global, report: &PositionReport) -> Result<Bits, Memory>
     requires ranges { IsReport report.now }
     requires kind { IsWritable report.now }
@@ -28,7 +28,7 @@ pub fn encode_position(alloc: Global, report: &PositionReport) -> Result<Bits, M
     }
 }
 
-/// The bits of these fields, each with its width.
+/// Returns the bits of these fields, each with its width.
 fn write_fields(alloc: Global, fields: &[(u32, u32)]) -> Result<Bits, Memory>
     requires { AllFit fields.now }
     ensures { IfOk result (λ bits. bits ≡ bits_written fields.now) }
@@ -40,7 +40,7 @@ fn write_fields(alloc: Global, fields: &[(u32, u32)]) -> Result<Bits, Memory>
     Ok(bits)
 }
 
-/// Messages 1, 2 and 3.
+/// Returns the fields of messages 1, 2 and 3.
 #[tactic(auto, unfolding(crate::specs::PositionWriting::class_a_fields))]
 fn class_a(alloc: Global, report: &PositionReport) -> Result<Bits, Memory>
     requires ranges { IsReport report.now }
@@ -68,7 +68,7 @@ fn class_a(alloc: Global, report: &PositionReport) -> Result<Bits, Memory>
     write_fields(alloc, &fields)
 }
 
-/// Message 18.
+/// Returns the fields of message 18.
 #[tactic(auto, unfolding(crate::specs::PositionWriting::class_b_fields))]
 fn class_b(alloc: Global, report: &PositionReport) -> Result<Bits, Memory>
     requires ranges { IsReport report.now }
@@ -92,14 +92,14 @@ fn class_b(alloc: Global, report: &PositionReport) -> Result<Bits, Memory>
     write_fields(alloc, &fields)
 }
 
-/// The value, or the one for "not available".
+/// Returns the value, or the one for "not available".
 fn or_absent(value: Option<u16>, absent: u16) -> u32
     ensures { result ≡ unwrap_or value absent }
 {
     u32::from(value.unwrap_or(absent))
 }
 
-/// A number in two's complement of this many bits.
+/// Returns a number in two's complement of this many bits.
 fn code(value: i32, width: u32) -> u32
     requires some { 1 ≤ width }
     requires few { width ≤ 31 }

@@ -2,7 +2,7 @@
 ghost use Rattle.std.specs.Prelude.{◌≡◌, ◌↔◌, IsTrue};
 ghost use Rattle.ais_messages.specs.ShipIdentities.{is_ship, IsShip};
 
-/// Whether an MMSI is a ship's: its first three digits are a country's, from 200 to 799.
+/// Returns whether an MMSI is a ship's: its first three digits are a country code, from 200 to 799.
 pub fn is_ship(mmsi: u32) -> bool
     ensures ship { IsTrue result ↔ IsShip mmsi }
     ensures test { result ≡ is_ship mmsi }

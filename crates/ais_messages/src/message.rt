@@ -1,8 +1,8 @@
-//! What a message says.
+//! The content of a message.
 use crate::text::Text20;
 
-/// A vessel's report of her position and motion (ITU-R M.1371-5, annex 8, messages 1 to 3, 18, 19 and 27). The fields of one byte stand
-/// together, so that no room is lost between them: a log has many reports.
+/// A vessel's report of her position and motion (ITU-R M.1371-5, annex 8, messages 1 to 3, 18, 19 and 27). The fields
+/// of one byte are next to each other to save padding, because a log has many reports.
 #[derive(Clone, Copy, Debug, PartialEq, Eq)]
 pub struct PositionReport {
     /// The Maritime Mobile Service Identity, 200000000 to 799999999 for a ship.
@@ -19,12 +19,11 @@ pub struct PositionReport {
     pub kind: u8,
     /// The navigational status, 0 to 15; 15 if the type has none.
     pub status: u8,
-    /// The UTC second of the report, and from 60 on why there is none; below 64.
+    /// The UTC second of the report, below 64. Values from 60 on say why it is missing.
     pub second: u8,
 }
 
-/// What a ship's static report says about her hull (ITU-R M.1371-5, annex 8, messages 5, 19 and 24
-/// B).
+/// A ship's hull from her static report (ITU-R M.1371-5, annex 8, messages 5, 19 and 24 B).
 #[derive(Clone, Copy, Debug, PartialEq, Eq)]
 pub struct ShipData {
     /// Type of ship and cargo, 0 to 255 (annex 8, table 53).
@@ -39,8 +38,7 @@ pub struct ShipData {
     pub starboard: u8,
 }
 
-/// What a ship reports about herself that does not change as she moves (ITU-R M.1371-5, annex 8, messages 5, 19 and
-/// 24).
+/// A ship's static data, which does not change as she moves (ITU-R M.1371-5, annex 8, messages 5, 19 and 24).
 #[derive(Debug, Drop, PartialEq)]
 pub struct StaticReport {
     /// The Maritime Mobile Service Identity, 200000000 to 799999999 for a ship.
@@ -65,15 +63,15 @@ pub enum Message {
 /// Why a message was not read.
 #[derive(Clone, Copy, Debug, PartialEq, Eq)]
 pub enum MessageCause {
-    /// There are fewer bits than its type needs, or too few to read its type and sender.
+    /// The message has fewer bits than its type needs, or too few for its type and sender.
     Short,
-    /// Its type is not among those that are read.
+    /// The program does not read its type.
     Kind,
-    /// Its sender is no ship.
+    /// Its sender is not a ship.
     NotShip,
 }
 
-/// What the bits of a message are read as.
+/// The result of reading the bits of a message.
 #[derive(Debug, Drop, PartialEq)]
 pub enum Decoded {
     Message(Message),

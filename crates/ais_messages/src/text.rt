@@ -5,8 +5,8 @@ ghost use Rattle.ais_messages.specs.SixBitText.{before_at, character_of, charact
 use aivdm::{BitSlice, Bits};
 use std::marker::Model;
 
-/// A text of at most 20 characters in ASCII, as a ship's name (ITU-R M.1371-5, annex 8, table 47). It is seen as the list of its
-/// bytes.
+/// A text of at most 20 ASCII characters, such as a ship's name (ITU-R M.1371-5, annex 8, table 47). Its model is the
+/// list of its bytes.
 #[derive(Debug, Drop)]
 pub struct Text20 {
     bytes: [u8; 20],
@@ -24,7 +24,7 @@ impl Model for Text20 {
 }
 
 impl Text20 {
-    /// The bytes of the text, at most 20.
+    /// Returns the bytes of the text, at most 20.
     pub fn bytes(&self) -> &[u8]
         ensures same { result.now ≡ self.now }
         ensures few { length result.now ≤ 20 }
@@ -32,7 +32,7 @@ impl Text20 {
         &self.bytes[..self.len]
     }
 
-    /// An equal text.
+    /// Returns an equal text.
     pub fn same(&self) -> Text20
         ensures { result ≡ self.now }
     {
@@ -57,7 +57,8 @@ impl PartialEq for Text20 {
     }
 }
 
-/// The character of six bits, in ASCII: 0 to 31 are `@`, the capital letters, and `[` to `_`; 32 to 63 are space to `?`.
+/// Returns the character of six bits, in ASCII: 0 to 31 are `@`, the capital letters, and `[` to `_`; 32 to 63 are
+/// space to `?`.
 fn character(value: u32) -> u8
     requires { value < 64 }
     ensures { result ≡ character_of value }
@@ -69,7 +70,7 @@ fn character(value: u32) -> u8
     }
 }
 
-/// Puts `count` characters to the front, of those from bit `first` on.
+/// Writes the `count` characters from bit `first` on to the front.
 fn put_characters(bytes: &mut [u8; 20], bits: &BitSlice<'_>, first: usize, count: usize)
     requires few { count ≤ 20 }
     requires within { first + 6 * count ≤ length bits.now }
@@ -81,7 +82,7 @@ fn put_characters(bytes: &mut [u8; 20], bits: &BitSlice<'_>, first: usize, count
     }
 }
 
-/// How long the text is without the spaces at its end.
+/// Returns the length of the text without the spaces at its end.
 fn trimmed_len(text: &[u8]) -> usize
     ensures within { result ≤ length text.now }
     ensures trimmed { take result text.now ≡ trimmed text.now }
@@ -95,14 +96,14 @@ fn trimmed_len(text: &[u8]) -> usize
     len
 }
 
-/// Where the first `@` stands.
+/// Returns the index of the first `@`.
 fn at_sign(text: &[u8]) -> Option<usize>
     ensures { result ≡ position (λ character. character == 64) text.now }
 {
     text.iter().position(|byte| *byte == b'@')
 }
 
-/// Where the first `@` stands, or the length if there is none.
+/// Returns the index of the first `@`, or the length if there is none.
 fn end_of(text: &[u8]) -> usize
     ensures within { result ≤ length text.now }
     ensures before { take result text.now ≡ before_at text.now }
@@ -110,8 +111,8 @@ fn end_of(text: &[u8]) -> usize
     at_sign(text).unwrap_or(text.len())
 }
 
-/// The text of `count` characters of six bits each, from bit `first` on, which is counted from 0. The first `@` ends it, and
-/// spaces at its end are dropped (ITU-R M.1371-5, annex 8, table 47).
+/// Returns the text of `count` characters of six bits each, from bit `first` on, counted from 0. The first `@` ends it,
+/// without the spaces at its end (ITU-R M.1371-5, annex 8, table 47).
 pub fn text6(bits: &Bits, first: usize, count: usize) -> Text20
     requires few { count ≤ 20 }
     requires within { first + 6 * count ≤ length bits.now }
@@ -120,7 +121,7 @@ pub fn text6(bits: &Bits, first: usize, count: usize) -> Text20
     text_in(&bits.as_slice(), first, count)
 }
 
-/// The same of bits in place.
+/// Returns the same from a slice of bits.
 #[tactic(auto, unfolding(crate::specs::SixBitText::text_at))]
 pub(crate) fn text_in(bits: &BitSlice<'_>, first: usize, count: usize) -> Text20
     requires few { count ≤ 20 }

@@ -1,4 +1,4 @@
--- The payload that bits are written as.
+-- The payload of bits.
 use Rattle.std.specs.Prelude.{ℕ, ◌+◌, ◌*◌, ◌^◌, ◌-◌, Bool, List, [], ◌∷◌, length, nat_lt, if◌then◌else◌}
 use Rattle.aivdm.specs.BitFields.{bits_value}
 

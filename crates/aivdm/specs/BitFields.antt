@@ -7,7 +7,7 @@ unfoldable pub binary : ℕ → ℕ → List Bool
 binary zero n = []
 binary (suc width) n = (bit_at n width == 1) ∷ binary width n
 
--- the number that bits stand for, the highest first
+-- the number of some bits, the highest first
 unfoldable pub bits_value : List Bool → ℕ
 bits_value [] = 0
 bits_value (bit ∷ bits) = (if bit then 2 ^ length bits else 0) + bits_value bits
@@ -20,7 +20,7 @@ field bits first width = take width (drop first bits)
 abbrev pub unsigned_at : List Bool → ℕ → ℕ → ℕ
 unsigned_at bits first width = bits_value (field bits first width)
 
--- a number of this many bits in two's complement: one from 2 ^ (width - 1) on stands for itself less 2 ^ width
+-- a number of this many bits in two's complement: from 2 ^ (width - 1) on, it means the number minus 2 ^ width
 abbrev pub complement : ℕ → ℕ → ℤ
 complement width n = if nat_lt n (2 ^ (width - 1)) then pos n else pos n -ℤ pos (2 ^ width)
 

@@ -1,4 +1,4 @@
--- The checksum that a sentence and a tag block carry (IEC 61162-1:2010, checksum field; NMEA 0183 4.10, TAG block).
+-- The checksum of a sentence and of a tag block (IEC 61162-1:2010, checksum field; NMEA 0183 4.10, TAG block).
 use Rattle.std.specs.Prelude.{ℕ, ◌+◌, ◌*◌, ◌&&◌, List, fold, bit_xor, Option, Some, None, if◌then◌else◌}
 use Rattle.std.specs.Char.{is_digit, digit_value}
 

@@ -18,11 +18,11 @@ total_of part = part.sentence.total
 abbrev pub number_of_part : Taken → ℕ
 number_of_part part = part.sentence.number
 
--- The key is the sequential identifier and the channel, where nothing is a value too.
+-- The key is the sequential identifier and the channel; either may be absent.
 abbrev pub have_one_key : SentenceFields → SentenceFields → Bool
 have_one_key a b = option_eq nat_eq a.seq b.seq && option_eq nat_eq a.channel b.channel
 
--- those of the sentences that are parts of greater messages and have the key of this one
+-- the sentences that are parts of messages of several and have the key of this one
 abbrev pub of_key : SentenceFields → List Taken → List Taken
 of_key sentence taken = filter (λ part. nat_lt 1 (total_of part) && have_one_key sentence part.sentence) taken
 
@@ -30,7 +30,7 @@ of_key sentence taken = filter (λ part. nat_lt 1 (total_of part) && have_one_ke
 abbrev pub last_of : {X : Type 0} → ℕ → List X → List X
 last_of k xs = drop (length xs - k) xs
 
--- They have one total and the numbers 1, 2, .. in order, and none is more than 30 seconds later than the first.
+-- They have the same total and the numbers 1, 2, .. in order, and none is more than 30 seconds later than the first.
 unfoldable pub is_run : List Taken → Bool
 is_run [] = false
 is_run (first ∷ others) =
@@ -46,13 +46,13 @@ part_bits part = bits_of part.sentence.payload part.sentence.fill
 abbrev pub joined_bits : List Taken → List Bool
 joined_bits parts = flat_map part_bits parts
 
--- what the last of the sentences of a key results in, by the run that it ends
+-- the result of the last sentence of a key, by the run that it ends
 unfoldable pub joined_run : Taken → List Taken → Joined
 joined_run last parts =
     if is_run parts then (if number_of_part last == total_of last then Message (joined_bits parts) else Waiting) else Orphan
 
--- What a sentence results in, after those taken before it: one of total 1 is a message by itself. For another, of number k,
--- the last k sentences of its key count, itself included.
+-- The result of a sentence after the earlier ones. A sentence of total 1 is a message by itself. For a sentence of
+-- number k of several, the last k sentences of its key count, itself included.
 unfoldable pub joined_of : List Taken → Taken → Joined
 joined_of before last =
     if total_of last == 1 then Message (part_bits last)

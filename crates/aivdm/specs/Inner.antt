@@ -1,4 +1,4 @@
--- What no public clause cites: how the code cuts a line, and what its private types hold.
+-- Definitions that no public clause cites: how the code cuts a line, and the content of its private types.
 pub mod KeptParts
 pub mod LineCuts
 pub mod OpenRuns

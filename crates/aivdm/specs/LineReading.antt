@@ -1,4 +1,4 @@
--- What a line of an AIS log says (IEC 61162-1:2010, sentences VDM and VDO; NMEA 0183 4.10, TAG block).
+-- The content of a line of an AIS log (IEC 61162-1:2010, sentences VDM and VDO; NMEA 0183 4.10, TAG block).
 use Rattle.std.specs.Prelude.{◌≡◌, ℕ, ◌-◌, ◌≤◌, ◌<◌, Bool, false, ◌||◌, ◌==◌, List, [], ◌∷◌, ◌++◌, length, All, IsTrue, Option, Some, None, IsSome, IfSome, Result, Ok, Err, slice_get}
 use Rattle.std.specs.List.{join_with_byte}
 use Rattle.std.specs.Option.{option_map}
@@ -10,7 +10,7 @@ use Rattle.aivdm.specs.TagBlocks.{IsTagged}
 use Rattle.aivdm.specs.declared.sentence.LineCause.{LineCause}
 use Rattle.aivdm.specs.declared.sentence.LineCause.TheVariants.{Empty, Long, Tag, Other, Form, Sum, Armour}
 
--- ---- how a sentence is spelled
+-- ---- the spelling of a sentence
 
 -- a sentence's bytes, field by field
 pub record SentenceText : Type 0 where
@@ -26,12 +26,12 @@ pub record SentenceText : Type 0 where
   pub low : ℕ
   pub suffix : List ℕ
 
--- the bytes strictly between `!` and the `*` after the fill, over which the sum goes: 86 and 68 are `VD`, 44 is a comma
+-- the bytes of the checksum, strictly between `!` and the `*` after the fill: 86 and 68 are `VD`, 44 is a comma
 abbrev pub summed : SentenceText → List ℕ
 summed t = join_with_byte 44
     ((t.talker ++ 86 ∷ 68 ∷ t.kind ∷ []) ∷ (t.total ∷ []) ∷ (t.number ∷ []) ∷ t.seq ∷ t.channel ∷ t.payload ∷ (t.fill ∷ []) ∷ [])
 
--- from `!` (33) on; the digits of the sum follow `*` (42), and then what may come after them
+-- from `!` (33); the digits of the checksum follow `*` (42), and then an optional suffix
 abbrev pub sentence_text : SentenceText → List ℕ
 sentence_text t = 33 ∷ summed t ++ 42 ∷ t.high ∷ t.low ∷ t.suffix
 
@@ -52,7 +52,7 @@ pub record IsOptional (test : ℕ → Bool) (field : List ℕ) : Type 0 where
 abbrev pub IsSuffix : List ℕ → Type 0
 IsSuffix suffix = IfSome (slice_get suffix 0) (λ byte. IsTrue ((byte == 44) || (byte == 32) || (byte == 9)))
 
--- Each field is of its form: 48 to 57 are the digits. The total is 1 to 9, the number 1 to the total, the fill 0 to 5.
+-- Each field is well-formed: 48 to 57 are the digits. The total is 1 to 9, the number 1 to the total, the fill 0 to 5.
 pub record HasForm (t : SentenceText) : Type 0 where
   pub address : IsAddress t.talker t.kind
   pub total_from : 49 ≤ t.total
@@ -76,7 +76,7 @@ HasSum t = hexadecimal t.high t.low ≡ Some (sum_of (summed t))
 abbrev pub IsArmoured : List ℕ → Type 0
 IsArmoured payload = All (λ byte. IsTrue (is_armour byte)) payload
 
--- what the fields say
+-- the sentence of the fields
 abbrev pub fields_of : SentenceText → SentenceFields
 fields_of t = record {
   total = t.total - 48;
@@ -87,14 +87,14 @@ fields_of t = record {
   fill = t.fill - 48;
 }
 
--- ---- why a line is no sentence
+-- ---- why a line is not a sentence
 
--- The rest of a line begins as a VDM or VDO sentence does.
+-- The rest of a line begins like a VDM or VDO sentence.
 abbrev pub BeginsAsSentence : List ℕ → Type 0
 BeginsAsSentence rest =
     (talker : List ℕ) × (kind : ℕ) × (more : List ℕ) × IsAddress talker kind × (rest ≡ 33 ∷ talker ++ 86 ∷ 68 ∷ kind ∷ 44 ∷ more)
 
--- what each cause says of a line; from `tag` on it says which splits of the line do not exist
+-- the meaning of each cause; from `tag` on, that some splits of the line do not exist
 abbrev pub Applies : LineCause → List ℕ → Type 0
 Applies Empty line = line ≡ []
 Applies Long line = 1024 < length line
@@ -104,7 +104,7 @@ Applies Form line = (stamp : Option ℕ) (t : SentenceText) → IsTagged line st
 Applies Sum line = (stamp : Option ℕ) (t : SentenceText) → IsTagged line stamp (sentence_text t) → HasForm t → ¬ (HasSum t)
 Applies Armour line = (stamp : Option ℕ) (t : SentenceText) → IsTagged line stamp (sentence_text t) → HasForm t → HasSum t → ¬ (IsArmoured t.payload)
 
--- the order in which they are tested
+-- the order of their tests
 abbrev pub causes : List LineCause
 causes = Empty ∷ Long ∷ Tag ∷ Other ∷ Form ∷ Sum ∷ Armour ∷ []
 
@@ -116,7 +116,8 @@ pub record IsFirstCause (cause : LineCause) (line : List ℕ) : Type 0 where
   pub none : All (λ earlier. ¬ (Applies earlier line)) before
   pub applies : Applies cause line
 
--- A line that is dropped as empty, long or for its tag block has no stamp. Each other has that of its tag block.
+-- A line that is empty, too long, or has a wrong tag block has no stamp. Every other line has the stamp of its tag
+-- block.
 abbrev pub KeepsStamp : LineCause → List ℕ → Option ℕ → Type 0
 KeepsStamp Empty line stamp = stamp ≡ None
 KeepsStamp Long line stamp = stamp ≡ None
@@ -140,6 +141,6 @@ abbrev pub IsBody : List ℕ → Option ℕ → Result SentenceFields LineCause 
 IsBody line stamp (Ok fields) = (t : SentenceText) × IsSentenceLine line stamp t × (fields ≡ fields_of t)
 IsBody line stamp (Err cause) = IsFirstCause cause line × KeepsStamp cause line stamp
 
--- what the line says; each line has exactly one reading
+-- the content of a line; each line has exactly one reading
 abbrev pub IsReading : List ℕ → LineContent → Type 0
 IsReading line content = IsBody line content.stamp content.body

@@ -1,4 +1,4 @@
--- What a joiner keeps of the sentences that it has taken.
+-- The state of a joiner after the sentences that it has taken.
 use Rattle.std.specs.Prelude.{List}
 use Rattle.std.specs.List.{find}
 use Rattle.aivdm.specs.FragmentJoining.{Taken, of_key}
@@ -7,6 +7,6 @@ use Rattle.aivdm.specs.Inner.OpenRuns.{has_key}
 use Rattle.aivdm.specs.Sentences.{SentenceFields}
 use Rattle.aivdm.specs.declared.joiner.Begun.{Begun}
 
--- The joiner stands for the list of the sentences that it has taken.
+-- The joiner's model is the list of the sentences that it has taken.
 unfoldable pub StandsFor : List Begun → List Taken → Type 0
 StandsFor begun taken = (key : SentenceFields) → KeepsOpen (find (has_key key) begun) (open_parts (of_key key taken))

@@ -1,4 +1,4 @@
--- The reading of a line as a function, for definitions over lists of lines. That it is the one reading is a law.
+-- The reading of a line as a function, for definitions over lists of lines. A law says that it is the only reading.
 use Rattle.std.specs.Prelude.{ℕ, List, length, nat_lt, Option, None, Result, Ok, Err, ◌==◌, if◌then◌else◌}
 use Rattle.aivdm.specs.Inner.LineCuts.{tag_at, sentence_at}
 use Rattle.aivdm.specs.Sentences.{LineContent}

@@ -1,4 +1,4 @@
--- A sentence and a line's content, as contracts see them: the payload is a list of bytes.
+-- The models of a sentence and of a line's content: the payload is a list of bytes.
 use Rattle.std.specs.Prelude.{◌≡◌, ℕ, ◌≤◌, List, ◌++◌, length, All, IsTrue, Option, IfSome, Result, Ok, Err}
 use Rattle.std.specs.Char.{is_ascii_alphanumeric}
 use Rattle.aivdm.specs.PayloadBits.{is_armour}
@@ -17,12 +17,12 @@ pub record SentenceFields : Type 0 where
   pub payload : List ℕ
   pub fill : ℕ
 
--- what a line says: its stamp, and the sentence on it or why it is none
+-- the content of a line: its stamp, and its sentence or why it has none
 pub record LineContent : Type 0 where
   pub stamp : Option ℕ
   pub body : Result SentenceFields LineCause
 
--- ---- seen with its payload as a list
+-- ---- the model, with the payload as a list
 
 abbrev pub fields_seen : Sentence → SentenceFields
 fields_seen s = record { total = s.total; number = s.number; seq = s.seq; channel = s.channel; payload = s.payload.now; fill = s.fill }
@@ -51,6 +51,6 @@ pub record IsSentence (s : SentenceFields) : Type 0 where
   pub armoured : All (λ byte. IsTrue (is_armour byte)) s.payload
   pub fill_bits : s.fill ≤ 5
 
--- the list is a part of the other one, without a gap
+-- the list is a contiguous part of the other one
 abbrev pub IsPart : List ℕ → List ℕ → Type 0
 IsPart part whole = (front back : List ℕ) × (whole ≡ front ++ (part ++ back))

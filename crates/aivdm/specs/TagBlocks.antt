@@ -1,4 +1,4 @@
--- The tag block that may stand before a sentence (NMEA 0183 4.10, TAG block), in the form that is read.
+-- The optional tag block before a sentence (NMEA 0183 4.10, TAG block), in the form that is read.
 use Rattle.std.specs.Prelude.{ℕ, ◌≡◌, ◌≢◌, ◌/◌, ◌≤◌, ◌==◌, Bool, not, ◌&&◌, List, [], ◌∷◌, ◌++◌, length, drop, codes, nat_eq, nat_lt, All, IsTrue, Option, Some, None, ◌⊎◌, slice_get, if◌then◌else◌}
 use Rattle.std.specs.List.{find, join_with_byte, starts_with}
 use Rattle.std.specs.Option.{option_map}
@@ -10,7 +10,7 @@ use Rattle.aivdm.specs.Checksums.{sum_of, hexadecimal}
 abbrev pub is_field_byte : ℕ → Bool
 is_field_byte byte = not (byte == 44) && not (byte == 42) && not (byte == 92)
 
--- The field begins with `c:`, so it holds a time.
+-- The field begins with `c:`, so it has a time.
 abbrev pub tells_time : List ℕ → Bool
 tells_time field = starts_with nat_eq field (codes "c:")
 
@@ -20,41 +20,41 @@ pub record AreTimeDigits (digits : List ℕ) : Type 0 where
   pub few : length digits ≤ 15
   pub decimal : All (λ byte. IsTrue (is_ascii_digit byte)) digits
 
--- one or more bytes; after `c:` stand digits
+-- one or more bytes; digits after `c:`
 pub record IsTagField (field : List ℕ) : Type 0 where
   pub some : 1 ≤ length field
   pub bytes : All (λ byte. IsTrue (is_field_byte byte)) field
   pub time : IsTrue (tells_time field) → AreTimeDigits (drop 2 field)
 
--- a time in seconds: a number from 10 ^ 11 on is one of milliseconds
+-- a time in seconds; numbers from 10 ^ 11 on are milliseconds
 abbrev pub seconds_of : ℕ → ℕ
 seconds_of time = if nat_lt time 100_000_000_000 then time else time / 1000
 
--- the time in the first of the fields that hold one
+-- the time in the first field that has one
 abbrev pub block_stamp : List (List ℕ) → Option ℕ
 block_stamp fields = option_map (λ field. seconds_of (digits_value 10 (drop 2 field))) (find tells_time fields)
 
--- a tag block: its fields, and the two digits of its sum
+-- a tag block: its fields, and the two digits of its checksum
 pub record TagBlock : Type 0 where
   pub fields : List (List ℕ)
   pub high : ℕ
   pub low : ℕ
 
--- the fields with commas between them, over which the sum goes
+-- the fields with commas between them: the bytes of the checksum
 abbrev pub block_content : TagBlock → List ℕ
 block_content block = join_with_byte 44 block.fields
 
--- as it stands in a line, between two backslashes
+-- in the form of a line, between two backslashes
 abbrev pub block_text : TagBlock → List ℕ
 block_text block = 92 ∷ block_content block ++ 42 ∷ block.high ∷ block.low ∷ 92 ∷ []
 
--- one or more fields of their form, and the right sum
+-- one or more well-formed fields, and the right checksum
 pub record IsTagBlock (block : TagBlock) : Type 0 where
   pub some : 1 ≤ length block.fields
   pub fields : All IsTagField block.fields
   pub sum : hexadecimal block.high block.low ≡ Some (sum_of (block_content block))
 
--- the line is this tag block and the rest
+-- the line is this tag block followed by the rest
 pub record HasTagBlock (line : List ℕ) (stamp : Option ℕ) (rest : List ℕ) (block : TagBlock) : Type 0 where
   pub split : line ≡ block_text block ++ rest
   pub form : IsTagBlock block

@@ -1,18 +1,18 @@
-//! Whether a payload is armour, 16 bytes at a time.
+//! Checks whether a payload is armour, 16 bytes at a time.
 ghost use Rattle.std.specs.Prelude.{◌≡◌, ◌+◌, ◌≤◌, length, drop, take};
 ghost use Rattle.std.specs.List.{list_all};
 ghost use Rattle.aivdm.specs.PayloadBits.{is_armour};
 
 use std::simd::prelude::*;
 
-/// Whether a byte stands for six bits.
+/// Returns whether a byte stands for six bits.
 fn is_armour(byte: u8) -> bool
     ensures { result ≡ is_armour byte }
 {
     matches!(byte, b'0'..=b'W' | b'`'..=b'w')
 }
 
-/// Whether the 16 bytes from a place on all stand for six bits.
+/// Returns whether the 16 bytes from index `at` on all stand for six bits.
 #[inline(always)]
 fn is_armoured_at(payload: &[u8], at: usize) -> bool
     requires { at + 16 ≤ length payload.now }
@@ -25,7 +25,7 @@ fn is_armoured_at(payload: &[u8], at: usize) -> bool
     bad.to_bitmask() == 0
 }
 
-/// Whether each byte stands for six bits. The last load overlaps the one before it.
+/// Returns whether each byte stands for six bits. The last load overlaps the one before it.
 #[inline(always)]
 pub(crate) fn is_armoured(payload: &[u8]) -> bool
     ensures { result ≡ list_all is_armour payload.now }

@@ -10,10 +10,10 @@ use crate::sentence::Sentence;
 use std::marker::Model;
 use std::simd::prelude::*;
 
-/// The bits of a message, which lie somewhere else.
+/// The bits of a message, borrowed.
 #[derive(Drop)]
 pub struct BitSlice<'a> {
-    /// Six bits to an element, the highest first. The last one may hold more than there are.
+    /// Six bits per element, the highest first. The last element may have unused bits.
     pub(crate) sextets: &'a [u8],
     pub(crate) len: usize,
 }
@@ -30,7 +30,7 @@ impl<'a> Model for BitSlice<'a> {
 }
 
 impl<'a> BitSlice<'a> {
-    /// How many bits there are.
+    /// Returns the number of bits.
     #[inline(always)]
     pub fn len(&self) -> usize
         ensures { result ≡ length self.now }
@@ -38,14 +38,14 @@ impl<'a> BitSlice<'a> {
         self.len
     }
 
-    /// Whether there is none.
+    /// Returns whether there are no bits.
     pub fn is_empty(&self) -> bool
         ensures { result ≡ (length self.now == 0) }
     {
         self.len() == 0
     }
 
-    /// The number in `width` bits from bit `first` on, which is counted from 0.
+    /// Returns the number in `width` bits from bit `first` on, which is counted from 0.
     #[inline(always)]
     pub fn unsigned(&self, first: usize, width: u32) -> u32
         requires some { 1 ≤ width }
@@ -61,7 +61,7 @@ impl<'a> BitSlice<'a> {
         ((number >> after) % (1 << width)) as u32
     }
 
-    /// The number in `width` bits from bit `first` on, in two's complement.
+    /// Returns the number in `width` bits from bit `first` on, in two's complement.
     #[inline(always)]
     pub fn signed(&self, first: usize, width: u32) -> i32
         requires some { 1 ≤ width }
@@ -78,7 +78,7 @@ impl<'a> BitSlice<'a> {
     }
 }
 
-/// The number in the bits of some sextets.
+/// Returns the number in the bits of some sextets.
 #[inline(always)]
 fn number(sextets: &[u8]) -> u64
     requires few { length sextets.now ≤ 10 }
@@ -92,7 +92,7 @@ fn number(sextets: &[u8]) -> u64
     number
 }
 
-/// Puts the six bits of 16 bytes of a payload into the room, from a place on that is the same in both.
+/// Writes the six bits of each of 16 payload bytes into the room, at the same index as in the payload.
 #[inline(always)]
 fn put_sextets(room: &mut [u8], payload: &[u8], at: usize)
     requires payload { at + 16 ≤ length payload.now }
@@ -108,7 +108,7 @@ fn put_sextets(room: &mut [u8], payload: &[u8], at: usize)
         .copy_to_slice(&mut room[at..]);
 }
 
-/// Puts the six bits of each of a few bytes to the front of the room.
+/// Writes the six bits of each of a few payload bytes to the front of the room.
 fn put_few_sextets(room: &mut [u8], payload: &[u8])
     requires room { length payload.now ≤ length room.old }
     requires armoured { All (λ byte. IsTrue (is_armour byte)) payload.now }
@@ -119,7 +119,8 @@ fn put_few_sextets(room: &mut [u8], payload: &[u8])
     dearmour(front);
 }
 
-/// Puts the six bits of each byte of a payload to the front of the room, 16 at a time. The last 16 may overlap those before them.
+/// Writes the six bits of each payload byte to the front of the room, 16 at a time. The last 16 may overlap the
+/// previous ones.
 #[inline(always)]
 fn put_all_sextets(room: &mut [u8], payload: &[u8])
     requires room { length payload.now ≤ length room.old }
@@ -145,12 +146,12 @@ pub struct SentenceRoom {
 }
 
 impl SentenceRoom {
-    /// Room that holds nothing yet.
+    /// Returns empty room.
     pub fn new() -> SentenceRoom {
         SentenceRoom { sextets: [0; 1024] }
     }
 
-    /// The bits of a sentence, without its fill. They lie in the room, and no memory is taken.
+    /// Returns the bits of a sentence, without its fill. They are stored in the room and take no memory.
     #[inline(always)]
     pub fn bits_of(&mut self, sentence: &Sentence<'_>) -> BitSlice<'_>
         requires { IsSentence (fields_seen sentence.now) }

@@ -11,10 +11,11 @@ use smallvec::SmallVec;
 use std::alloc::Global;
 use std::marker::Model;
 
-/// The bits of a message (ITU-R M.1371-5, annex 2, 3.3.7). Up to 432 of them lie in the value itself, and more in memory.
+/// The bits of a message (ITU-R M.1371-5, annex 2, 3.3.7). Up to 432 of them are stored in the value itself; more take
+/// memory.
 #[derive(Drop)]
 pub struct Bits {
-    /// Six bits to an element, the highest first. The last one may hold more than there are.
+    /// Six bits per element, the highest first. The last element may have unused bits.
     sextets: SmallVec<u8, 72>,
     len: usize,
 }
@@ -31,7 +32,7 @@ impl Model for Bits {
 }
 
 impl Bits {
-    /// The bits of a payload without the last `fill` ones. A payload of up to 72 bytes takes no memory.
+    /// Returns the bits of a payload without the last `fill` ones. A payload of up to 72 bytes takes no memory.
     #[inline(always)]
     pub(crate) fn from_payload(alloc: Global, payload: &[u8], fill: u8) -> Result<Bits, Memory>
         requires some { 1 ≤ length payload.now }
@@ -49,7 +50,7 @@ impl Bits {
         Ok(Bits { sextets, len })
     }
 
-    /// No bits.
+    /// Returns no bits.
     pub fn new(alloc: Global) -> Bits
         ensures { result ≡ [] }
     {
@@ -102,7 +103,7 @@ impl Bits {
         Ok(())
     }
 
-    /// The same bits, in place.
+    /// Returns the same bits as a slice.
     #[inline(always)]
     pub fn as_slice(&self) -> BitSlice<'_>
         ensures { result ≡ self.now }
@@ -113,21 +114,21 @@ impl Bits {
         }
     }
 
-    /// How many bits there are.
+    /// Returns the number of bits.
     pub fn len(&self) -> usize
         ensures { result ≡ length self.now }
     {
         self.len
     }
 
-    /// Whether there is none.
+    /// Returns whether there are no bits.
     pub fn is_empty(&self) -> bool
         ensures { result ≡ (length self.now == 0) }
     {
         self.len() == 0
     }
 
-    /// The number in `width` bits from bit `first` on, which is counted from 0.
+    /// Returns the number in `width` bits from bit `first` on, which is counted from 0.
     pub fn unsigned(&self, first: usize, width: u32) -> u32
         requires some { 1 ≤ width }
         requires most { width ≤ 32 }
@@ -138,7 +139,7 @@ impl Bits {
         self.as_slice().unsigned(first, width)
     }
 
-    /// The number in `width` bits from bit `first` on, in two's complement.
+    /// Returns the number in `width` bits from bit `first` on, in two's complement.
     pub fn signed(&self, first: usize, width: u32) -> i32
         requires some { 1 ≤ width }
         requires most { width ≤ 32 }
@@ -160,7 +161,7 @@ pub(crate) fn dearmour(payload: &mut [u8])
     }
 }
 
-/// The six bits that a byte of a payload stands for.
+/// Returns the six bits that a byte of a payload stands for.
 fn sextet(byte: u8) -> u8
     requires { IsTrue (is_armour byte) }
     ensures value { result ≡ six_bits byte }
@@ -170,7 +171,7 @@ fn sextet(byte: u8) -> u8
     if value > 40 { value - 8 } else { value }
 }
 
-/// So many bits and more. No memory has room for more than a `usize` counts.
+/// Returns the sum of two numbers of bits. It always fits a `usize`, because no memory is larger.
 fn grown(len: usize, more: usize) -> Option<usize>
     requires { more ≤ 6144 }
     ensures sum { IfSome result (λ grown. grown ≡ len + more) }
@@ -203,7 +204,7 @@ fn append_bits(sextets: &mut SmallVec<u8, 72>, len: usize, value: u64, width: u3
     push_sextets(sextets, number << (6 * count - kept - width), count);
 }
 
-/// Takes off the last sextet if not all of it counts, and gives the number in the bits of it that do.
+/// Removes the last sextet if it has unused bits; returns the number in its used bits.
 fn pop_kept(sextets: &mut SmallVec<u8, 72>, len: usize, kept: u32) -> u64
     requires sextets { AreSextets sextets.old.items len }
     requires kept { kept ≡ len % 6 }
@@ -221,7 +222,7 @@ fn pop_kept(sextets: &mut SmallVec<u8, 72>, len: usize, kept: u32) -> u64
     u64::from(last >> (6 - kept))
 }
 
-/// Appends the lowest 6 bits for each of this many elements of a number.
+/// Appends a number as this many sextets.
 fn push_sextets(sextets: &mut SmallVec<u8, 72>, number: u64, count: u32)
     requires few { count ≤ 7 }
     requires room { HasRoomFor sextets.old count }

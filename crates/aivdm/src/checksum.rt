@@ -1,4 +1,4 @@
-//! The checksum that a sentence and a tag block carry.
+//! The checksum of a sentence and of a tag block.
 ghost use Rattle.std.specs.Prelude.{◌≡◌, ◌<◌, ◌≤◌, ◌*◌, ◌/◌, bit_xor, drop, fold, length, replicate, if◌then◌else◌};
 ghost use Rattle.std.specs.Char.{digit_value, is_digit};
 ghost use Rattle.std.specs.Simd.{first_chunks};
@@ -7,8 +7,8 @@ ghost use Rattle.aivdm.specs.Checksums.{hexadecimal, sum_of};
 
 use std::simd::prelude::*;
 
-/// The exclusive or of the bytes: 16 at a time, and the rest after the last whole block in one more vector. A loop over single bytes there would
-/// have its end mispredicted.
+/// Returns the exclusive or of the bytes: 16 at a time, and the rest after the last whole block in one more vector. The
+/// processor would mispredict the end of a loop over single bytes.
 #[inline(always)]
 pub(crate) fn sum_of(bytes: &[u8]) -> u8
     ensures { result ≡ sum_of bytes.now }
@@ -19,7 +19,7 @@ pub(crate) fn sum_of(bytes: &[u8]) -> u8
     (sum_of_blocks(bytes) ^ behind_blocks(bytes)).reduce_xor()
 }
 
-/// The exclusive or of the whole blocks of 16 bytes, lane by lane.
+/// Returns the exclusive or of the whole blocks of 16 bytes, lane by lane.
 #[inline(always)]
 fn sum_of_blocks(bytes: &[u8]) -> u8x16
     ensures { result ≡ fold (zip2 bit_xor) (replicate 16 0)
@@ -33,11 +33,11 @@ fn sum_of_blocks(bytes: &[u8]) -> u8x16
     sum
 }
 
-/// The place of each lane.
+/// The index of each lane.
 const PLACES: [u8; 16] = [0, 1, 2, 3, 4, 5, 6, 7, 8, 9, 10, 11, 12, 13, 14, 15];
 
-/// The bytes after the last whole block, each in a lane, and 0 in the other lanes. The last 16 bytes are loaded whole, whatever the number of
-/// bytes left, and those that a block holds are then dropped: a byte that counts twice would cancel itself.
+/// Returns the bytes after the last whole block, each in a lane, and 0 in the other lanes. It always loads the last 16
+/// bytes and then clears those that a block already has, because a byte that counts twice would cancel itself.
 #[inline(always)]
 fn behind_blocks(bytes: &[u8]) -> u8x16
     requires { 16 ≤ length bytes.now }
@@ -49,7 +49,7 @@ fn behind_blocks(bytes: &[u8]) -> u8x16
     is_behind.select(last, u8x16::splat(0))
 }
 
-/// The number that two hexadecimal digits of either case spell.
+/// Returns the number that two hexadecimal digits of either case spell.
 #[inline(always)]
 pub(crate) fn hexadecimal(high: u8, low: u8) -> Option<u8>
     ensures { result ≡ hexadecimal high low }
@@ -62,7 +62,8 @@ pub(crate) fn hexadecimal(high: u8, low: u8) -> Option<u8>
     Some(16 * high + low)
 }
 
-/// The value of a hexadecimal digit of either case, by the table: a branch on whether it is a letter is guessed wrong on near to half of all lines.
+/// Returns the value of a hexadecimal digit of either case, by the table: the processor would mispredict a branch on
+/// whether it is a letter on almost half of all lines.
 #[inline(always)]
 fn digit(byte: u8) -> u8
     ensures { result ≡ (if is_digit byte 16 then digit_value byte else 16) }
@@ -70,7 +71,7 @@ fn digit(byte: u8) -> u8
     VALUES[usize::from(byte)]
 }
 
-/// The value of each byte as a hexadecimal digit of either case, and 16 if it is none.
+/// The value of each byte as a hexadecimal digit of either case, or 16 if it is not one.
 static VALUES: [u8; 256] = [
     16, 16, 16, 16, 16, 16, 16, 16, 16, 16, 16, 16, 16, 16, 16, 16, 16, 16, 16, 16, 16, 16, 16, 16,
     16, 16, 16, 16, 16, 16, 16, 16, 16, 16, 16, 16, 16, 16, 16, 16, 16, 16, 16, 16, 16, 16, 16, 16,

@@ -15,7 +15,7 @@ pub(crate) struct Fields<'a> {
     pub(crate) suffix: &'a [u8],
 }
 
-/// What follows the first comma of a VDM or VDO sentence.
+/// Returns what follows the first comma of a VDM or VDO sentence.
 #[inline(always)]
 #[tactic(auto, unfolding(crate::specs::Inner::LineCuts::address_at))]
 pub(crate) fn behind_address(bytes: &[u8]) -> Result<&[u8], LineCause>
@@ -27,7 +27,7 @@ pub(crate) fn behind_address(bytes: &[u8]) -> Result<&[u8], LineCause>
     }
 }
 
-/// A capital letter or digit.
+/// Reads a capital letter or digit.
 #[inline(always)]
 fn is_talker_byte(byte: u8) -> bool
     ensures { result ≡ is_talker_byte byte }
@@ -35,7 +35,7 @@ fn is_talker_byte(byte: u8) -> bool
     byte.is_ascii_uppercase() || byte.is_ascii_digit()
 }
 
-/// What follows `VDM,` or `VDO,`.
+/// Returns what follows `VDM,` or `VDO,`.
 #[inline(always)]
 #[tactic(auto, unfolding(crate::specs::Inner::LineCuts::kind_at))]
 fn behind_kind(bytes: &[u8]) -> Result<&[u8], LineCause>
@@ -75,7 +75,7 @@ pub(crate) fn read_fields(bytes: &[u8]) -> Result<Fields<'_>, LineCause>
     })
 }
 
-/// The total and the number.
+/// Reads the total and the number.
 #[inline(always)]
 #[tactic(auto, unfolding(crate::specs::Inner::LineCuts::count_at))]
 fn read_counts(bytes: &[u8]) -> Result<(u8, u8, &[u8]), LineCause>
@@ -93,7 +93,7 @@ fn read_counts(bytes: &[u8]) -> Result<(u8, u8, &[u8]), LineCause>
     }
 }
 
-/// The value of a digit, or nothing, before a comma.
+/// Reads an optional digit before a comma.
 #[inline(always)]
 #[tactic(auto, unfolding(crate::specs::Inner::LineCuts::digit_at))]
 fn read_digit(bytes: &[u8]) -> Result<(Option<u8>, &[u8]), LineCause>
@@ -106,7 +106,7 @@ fn read_digit(bytes: &[u8]) -> Result<(Option<u8>, &[u8]), LineCause>
     }
 }
 
-/// A letter or digit, or nothing, before a comma.
+/// Reads an optional letter or digit before a comma.
 #[inline(always)]
 #[tactic(auto, unfolding(crate::specs::Inner::LineCuts::letter_at))]
 fn read_letter(bytes: &[u8]) -> Result<(Option<u8>, &[u8]), LineCause>
@@ -119,7 +119,7 @@ fn read_letter(bytes: &[u8]) -> Result<(Option<u8>, &[u8]), LineCause>
     }
 }
 
-/// The fill, the checksum, and what follows it.
+/// Reads the fill, the checksum, and what follows it.
 #[inline(always)]
 #[tactic(auto, unfolding(crate::specs::Inner::LineCuts::end_at))]
 fn read_end(bytes: &[u8]) -> Result<(u8, u8, &[u8]), LineCause>
@@ -136,7 +136,7 @@ fn read_end(bytes: &[u8]) -> Result<(u8, u8, &[u8]), LineCause>
     }
 }
 
-/// Nothing, or a comma, a space or a tab and anything.
+/// Checks for nothing, or for a comma, a space or a tab and anything after it.
 #[inline(always)]
 fn is_suffix(bytes: &[u8]) -> bool
     ensures { result ≡ is_suffix bytes.now }

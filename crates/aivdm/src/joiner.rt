@@ -17,17 +17,17 @@ use std::alloc::Global;
 use std::marker::Model;
 use std::mem;
 
-/// By how many seconds a part of a message may be later than the first part.
+/// The most seconds from the first part of a message to a later part.
 const LONGEST_WAIT: u64 = 30;
 
 /// What a sentence completes.
 #[derive(Drop)]
 pub enum Joined {
-    /// A message, the bits of its parts in order, each without its fill.
+    /// A message: the bits of its parts in order, each without its fill bits.
     Message(Bits),
-    /// Nothing yet: it continues or begins a message that more sentences are to complete.
+    /// Nothing yet: the sentence begins or continues a message that needs more sentences.
     Waiting,
-    /// Nothing: the sentences before it that it needs are missing, or too long ago.
+    /// Nothing: earlier sentences that it needs are missing or too old.
     Orphan,
 }
 
@@ -37,9 +37,9 @@ pub(crate) struct Begun {
     seq: Option<u8>,
     channel: Option<u8>,
     total: u8,
-    /// How many parts came. 0 if the message is closed.
+    /// The number of parts so far; 0 if the message is closed.
     count: u8,
-    /// When the first part came, in seconds.
+    /// The time of the first part, in seconds.
     since: u64,
     bits: Bits,
 }
@@ -48,7 +48,7 @@ pub(crate) struct Begun {
 #[derive(Drop)]
 pub struct Joiner {
     alloc: Global,
-    /// At most one of each key.
+    /// At most one per key.
     begun: Vec<Begun>,
 }
 
@@ -62,7 +62,7 @@ impl Model for Joiner {
 }
 
 impl Joiner {
-    /// No message has begun.
+    /// Returns a joiner without begun messages.
     pub fn new(alloc: Global) -> Joiner
         ensures { StandsFor result [] }
     {
@@ -74,8 +74,8 @@ impl Joiner {
 
     /// Takes the next sentence, received at `time`, in seconds since the Unix epoch.
     ///
-    /// A sentence of total 1 is a message by itself; up to 72 bytes of its payload take no memory. If there is no memory
-    /// for a sentence, the joiner stays as it was.
+    /// A sentence of total 1 is a message by itself; up to 72 bytes of its payload take no memory. If memory runs out,
+    /// the joiner is unchanged.
     #[inline]
     pub fn take(&mut self, sentence: &Sentence<'_>, time: u64) -> Result<Joined, Memory>
         requires sentence { IsSentence (fields_seen sentence.now) }
@@ -102,7 +102,7 @@ impl Joiner {
     }
 }
 
-/// The bits of a sentence.
+/// Returns the bits of a sentence.
 #[inline(always)]
 fn whole(alloc: Global, sentence: &Sentence<'_>) -> Result<Bits, Memory>
     requires sentence { IsSentence (fields_seen sentence.now) }
@@ -115,14 +115,14 @@ fn whole(alloc: Global, sentence: &Sentence<'_>) -> Result<Bits, Memory>
 impl Begun {
     ghost use Rattle.aivdm.specs.Inner.OpenRuns.{awaits, begun_by, has_key, joined_on, run_on};
 
-    /// Whether it is of the key of this sentence.
+    /// Returns whether the message has the key of this sentence.
     fn has_key(&self, sentence: &Sentence<'_>) -> bool
         ensures { result ≡ has_key (fields_seen sentence.now) self.now }
     {
         self.seq == sentence.seq && self.channel == sentence.channel
     }
 
-    /// A message that this part begins.
+    /// Returns a message that begins with this part.
     fn new(alloc: Global, sentence: &Sentence<'_>, time: u64) -> Result<Begun, Memory>
         requires sentence { IsSentence (fields_seen sentence.now) }
         ensures { IfOk result
@@ -140,7 +140,7 @@ impl Begun {
         })
     }
 
-    /// Whether a sentence of its key is its next part, in time.
+    /// Returns whether a sentence of its key is its next part and not too late.
     fn awaits(&self, sentence: &Sentence<'_>, time: u64) -> bool
         ensures { result ≡ awaits self.now
             (record { sentence = fields_seen sentence.now; time = time }) }
@@ -213,7 +213,7 @@ fn join(
     }
 }
 
-/// Keeps a message: it replaces the one of the sentence's key, or is added at the end.
+/// Stores a message: replaces the one of the sentence's key, or appends it.
 fn keep(
     begun: &mut Vec<Begun>,
     sentence: &Sentence<'_>,
@@ -235,7 +235,7 @@ fn keep(
     Ok(())
 }
 
-/// Where the message of the sentence's key stands.
+/// Returns the index of the message of the sentence's key.
 fn place_of(begun: &[Begun], sentence: &Sentence<'_>) -> Option<usize>
     ensures { result ≡ position (has_key (fields_seen sentence.now)) begun.now }
 {

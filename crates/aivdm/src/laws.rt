@@ -6,15 +6,14 @@ ghost use Rattle.aivdm.specs.ReadingOf.{reading_of};
 ghost use Rattle.aivdm.specs.Sentences.{LineContent};
 ghost use Rattle.aivdm.specs.declared.joiner.Joined.TheVariants.{Message, Orphan};
 
-/// Each line, of whatever bytes, has exactly one reading: `reading_of` gives it.
+/// Each line of any bytes has exactly one reading, which is `reading_of`.
 pub fn one_reading()
     ensures one { (line : List ℕ) → IsReading line (reading_of line) }
     ensures only { (line : List ℕ) (content : LineContent) → IsReading line content
         → content ≡ reading_of line }
 {}
 
-/// A message of several sentences is closed once it is complete: a later sentence of the key begins again with number
-/// 1.
+/// A complete message of several sentences is closed: the next sentence of its key must have number 1.
 pub fn complete_message_is_closed()
     ensures { (before : List Taken) (last next : Taken) (bits : List Bool) → 1 < total_of last
         → joined_of before last ≡ Message bits → IsTrue (have_one_key next.sentence last.sentence)

@@ -1,4 +1,4 @@
-//! From a line's bytes to what it says.
+//! Reads a line's bytes.
 ghost use Rattle.std.specs.Prelude.{◌≡◌, ◌+◌, ◌≤◌, length};
 ghost use Rattle.aivdm.specs.Inner.LineCuts.{sentence_at, summed_in};
 ghost use Rattle.aivdm.specs.Inner.Seen.{sentence_seen};
@@ -12,14 +12,14 @@ use crate::fields::{behind_address, read_fields};
 use crate::sentence::{Body, LineCause, Reading, Sentence};
 use crate::tag_block::without_tag;
 
-/// The greatest number of bytes of a line that is read, its line end not counted.
+/// The most bytes of a line that is read, without its line end.
 const LONGEST_LINE: usize = 1024;
 
-/// Reads a line, without its line end: its tag block (NMEA 0183 4.10), if it has one, and the VDM or VDO sentence
-/// (IEC 61162-1:2010) after it. The payload is a part of the line. No memory is taken.
+/// Reads a line, without its line end: its tag block (NMEA 0183 4.10), if it has one, and the VDM or VDO sentence (IEC
+/// 61162-1:2010) after it. The payload borrows from the line; this takes no memory.
 ///
-/// A line that is no such sentence is dropped for the first cause that applies, in the order of [`LineCause`]. It keeps
-/// the stamp of its tag block, unless it is dropped as empty, as too long, or for the tag block itself.
+/// If the line is not such a sentence, the reading has the first cause that applies, in the order of [`LineCause`]. It
+/// still has the stamp of the tag block, unless the line is empty or too long, or the tag block itself is wrong.
 #[inline(always)]
 pub fn read_line(line: &[u8]) -> Reading<'_>
     ensures one { IsReading line.now (reading_seen result) }
@@ -51,7 +51,7 @@ fn read(line: &[u8]) -> Reading<'_>
     }
 }
 
-/// A line that is dropped, without a stamp.
+/// Returns the reading of a dropped line without a stamp.
 fn dropped<'a>(cause: LineCause) -> Reading<'a>
     ensures { reading_seen result ≡ dropped cause }
 {
@@ -61,7 +61,7 @@ fn dropped<'a>(cause: LineCause) -> Reading<'a>
     }
 }
 
-/// What stands after the tag block.
+/// Reads what follows the tag block.
 #[inline(always)]
 fn body(bytes: &[u8]) -> Body<'_>
     ensures { body_seen result ≡ sentence_at bytes.now }
@@ -72,7 +72,7 @@ fn body(bytes: &[u8]) -> Body<'_>
     }
 }
 
-/// The sentence after the tag block.
+/// Returns the sentence after the tag block.
 #[inline(always)]
 #[tactic(auto, unfolding(crate::specs::Inner::LineCuts::sentence_at))]
 fn sentence(bytes: &[u8]) -> Result<Sentence<'_>, LineCause>
@@ -89,7 +89,8 @@ fn sentence(bytes: &[u8]) -> Result<Sentence<'_>, LineCause>
     Ok(fields.sentence)
 }
 
-/// What lies between the first byte of a sentence and the `*`, after which stand two digits and a suffix of this length.
+/// Returns the bytes between the first byte of a sentence and the `*`, given the length of the suffix after the two
+/// digits.
 #[inline(always)]
 fn summed(bytes: &[u8], suffix: usize) -> &[u8]
     requires { suffix + 4 ≤ length bytes.now }

@@ -1,10 +1,10 @@
-//! Cuts at a byte that is likely near.
+//! Splits at a byte that is probably near.
 ghost use Rattle.std.specs.Prelude.{◌≡◌, ◌==◌, ◌+◌, ◌<◌, ◌≤◌, drop, length, position, take};
 ghost use Rattle.aivdm.specs.Inner.LineCuts.{before_byte, after_byte};
 
 use std::simd::prelude::*;
 
-/// Where the byte first stands among 16 bytes.
+/// Returns the index of the first such byte among 16 bytes.
 #[inline(always)]
 fn first_of_sixteen(byte: u8, bytes: &[u8], at: usize) -> Option<usize>
     requires { at + 16 ≤ length bytes.now }
@@ -19,7 +19,7 @@ fn first_of_sixteen(byte: u8, bytes: &[u8], at: usize) -> Option<usize>
     Some(mask.trailing_zeros() as usize)
 }
 
-/// Where the byte first stands among 8 bytes.
+/// Returns the index of the first such byte among 8 bytes.
 #[inline(always)]
 fn first_of_eight(byte: u8, bytes: &[u8], at: usize) -> Option<usize>
     requires { at + 8 ≤ length bytes.now }
@@ -34,8 +34,9 @@ fn first_of_eight(byte: u8, bytes: &[u8], at: usize) -> Option<usize>
     Some(mask.trailing_zeros() as usize)
 }
 
-/// Where the byte first stands. 16 bytes are compared at a time: over single bytes, the searches of a line took most of its time. The last
-/// 16 are compared whole, also if some of them were before, since the end of a loop over single bytes is guessed wrong.
+/// Returns the index of the first such byte. It compares 16 bytes at a time, because searches over single bytes took
+/// most of the time of a line. It compares the last 16 bytes together even if this repeats some, because the processor
+/// mispredicts the end of a loop over single bytes.
 #[inline(always)]
 pub(crate) fn first_of(byte: u8, bytes: &[u8]) -> Option<usize>
     ensures { result ≡ position (λ other. other == byte) bytes.now }
@@ -57,7 +58,7 @@ pub(crate) fn first_of(byte: u8, bytes: &[u8]) -> Option<usize>
     }
 }
 
-/// The same among fewer than 16 bytes: 8 at a time.
+/// Returns the same for fewer than 16 bytes, 8 at a time.
 #[inline(always)]
 fn first_of_few(byte: u8, bytes: &[u8]) -> Option<usize>
     requires { length bytes.now < 16 }
@@ -77,7 +78,7 @@ fn first_of_few(byte: u8, bytes: &[u8]) -> Option<usize>
     }
 }
 
-/// The bytes before the first such byte and those after it: all and none if there is no such byte.
+/// Returns the bytes before the first such byte and those after it: all and none if there is no such byte.
 #[inline(always)]
 pub(crate) fn cut(byte: u8, bytes: &[u8]) -> (&[u8], &[u8])
     ensures before { result.0.now ≡ before_byte byte bytes.now }

@@ -1,37 +1,37 @@
-//! What a line of a log is read as.
+//! The reading of a line of a log.
 
 /// One VDM or VDO sentence (IEC 61162-1:2010): a whole message, or a part of one.
 #[derive(Clone, Copy)]
 pub struct Sentence<'a> {
-    /// Of how many sentences the message consists, 1 to 9.
+    /// The number of sentences of the message, 1 to 9.
     pub total: u8,
-    /// Which of them this is, counted from 1.
+    /// The number of this sentence, counted from 1.
     pub number: u8,
     /// The sequential message identifier, 0 to 9, that the sentences of one message share.
     pub seq: Option<u8>,
     /// The ASCII letter or digit of the radio channel.
     pub channel: Option<u8>,
-    /// The encapsulated message: six bits to a byte, in the armour of IEC 61162-1. 1 to 1024 bytes, each of `0` to `W` or a backquote
-    /// to `w`.
+    /// The encapsulated message: six bits per byte, in the armour of IEC 61162-1; 1 to 1024 bytes, each of `0` to `W`
+    /// or a backquote to `w`.
     pub payload: &'a [u8],
-    /// How many bits at the end of the payload only fill its last byte, 0 to 5.
+    /// The number of fill bits at the end of the payload, 0 to 5.
     pub fill: u8,
 }
 
-/// Why a line is no sentence. If several causes apply, it is the first in this order.
+/// Why a line is not a sentence. If several causes apply, the first in this order counts.
 #[derive(Clone, Copy, Debug, PartialEq, Eq)]
 pub enum LineCause {
     /// There is no byte.
     Empty,
     /// There are more than 1024 bytes.
     Long,
-    /// It begins with a backslash, and no tag block of the form that is read follows, or the block's sum differs.
+    /// It begins with a backslash, but the tag block has another form than those that are read, or a wrong checksum.
     Tag,
-    /// What follows the tag block does not begin as a `VDM` or `VDO` sentence does.
+    /// The text after the tag block does not begin like a `VDM` or `VDO` sentence.
     Other,
-    /// A field of the sentence is not of its form.
+    /// A field of the sentence is malformed.
     Form,
-    /// The sum of the sentence differs.
+    /// The checksum of the sentence is wrong.
     Sum,
     /// A byte of the payload does not stand for six bits.
     Armour,
@@ -44,11 +44,11 @@ pub enum Body<'a> {
     Dropped(LineCause),
 }
 
-/// What a line says.
+/// The content of a line.
 #[derive(Clone, Copy)]
 pub struct Reading<'a> {
-    /// When the line was received, in seconds since the Unix epoch: the first `c:` field of its tag block. A number from 10^11 on is
-    /// one of milliseconds, and rounded down.
+    /// The time of reception in seconds since the Unix epoch: the first `c:` field of the tag block. Numbers from 10^11
+    /// on are milliseconds, rounded down.
     pub stamp: Option<u64>,
     pub body: Body<'a>,
 }

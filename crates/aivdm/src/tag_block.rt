@@ -21,7 +21,7 @@ pub(crate) struct Tagged<'a> {
     pub(crate) rest: &'a [u8],
 }
 
-/// Takes the tag block off a line, if it has one.
+/// Splits the tag block off a line, if it has one.
 #[inline(always)]
 #[tactic(auto, unfolding(crate::specs::Inner::LineCuts::tag_at))]
 pub(crate) fn without_tag(line: &[u8]) -> Result<Tagged<'_>, LineCause>
@@ -50,7 +50,7 @@ fn read_block(bytes: &[u8]) -> Result<Tagged<'_>, LineCause>
     Ok(Tagged { stamp, rest })
 }
 
-/// The sum after the `*`, and what follows the second backslash.
+/// Reads the checksum after the `*`, and what follows the second backslash.
 #[tactic(auto, unfolding(crate::specs::Inner::LineCuts::block_end))]
 fn read_end(bytes: &[u8]) -> Result<(u8, &[u8]), LineCause>
     ensures { end_seen result ≡ block_end bytes.now }
@@ -64,7 +64,7 @@ fn read_end(bytes: &[u8]) -> Result<(u8, &[u8]), LineCause>
     }
 }
 
-/// The stamp in the fields of a tag block.
+/// Returns the stamp in the fields of a tag block.
 #[tactic(auto, unfolding(crate::specs::Inner::LineCuts::stamp_in))]
 fn stamp_in(content: &[u8]) -> Result<Option<u64>, LineCause>
     ensures { result ≡ stamp_in content.now }
@@ -83,7 +83,7 @@ fn stamp_in(content: &[u8]) -> Result<Option<u64>, LineCause>
     Ok(stamp)
 }
 
-/// The bytes before the first comma, and those after it, if there is one.
+/// Returns the bytes before the first comma, and those after it, if there is one.
 fn first_field(fields: &[u8]) -> (&[u8], Option<&[u8]>)
     ensures { slice_split (λ byte. byte == 44) fields.now ≡ result.0.now ∷ parts_left result.1 }
 {
@@ -93,7 +93,7 @@ fn first_field(fields: &[u8]) -> (&[u8], Option<&[u8]>)
     }
 }
 
-/// The time in a field, or none.
+/// Returns the time in a field, or none.
 #[tactic(auto, unfolding(crate::specs::Inner::LineCuts::time_in))]
 fn time_in(field: &[u8]) -> Result<Option<u64>, LineCause>
     ensures { result ≡ time_in field.now }
@@ -105,7 +105,7 @@ fn time_in(field: &[u8]) -> Result<Option<u64>, LineCause>
     }
 }
 
-/// The time that is spelled in decimal digits: seconds, or milliseconds from 10^11 on.
+/// Returns the time that decimal digits spell: seconds, or milliseconds from 10^11 on.
 #[tactic(auto, unfolding(crate::specs::Inner::LineCuts::time_of))]
 fn time_of(digits: &[u8]) -> Result<Option<u64>, LineCause>
     ensures { result ≡ time_of digits.now }
@@ -119,7 +119,7 @@ fn time_of(digits: &[u8]) -> Result<Option<u64>, LineCause>
     }
 }
 
-/// A time in seconds.
+/// Returns a time in seconds.
 fn seconds_of(time: u64) -> u64
     ensures { result ≡ seconds_of time }
 {
@@ -130,10 +130,10 @@ fn seconds_of(time: u64) -> u64
     }
 }
 
-/// How many digits a time in seconds has, from the year 2001 to the year 2286.
+/// The number of digits of a time in seconds, from the year 2001 to the year 2286.
 const SECONDS_DIGITS: usize = 10;
 
-/// The number that decimal digits spell.
+/// Returns the number that decimal digits spell.
 fn decimal(digits: &[u8]) -> Option<u64>
     requires { length digits.now ≤ 15 }
     ensures { result ≡ (if all_ascii_digits digits.now then Some (digits_value 10 digits.now)
@@ -142,7 +142,7 @@ fn decimal(digits: &[u8]) -> Option<u64>
     if !are_digits(digits) {
         return None;
     }
-    // If the count is known ahead, the compiler writes the digits out one after the other.
+    // If the count is constant, the compiler unrolls the loop.
     if digits.len() == SECONDS_DIGITS {
         Some(spelled(&digits[..SECONDS_DIGITS]))
     } else {
@@ -150,7 +150,8 @@ fn decimal(digits: &[u8]) -> Option<u64>
     }
 }
 
-/// Whether all of at most 16 bytes are decimal digits. Those that two vectors of 8 bytes both hold are compared twice.
+/// Returns whether all of at most 16 bytes are decimal digits. Two vectors of 8 bytes may overlap and compare some
+/// bytes twice.
 #[inline(always)]
 fn are_digits(bytes: &[u8]) -> bool
     requires { length bytes.now ≤ 16 }
@@ -164,7 +165,7 @@ fn are_digits(bytes: &[u8]) -> bool
     front && back
 }
 
-/// Whether the 8 bytes from a place on are decimal digits.
+/// Returns whether the 8 bytes from index `at` on are decimal digits.
 #[inline(always)]
 fn are_digits_at(bytes: &[u8], at: usize) -> bool
     requires { at + 8 ≤ length bytes.now }
@@ -174,7 +175,7 @@ fn are_digits_at(bytes: &[u8], at: usize) -> bool
     values.simd_ge(u8x8::splat(10)).to_bitmask() == 0
 }
 
-/// The number that these digits spell.
+/// Returns the number that these digits spell.
 #[inline(always)]
 fn spelled(digits: &[u8]) -> u64
     requires few { length digits.now ≤ 15 }

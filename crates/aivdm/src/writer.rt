@@ -11,9 +11,9 @@ use crate::checksum::sum_of;
 use out_of_memory::Memory;
 use std::alloc::Global;
 
-/// Writes a message as a line: a tag block with `c:` alone if there is a stamp, in seconds since the Unix epoch, and one
-/// `!AIVDM` sentence of total 1 without sequential identifier. Hexadecimal digits are capitals, fill bits are zero, and there is no
-/// line end.
+/// Writes a message as a line: a tag block with only `c:` if there is a stamp, in seconds since the Unix epoch, and one
+/// `!AIVDM` sentence of total 1 without sequential identifier. Hexadecimal digits are capitals, fill bits are zero, and
+/// there is no line end.
 pub fn write_sentence(
     alloc: Global,
     stamp: Option<u64>,
@@ -47,7 +47,7 @@ fn write_line(
     Ok(line)
 }
 
-/// A tag block with a time alone, or nothing.
+/// Returns a tag block with only a time, or nothing.
 fn tag_block(alloc: Global, stamp: Option<u64>) -> Result<Vec<u8>, Memory>
     ensures { IfOk result (λ tag. tag.items ≡ tag_text stamp) }
 {
@@ -63,7 +63,7 @@ fn tag_block(alloc: Global, stamp: Option<u64>) -> Result<Vec<u8>, Memory>
     Ok(tag)
 }
 
-/// The field that holds a time.
+/// Returns the field that holds a time.
 fn time_field(alloc: Global, time: u64) -> Result<String, Memory>
     ensures { IfOk result (λ field. string_bytes field ≡ codes "c:" ++ decimal time) }
 {
@@ -73,7 +73,7 @@ fn time_field(alloc: Global, time: u64) -> Result<String, Memory>
     }
 }
 
-/// What stands between `!` and `*`.
+/// Returns the bytes between `!` and `*`.
 fn sentence_content(alloc: Global, bits: &Bits, channel: u8) -> Result<Vec<u8>, Memory>
     ensures { IfOk result
         (λ content. content.items
@@ -99,7 +99,7 @@ fn push_payload(line: &mut Vec<u8>, bits: &Bits) -> Result<(), Memory>
     push_rest(line, bits, 6 * whole)
 }
 
-/// Appends the byte for fewer than six bits, which zeros fill up.
+/// Appends the byte for fewer than six bits, filled up with zeros.
 fn push_rest(line: &mut Vec<u8>, bits: &Bits, first: usize) -> Result<(), Memory>
     requires within { first ≤ length bits.now }
     requires few { length bits.now < first + 6 }
@@ -113,7 +113,7 @@ fn push_rest(line: &mut Vec<u8>, bits: &Bits, first: usize) -> Result<(), Memory
     push(line, &[armour(with_zeros(number, rest))])
 }
 
-/// The sextet that begins with the bits of a number.
+/// Returns the sextet that begins with the bits of a number.
 fn with_zeros(number: u32, width: u32) -> u8
     requires few { width ≤ 6 }
     requires fits { number < 2 ^ width }
@@ -123,7 +123,7 @@ fn with_zeros(number: u32, width: u32) -> u8
     (number << (6 - width)) as u8
 }
 
-/// The byte that stands for six bits.
+/// Returns the byte that stands for six bits.
 fn armour(sextet: u8) -> u8
     requires { sextet < 64 }
     ensures { result ≡ armour_of sextet }
@@ -135,7 +135,7 @@ fn armour(sextet: u8) -> u8
     }
 }
 
-/// Appends `*` and the sum of the content.
+/// Appends `*` and the checksum of the content.
 fn push_sum(line: &mut Vec<u8>, content: &[u8]) -> Result<(), Memory>
     ensures { OnOk result (line.new.items ≡ line.old.items ++ sum_text content.now) }
 {
@@ -150,7 +150,7 @@ fn push_sum(line: &mut Vec<u8>, content: &[u8]) -> Result<(), Memory>
     )
 }
 
-/// A hexadecimal digit, in capitals.
+/// Returns a hexadecimal digit, in capitals.
 fn hexadecimal_digit(value: u8) -> u8
     requires { value < 16 }
     ensures { result ≡ hexadecimal_digit value }

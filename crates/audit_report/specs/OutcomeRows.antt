@@ -1,4 +1,4 @@
--- How many lines came to each outcome, as rows that end each report on a log.
+-- The rows with the number of lines of each outcome, which end each report on a log.
 use Rattle.std.specs.Prelude.{ℕ, flat_map, List}
 use Rattle.report_csv.specs.CsvRows.{row_of}
 use Rattle.audit_report.specs.ReportRows.{count_fields}

@@ -1,4 +1,4 @@
--- The rows of a plan of own ship: its legs, or that there is none.
+-- The rows of a plan of own ship: its legs, or a row that there is no plan.
 use Rattle.std.specs.Prelude.{ℕ, ◌+◌, ◌*◌, nat_lt, flat_map, List, Option, Some, None, slice_index, if◌then◌else◌}
 use Rattle.std.specs.List.{range_with_len}
 use Rattle.report_csv.specs.CsvRows.{row_of, Fields}
@@ -8,7 +8,7 @@ use Rattle.lattice.specs.OwnMotion.{ordered_course, ordered_speed}
 use Rattle.lattice.specs.PlanNumbers.{number_of}
 use Rattle.plan_situations.specs.declared.readiness.Ready.{Ready}
 
--- A leg begins where the one before it ends, and the last one ends with the plan.
+-- A leg begins at the end of the one before it, and the last one ends with the plan.
 abbrev pub first_tick : ℕ → Grid → ℕ → ℕ
 first_tick now lattice leg = now + leg * lattice.leg_ticks
 
@@ -25,7 +25,7 @@ leg_fields now lattice ready plan leg =
 abbrev pub leg_rows : ℕ → Grid → Ready → List ℕ → List ℕ
 leg_rows now lattice ready plan = flat_map (λ leg. row_of (leg_fields now lattice ready plan leg)) (range_with_len 0 lattice.legs)
 
--- the legs of a plan, or that there is none
+-- the rows of a plan's legs, or the row that there is no plan
 abbrev pub manoeuvre_rows : ℕ → Grid → Ready → Option (List ℕ) → List ℕ
 manoeuvre_rows now lattice ready None = row_of (no_plan_fields (plans_of lattice))
 manoeuvre_rows now lattice ready (Some plan) = leg_rows now lattice ready plan

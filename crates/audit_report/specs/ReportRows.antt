@@ -1,4 +1,4 @@
--- The fields of each kind of row. A row has seven; what is not named is empty.
+-- The fields of each kind of row. A row has seven fields; those that are not named are empty.
 use Rattle.std.specs.Prelude.{ℕ, codes, Bool, true, false, List, [], ◌∷◌, Option, Some, None}
 use Rattle.std.specs.Fmt.{decimal, signed_decimal}
 use Rattle.std.specs.Option.{option_copied}
@@ -13,7 +13,8 @@ use Rattle.report_csv.specs.CsvRows.{optional_decimal, row_of, Fields}
 use Rattle.audit_report.specs.declared.report_row.ReportRow.{ReportRow}
 use Rattle.audit_report.specs.declared.report_row.ReportRow.TheVariants as row
 
--- the vessel, the time, the place to the east and to the north in tenths of a millimetre, speed and course where they are known
+-- the vessel, the time, the place to the east and to the north in tenths of a millimetre, speed and course if they are
+-- known
 abbrev pub point_fields : ℕ → ℕ → Point → Option ℕ → Option ℕ → Fields
 point_fields mmsi time point speed course =
     codes "point" ∷ decimal mmsi ∷ decimal time ∷ signed_decimal point.x ∷ signed_decimal point.y
@@ -53,7 +54,7 @@ abbrev pub optional_name : Option (List ℕ) → List ℕ
 optional_name None = []
 optional_name (Some name) = name
 
--- her name, her type, her length in metres, how many of her reports were accepted, and how many legs join them
+-- her name, her type, her length in metres, the number of her accepted reports, and the number of legs that join them
 abbrev pub vessel_fields : ℕ → Option (List ℕ) → ℕ → ℕ → ℕ → ℕ → Fields
 vessel_fields mmsi name kind length reports legs =
     codes "vessel" ∷ decimal mmsi ∷ optional_name name ∷ decimal kind ∷ decimal length ∷ decimal reports ∷ decimal legs ∷ []
@@ -63,7 +64,7 @@ abbrev pub total_fields : List ℕ → Total → Fields
 total_fields name total =
     codes "total" ∷ name ∷ decimal total.positions ∷ decimal total.yes ∷ decimal total.no ∷ decimal total.undecided ∷ decimal total.runs ∷ []
 
--- how many lines came to an outcome
+-- the number of lines of an outcome
 abbrev pub count_fields : LineOutcome → ℕ → Fields
 count_fields outcome count = codes "lines" ∷ outcome_name outcome ∷ decimal count ∷ [] ∷ [] ∷ [] ∷ [] ∷ []
 
@@ -72,11 +73,11 @@ abbrev pub plan_fields : ℕ → ℕ → ℕ → ℕ → ℕ → ℕ → Fields
 plan_fields number leg course speed first last =
     codes "plan" ∷ decimal number ∷ decimal leg ∷ decimal course ∷ decimal speed ∷ decimal first ∷ decimal last ∷ []
 
--- how many plans there are, if every plan fails
+-- the number of plans, if every plan fails
 abbrev pub no_plan_fields : ℕ → Fields
 no_plan_fields plans = codes "none" ∷ decimal plans ∷ [] ∷ [] ∷ [] ∷ [] ∷ [] ∷ []
 
--- the fields of a row, whose names are borrowed
+-- the fields of a row with borrowed names
 abbrev pub row_fields : ReportRow → Fields
 row_fields (row.Point mmsi time point speed course) = point_fields mmsi time point speed course
 row_fields (row.Meeting pair kind first last least) = meeting_fields pair kind first last least

@@ -1,4 +1,4 @@
--- The rows of the stretches that an audit finds.
+-- The rows of an audit's stretches.
 use Rattle.std.specs.Prelude.{ℕ, ◌<◌, ⊤, All, flat_map, length, List}
 use Rattle.report_csv.specs.CsvRows.{row_of, Fields}
 use Rattle.audit_report.specs.ReportRows.{meeting_fields, verdict_fields}

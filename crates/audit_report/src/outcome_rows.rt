@@ -1,4 +1,4 @@
-//! How many lines came to each outcome, as rows.
+//! The rows with the number of lines of each outcome.
 ghost use Rattle.std.specs.Prelude.{◌≡◌, ◌++◌, List, ℕ, OnOk, flat_map, slice_index};
 ghost use Rattle.report_csv.specs.CsvRows.{row_of};
 ghost use Rattle.audit_report.specs.ReportRows.{count_fields};
@@ -14,7 +14,7 @@ use crate::report_text::ReportText;
 use log_lines::{Judge, LineOutcome};
 use out_of_memory::Memory;
 
-/// All outcomes, in the order of the report.
+/// Returns all outcomes, in the order of the report.
 #[tactic(auto, unfolding(log_lines::specs::LineOutcomes::all_outcomes))]
 fn all_outcomes() -> &'static [LineOutcome]
     ensures { result.now ≡ all_outcomes }
@@ -44,7 +44,7 @@ fn write_each(
     Ok(())
 }
 
-/// Writes how many of the lines of a log came to each outcome, in the order of the report: a row for each of the 21.
+/// Writes the number of lines of each outcome: one row for each of the 21 outcomes, in the order of the report.
 pub fn write_counts(text: &mut ReportText, judge: &Judge) -> Result<(), Memory>
     ensures { OnOk result
         ((scenario : Scenario) (lines : List (List ℕ)) (front : List ℕ)

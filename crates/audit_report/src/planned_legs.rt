@@ -12,12 +12,12 @@ use lattice::{Lattice, Plan};
 use out_of_memory::Memory;
 use plan_situations::Ready;
 
-/// What determines the rows of the legs of a plan.
+/// The data that determines the rows of a plan's legs.
 #[derive(Clone, Copy)]
 pub struct PlannedLegs<'a> {
     /// The tick of now, at most 20,000.
     pub begin: u32,
-    /// The lattice that the plan is of.
+    /// The lattice of the plan.
     pub lattice: &'a Lattice,
     /// Own ship's course and speed now.
     pub ready: Ready,
@@ -72,7 +72,7 @@ impl PlannedLegs<'_> {
         Ok(())
     }
 
-    /// Writes the rows of a plan, or that there is none.
+    /// Writes the rows of a plan, or the row that there is none.
     pub fn write(&self, text: &mut ReportText, plan: Option<&Plan>) -> Result<(), Memory>
         requires begin { self.now.begin ≤ 20000 }
         requires course { self.now.ready.course < 3600 }

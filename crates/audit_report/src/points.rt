@@ -8,7 +8,7 @@ use crate::report_text::ReportText;
 use log_lines::Judged;
 use out_of_memory::Memory;
 
-/// Writes the rows of a line: that of its accepted report, if it has one.
+/// Writes the row of a line's accepted report, if the line has one.
 #[inline(always)]
 pub fn write_line(text: &mut ReportText, judged: &Judged) -> Result<(), Memory>
     ensures { OnOk result

@@ -25,7 +25,7 @@ pub enum ReportRow<'a> {
         kind: Class,
         first: u32,
         last: u32,
-        /// The least distance of all its steps.
+        /// The least distance in all its steps.
         least: u64,
     },
     /// A maximal stretch of steps at which a rule is broken, or stays undecided.
@@ -47,17 +47,17 @@ pub enum ReportRow<'a> {
         /// The step that decides it.
         decided: u32,
     },
-    /// A vessel that is held.
+    /// A vessel in the book.
     Vessel {
         mmsi: u32,
         name: Option<&'a Text20>,
-        /// The type of ship (ITU-R M.1371), 0 if it is not known.
+        /// The type of ship (ITU-R M.1371), 0 if unknown.
         kind: u8,
-        /// Her length in metres, 0 if it is not known.
+        /// Her length in metres, 0 if unknown.
         length: u32,
-        /// How many of her reports were accepted.
+        /// The number of her accepted reports.
         reports: u64,
-        /// How many legs join them.
+        /// The number of legs that join them.
         legs: u64,
     },
     /// The counts of a rule over all traces.
@@ -66,12 +66,12 @@ pub enum ReportRow<'a> {
         name: &'a [u8],
         total: Total,
     },
-    /// How many lines of the log had an outcome.
+    /// The number of lines of the log with an outcome.
     Lines {
         outcome: LineOutcome,
         count: u64,
     },
-    /// A leg of the plan that was found.
+    /// A leg of the plan.
     Plan {
         number: u32,
         leg: u8,

@@ -16,7 +16,7 @@ use report_csv::{digits, optional_digits, short_digits, signed_digits};
 use sectors::Class;
 use std::alloc::Global;
 
-/// Returns a kind of encounter by the name of its atom.
+/// Returns the name of a kind of encounter: that of its atom.
 fn kind_name(kind: Class) -> &'static str
     ensures { result.now ≡ kind_name kind }
 {
@@ -31,14 +31,15 @@ fn kind_name(kind: Class) -> &'static str
     }
 }
 
-/// Returns the name of a kind of stretch of a rule. The lifetime is the caller's, since a row has this name beside borrowed ones.
+/// Returns the name of a kind of stretch of a rule. The caller chooses the lifetime, because a row has this name next
+/// to borrowed ones.
 fn verdict_name<'a>(undecided: bool) -> &'a str
     ensures { result.now ≡ verdict_name undecided }
 {
     if undecided { "open" } else { "broken" }
 }
 
-/// Returns the bytes of a name, or nothing.
+/// Returns the bytes of a name, or no bytes without a name.
 fn optional_name<'a>(name: Option<&'a Text20>) -> &'a [u8]
     ensures { result.now ≡ optional_name (option_copied name.entry) }
 {
@@ -48,7 +49,7 @@ fn optional_name<'a>(name: Option<&'a Text20>) -> &'a [u8]
     }
 }
 
-/// The text of the rows that were written so far. One writer takes all rows, so a row needs no memory of its own.
+/// The text of the rows written so far. All rows share one buffer, so a row needs no memory of its own.
 #[derive(Drop)]
 pub struct ReportText {
     writer: Writer<Vec<u8>>,
@@ -60,7 +61,7 @@ impl ReportText {
     ghost use Rattle.audit_report.specs.ReportRows.{alarm_fields, count_fields, meeting_fields, no_plan_fields, plan_fields, point_fields, total_fields, verdict_fields, vessel_fields};
     ghost use Rattle.audit_report.specs.ReportTexts.{HasText};
 
-    /// Returns the text of no rows. This takes no memory.
+    /// Returns an empty text. This takes no memory.
     pub fn new(alloc: Global) -> ReportText
         ensures { HasText result [] }
     {
@@ -69,7 +70,7 @@ impl ReportText {
         }
     }
 
-    /// Writes a row of these fields. A writer over memory fails only if memory runs out; the text may then only be dropped.
+    /// Writes a row of these fields. It fails only if memory runs out; then the caller may only drop the text.
     #[tactic(auto, unfolding(report_csv::specs::CsvRows::row_of))]
     #[inline(always)]
     pub fn write_fields(&mut self, fields: &[&[u8]]) -> Result<(), Memory>
@@ -303,7 +304,7 @@ impl ReportText {
         ])
     }
 
-    /// Writes a row after those before it. If memory runs out, the text may only be dropped.
+    /// Appends a row. If memory runs out, the caller may only drop the text.
     #[inline(always)]
     pub fn write(&mut self, row: &ReportRow<'_>) -> Result<(), Memory>
         ensures { OnOk result
@@ -371,7 +372,7 @@ impl ReportText {
     }
 }
 
-/// The text of one row, as CSV with a line feed.
+/// Returns the text of one row, as CSV with a line feed.
 pub fn row_bytes(alloc: Global, row: &ReportRow<'_>) -> Result<Vec<u8>, Memory>
     ensures { IfOk result (λ bytes. bytes.items ≡ report_row_text row.now) }
 {

@@ -1,4 +1,4 @@
-//! The rows of the stretches that an audit finds.
+//! The rows of an audit's stretches.
 ghost use Rattle.std.specs.Prelude.{◌++◌, ℕ, List, OnOk};
 ghost use Rattle.report_csv.specs.CsvRows.{row_of};
 ghost use Rattle.audit_report.specs.ReportTexts.{HasText};

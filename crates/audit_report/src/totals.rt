@@ -1,4 +1,4 @@
-//! The rows of what each rule comes to.
+//! The rows of each rule's total.
 ghost use Rattle.std.specs.Prelude.{◌≡◌, ◌++◌, ℕ, List, OnOk, length};
 ghost use Rattle.audit_report.specs.ReportTexts.{HasText};
 ghost use Rattle.audit_report.specs.TotalRows.{total_rows};
@@ -9,7 +9,7 @@ use auditor::Total;
 use out_of_memory::Memory;
 use rule_set::RuleSet;
 
-/// Writes what each rule comes to, in the order of the rules.
+/// Writes the total of each rule, in the order of the rules.
 pub fn write_totals(text: &mut ReportText, rules: &RuleSet, totals: &[Total]) -> Result<(), Memory>
     requires { length totals.now ≡ length rules.now }
     ensures { OnOk result

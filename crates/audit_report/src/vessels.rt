@@ -1,4 +1,4 @@
-//! The rows of the vessels that are held.
+//! The rows of the vessels in the book.
 ghost use Rattle.std.specs.Prelude.{◌≡◌, ◌≢◌, ◌<◌, ◌^◌, ◌++◌, ℕ, List, All, OnOk, length, true};
 ghost use Rattle.std.specs.Option.{option_copied};
 ghost use Rattle.report_csv.specs.CsvRows.{row_of};
@@ -35,7 +35,7 @@ fn sent_name(statics: &Statics) -> Option<&Text20>
     statics.name.as_ref()
 }
 
-/// Writes the row of a vessel that is held, with the track that is stored of her.
+/// Writes the row of a vessel in the book, with her stored track.
 fn write_vessel(text: &mut ReportText, vessel: &HeldVessel<'_>) -> Result<(), Memory>
     ensures { OnOk result
         ((keeping : Keeping) (numbers : JudgingNumbers) (messages : List Sent) (front : List ℕ)
@@ -54,7 +54,7 @@ fn write_vessel(text: &mut ReportText, vessel: &HeldVessel<'_>) -> Result<(), Me
     })
 }
 
-/// Writes the row of the vessel of this identity, who is held.
+/// Writes the row of the vessel with this MMSI, which is in the book.
 fn write_vessel_of(text: &mut ReportText, book: &Book, mmsi: u32) -> Result<(), Memory>
     requires { book.now.keeping ≢ Latest }
     ensures { OnOk result
@@ -69,7 +69,7 @@ fn write_vessel_of(text: &mut ReportText, book: &Book, mmsi: u32) -> Result<(), 
     }
 }
 
-/// Writes the rows of all vessels that are held, in the order of their MMSIs.
+/// Writes the rows of all vessels in the book, in the order of their MMSIs.
 pub fn write_vessels(text: &mut ReportText, book: &Book) -> Result<(), Memory>
     requires { book.now.keeping ≢ Latest }
     ensures { OnOk result

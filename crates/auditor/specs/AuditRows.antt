@@ -13,12 +13,12 @@ module _ (numbers : AuditNumbers) (ticks : List Sighting) where
   abbrev pub IsAuditRow : Row → Type 0
   IsAuditRow row = (track : Track) × (IsTrack numbers ticks track × IsRowOf track row)
 
-  -- The rows hold each such row and nothing else, in order, and so each once.
+  -- The list has each such row and nothing else, in order, so each once.
   pub record AreAuditRows (rows : List Row) : Type 0 where
     pub each : (row : Row) → Contains rows row ↔ IsAuditRow row
     pub ordered : InOrder rows
 
-  -- the same of the rows that end below a bound
+  -- the same for the rows that end below a bound
   pub record AreAuditRowsBelow (bound : ℕ) (rows : List Row) : Type 0 where
     pub each : (row : Row) → Contains rows row ↔ (IsAuditRow row × (last_step_of row < bound))
     pub ordered : InOrder rows

@@ -1,4 +1,4 @@
--- What each rule comes to over all traces.
+-- The total of each rule over all traces.
 use Rattle.std.specs.Prelude.{ℕ, ◌≡◌, ◌≢◌, ◌<◌, Bool, true, false, List, length, map, slice_get, IsSomeAnd}
 use Rattle.std.specs.List.{AllPairs, Contains, filter, range_with_len, sum_by}
 use Rattle.mtl_formulas.specs.FormulaTree.{FormulaTree}
@@ -15,13 +15,13 @@ use Rattle.auditor.specs.declared.total.Total.{Total}
 
 -- ---- the traces
 
--- one trace, with what its steps answer to the atoms
+-- one trace, with the values of the atoms at its steps
 pub record Traced : Type 0 where
   pub pair : Pair
   pub start : ℕ
   pub trace : Trace
 
--- The list holds each trace once.
+-- The list has each trace once.
 pub record AreTraces (numbers : AuditNumbers) (ticks : List Sighting) (traces : List Traced) : Type 0 where
   pub each : (t : Traced) → Contains traces t → IsTraceOf numbers ticks t.pair t.start t.trace
   pub all : (pair : Pair) (start : ℕ) → Begins numbers ticks pair start → Contains (map (λ t. t.pair) traces) pair
@@ -35,7 +35,7 @@ is_value No No = true
 is_value Open Open = true
 is_value _ _ = false
 
--- how many positions of a trace there are at which the formula has the value
+-- the number of positions of a trace at which the formula has the value
 abbrev pub positions_with : Verdict → FormulaTree → Traced → ℕ
 positions_with value tree t = length (filter (λ i. is_value value (value_in t.trace tree i)) (range_with_len 0 (length t.trace)))
 

@@ -1,4 +1,4 @@
--- What stands at each position of a trace: for its meeting, and for each rule.
+-- The mark at each position of a trace: for its meeting, and for each rule.
 use Rattle.std.specs.Prelude.{ℕ, ◌≡◌, ◌≤◌, ◌<◌, ◌↔◌, List, length, Option, Some, IsSomeAnd}
 use Rattle.closest_approach.specs.Separation.{IsSeparated}
 use Rattle.sectors.specs.declared.class.Class.{Class}
@@ -23,7 +23,7 @@ use Rattle.traces.specs.Audited.{Begins, AuditNumbers, Sighting, terms_of, trace
 
 -- ---- a position of a trace with these steps
 
--- The step is separated by this distance, and by no greater.
+-- The step is separated by this distance, and by no greater one.
 abbrev pub IsLeastSeparation : ℕ → RelativeMove → Type 0
 IsLeastSeparation least step = (m : ℕ) → IsSeparated step m ↔ (m ≤ least)
 
@@ -31,7 +31,7 @@ IsLeastSeparation least step = (m : ℕ) → IsSeparated step m ↔ (m ≤ least
 abbrev pub IsKind : Detect → List (Option PairStep) → ℕ → Class → Type 0
 IsKind detect steps i kind = (state : EngagementState) × (IsState detect steps i state × (kind_of state ≡ Some kind))
 
--- Where they are engaged, the mark has the kind and the least distance of the step.
+-- If they are engaged, the mark has the kind and the least distance of the step.
 abbrev pub IsMeetingMark : Detect → List (Option PairStep) → ℕ → Mark → Type 0
 IsMeetingMark detect steps i Nothing = ¬ IsEngaged detect steps i
 IsMeetingMark detect steps i Broken = ⊥
@@ -48,7 +48,7 @@ module _ (numbers : AuditNumbers) (ticks : List Sighting) where
     pub count : length marks ≡ length (trace_steps numbers ticks pair start)
     pub each : (i : ℕ) → i < length marks → IsMeetingMark numbers.detect (trace_steps numbers ticks pair start) i (mark_at marks i)
 
-  -- what each step of the trace answers to the atoms, by the ranks at the tick at which the engagement there began
+  -- the values of the atoms at each step of the trace, by the ranks at the tick at which the engagement there began
   pub record IsTraceOf (pair : Pair) (start : ℕ) (trace : Trace) : Type 0 where
     pub begins : Begins numbers ticks pair start
     pub rows : AreRankedRows (terms_of numbers) (trace_ranks ticks pair start) (trace_steps numbers ticks pair start) trace

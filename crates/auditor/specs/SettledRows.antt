@@ -1,4 +1,4 @@
--- Which rows are decided by the ticks so far.
+-- The rows that the ticks so far decide.
 use Rattle.std.specs.Prelude.{ℕ, ◌+◌, ◌-◌, List, map}
 use Rattle.mtl_formulas.specs.FormulaTree.{FormulaTree}
 use Rattle.mtl_monitor.specs.Reaches.{greatest_reach}
@@ -8,11 +8,11 @@ use Rattle.traces.specs.Audited.{AuditNumbers}
 abbrev pub formulas_of : AuditNumbers → List FormulaTree
 formulas_of numbers = map (λ rule. rule.tree) numbers.rules
 
--- how many positions ahead the farthest of the rules looks
+-- the greatest reach of a rule, in positions
 abbrev pub audit_reach : AuditNumbers → ℕ
 audit_reach numbers = greatest_reach (formulas_of numbers)
 
--- The rows whose last step is below this bound are decided once tick k was given: the farthest rule looks so far ahead, and one
--- further position shows that a stretch has ended.
+-- Tick k decides the rows whose last step is below this bound: the greatest reach of a rule lies between, and one more
+-- position shows that a stretch has ended.
 abbrev pub settled_by : AuditNumbers → ℕ → ℕ
 settled_by numbers k = k - (audit_reach numbers + 1)

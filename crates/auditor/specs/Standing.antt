@@ -1,4 +1,4 @@
--- What an audit stands for: its numbers, the vessels seen at the ticks that it was given, and the rows that it has given.
+-- The model of an audit: its numbers, the vessels seen at the ticks so far, and the rows that it has returned.
 use Rattle.std.specs.Prelude.{ℕ, ◌≡◌, ◌++◌, List}
 use Rattle.audit_rows.specs.declared.row.Row.{Row}
 use Rattle.traces.specs.Audited.{AuditNumbers, SeenVessels, Sighting}
@@ -11,9 +11,9 @@ use Rattle.auditor.specs.Inner.TracesMarked.{audit_keeper}
 use Rattle.auditor.specs.declared.audit.Audit.{Audit}
 use Rattle.auditor.specs.declared.total.Total.{Total}
 
--- ---- what the audit is asked
+-- ---- the requests to the audit
 
--- how many ticks it was given, and how many the window has
+-- the number of ticks so far, and of ticks in the window
 abbrev pub given_of : Audit → ℕ
 given_of audit = followed.given_of audit.window.traces
 
@@ -24,18 +24,18 @@ last_tick_of audit = followed.last_tick_of audit.window.traces
 abbrev pub latest_vessels : Audit → SeenVessels
 latest_vessels audit = followed.latest_vessels audit.window.traces
 
--- ---- what each call finds and leaves, whatever it stands for
+-- ---- the state before and after each call, whatever the model
 
 abbrev pub IsSound : Audit → Type 0
 IsSound audit = IsSoundWindow (audit_keeper audit.window.keeper) audit.window.traces audit.window.kept.items
 
--- ---- what it stands for
+-- ---- the model
 
 pub record StandsFor (audit : Audit) (numbers : AuditNumbers) (ticks : List Sighting) (given : List Row) : Type 0 where
   pub knowns : List Known
   pub window : WindowStandsFor (audit_keeper audit.window.keeper) audit.window.traces audit.window.kept.items numbers ticks knowns given
 
--- It has ended with these totals, and put the rows that were not given behind others.
+-- It has ended with these totals, and appended the remaining rows to others.
 pub record HasEnded (audit : Audit) (before after : List Row) (totals : List Total) : Type 0 where
   pub rest : List Row
   pub behind : after ≡ before ++ rest

@@ -1,4 +1,4 @@
--- The tracks of traces, and what those of a rule come to. A total stands still at its type's end.
+-- The tracks of traces, and the totals of a rule's tracks. Totals saturate at the maximum of their type.
 use Rattle.std.specs.Prelude.{ℕ, zero, suc, ◌≡◌, ◌+◌, ◌<◌, ◌==◌, Bool, false, if◌then◌else◌, List, [], ◌∷◌, length, slice_get, IsSomeAnd}
 use Rattle.std.specs.List.{AllByRecursion, sum_by}
 use Rattle.meetings.specs.declared.pair.Pair.{Pair}
@@ -14,7 +14,7 @@ abbrev pub is_of_rule : ℕ → Topic → Bool
 is_of_rule rule (Meeting pair) = false
 is_of_rule rule (Verdict pair other) = other == rule
 
--- what a measure gives of the track's marks, if it is the rule's
+-- a measure of the track's marks, if the track belongs to the rule
 abbrev pub of_rule : ℕ → (List Mark → ℕ) → Track → ℕ
 of_rule rule measure track = if is_of_rule rule track.topic then measure track.marks else 0
 
@@ -33,17 +33,17 @@ abbrev pub AreTallies : List Total → ℕ → List Track → Type 0
 AreTallies totals rules tracks =
     (length totals ≡ rules) × ((rule : ℕ) → rule < rules → IsSomeAnd (slice_get totals rule) (Tallies rule tracks))
 
--- ---- as traces begin and marks come
+-- ---- when traces begin and marks are added
 
 abbrev pub pair_of : Topic → Pair
 pair_of (Meeting pair) = pair
 pair_of (Verdict pair rule) = pair
 
--- No track is one of the pair.
+-- No track belongs to the pair.
 abbrev pub IsUnknown : Pair → List Track → Type 0
 IsUnknown pair tracks = AllByRecursion (λ track. pair_of track.topic ≡ pair → ⊥) tracks
 
--- the tracks of so many rules, from the rule of this index on, with no marks yet
+-- the tracks of this many rules, from the rule at this index, without marks
 abbrev pub begun_rules : Pair → ℕ → ℕ → ℕ → List Track
 begun_rules pair start rule zero = []
 begun_rules pair start rule (suc count) = begun (Verdict pair rule) start ∷ begun_rules pair start (rule + 1) count

@@ -1,4 +1,4 @@
--- What is kept of one trace so far, and its tracks.
+-- The state of one trace so far, and its tracks.
 use Rattle.std.specs.Prelude.{ℕ, ◌≡◌, ◌+◌, ◌-◌, ◌<◌, List, [], ◌∷◌, ◌++◌, length, Option}
 use Rattle.mtl_formulas.specs.FormulaTree.{FormulaTree}
 use Rattle.mtl_formulas.specs.FormulaMeasures.{reach_of}
@@ -24,7 +24,7 @@ use Rattle.auditor.specs.declared.trace.AuditTrace.{AuditTrace}
 
 -- ---- its tracks
 
--- One mark for each step.
+-- One mark per step.
 pub record AreMeetingMarksSoFar (numbers : AuditNumbers) (steps : List (Option PairStep)) (marks : List Mark) : Type 0 where
   pub count : length marks ≡ length steps
   pub each : (i : ℕ) → i < length marks → IsMeetingMark numbers.detect steps i (mark_at marks i)
@@ -39,7 +39,7 @@ pub record AreRuleMarksWhole (tree : FormulaTree) (trace : Trace) (marks : List 
   pub count : length marks ≡ length trace
   pub each : (i : ℕ) → i < length marks → mark_at marks i ≡ mark_of (value_in trace tree i)
 
--- A track for each rule, from the rule of this index on.
+-- A track per rule, from the rule at this index.
 module _ (AreMarks : FormulaTree → Trace → List Mark → Type 0) (known : Known) where
   pub record IsRuleTrack (rule : ℕ) (tree : FormulaTree) (track : Track) : Type 0 where
     pub topic : track.topic ≡ topic.Verdict known.pair rule
@@ -68,14 +68,14 @@ AreTracksSoFar = AreTracks AreRuleMarksSoFar
 abbrev pub AreTracksWhole : AuditNumbers → Known → List Track → Type 0
 AreTracksWhole = AreTracks AreRuleMarksWhole
 
--- ---- what is kept of it
+-- ---- its state
 
--- It goes on by this program: no row has passed beyond its end.
+-- It continues with this program: no row has passed beyond its end.
 pub record IsReady (program : Program) (trace : AuditTrace) : Type 0 where
   pub fits : monitor.Fits program trace.values
   pub unended : monitor.past_of trace.values ≡ 0
 
--- how many steps it has
+-- the number of its steps
 abbrev pub steps_of : AuditTrace → ℕ
 steps_of trace = monitor.fed_of trace.values
 
@@ -84,9 +84,9 @@ pub record StandsFor (program : Program) (numbers : AuditNumbers) (trace : Audit
   pub rows : length known.trace ≡ length known.steps
   pub values : monitor.Follows program trace.values (formulas_of numbers) known.trace
 
--- ---- what a step and the end come to, among the tracks of other traces
+-- ---- the effect of a step and of the end, among the tracks of other traces
 
--- With the next step and its answers the trace has these tracks.
+-- After the next step and its values, the trace has these tracks.
 pub record Steps (program : Program) (numbers : AuditNumbers) (trace : AuditTrace) (known : Known) (seen : Option PairStep) (answers : Atom → Verdict) (queue : RowQueue)
     (before after : List Track) (bound : ℕ) (given : List Row) : Type 0 where
   pub stands : StandsFor program numbers trace (watched known seen answers)

@@ -1,4 +1,4 @@
--- What stands in a rule's track.
+-- The marks in a rule's track.
 use Rattle.mtl_formulas.specs.declared.verdict.Verdict.{Verdict}
 use Rattle.mtl_formulas.specs.declared.verdict.Verdict.TheVariants.{No, Open, Yes}
 use Rattle.audit_rows.specs.declared.mark.Mark.{Mark}

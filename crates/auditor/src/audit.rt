@@ -25,14 +25,14 @@ use scenario_values::Window;
 use std::alloc::Global;
 use traces::{AllTraces, TickFault, TraceWindow};
 
-/// The audit of a window. It stands for the vessels seen at the ticks that it was given, and for the rows that it has given.
+/// The audit of a window. Its model is the list of vessels seen at each tick so far, and the rows that it has returned.
 #[derive(Drop)]
 pub struct Audit {
     alloc: Global,
     window: TraceWindow<AuditKeeper>,
 }
 
-/// What the end of the window brings: the rows that were not given before, and the total of each rule.
+/// The results at the end of the window: the remaining rows, and the total of each rule.
 #[derive(Drop)]
 pub struct AuditEnd {
     pub rows: Vec<Row>,
@@ -74,9 +74,9 @@ impl Audit {
         })
     }
 
-    /// Takes the next tick if ranks do not count, and returns the further rows of the report. These vessels are seen at the tick, in
-    /// the order of their MMSIs. After call `k`, counted from 0, all rows whose last step is at most `k - R - 2` have been returned;
-    /// `R` is the greatest reach of a rule's formula. After an `Err` the audit may only be dropped.
+    /// Takes the vessels seen at the next tick, in the order of their MMSIs, if ranks do not count. Returns the next
+    /// rows of the report. After call `k`, counted from 0, all rows whose last step is at most `k - R - 2` have been
+    /// returned; `R` is the greatest reach of a rule's formula. After an `Err` the caller may only drop the audit.
     pub fn step(&mut self, seen: &[(u32, TickState)]) -> Result<Vec<Row>, TickFault>
         requires sound { IsSound self.old }
         requires ascending { AreAscending seen.now }
@@ -96,7 +96,7 @@ impl Audit {
             → StandsFor self.old numbers ticks given
             → AreAuditRowsBelow numbers (ticks ++ unranked seen.now ∷ [])
             (settled_by numbers (length ticks)) (given ++ rows.items)) }
-        // The limit is met exactly if the tick begins a 4097th trace; memory may run out before.
+        // The limit is exceeded exactly if the tick begins a 4097th trace; memory may run out before.
         ensures many { result ≡ Err TooManyPairs
             → (numbers : AuditNumbers) (ticks : List Sighting) (given : List Row)
             → StandsFor self.old numbers ticks given
@@ -109,7 +109,7 @@ impl Audit {
         self.step_ranked(seen, &[])
     }
 
-    /// Does the same if ranks count: they are those of the vessels seen, in the same order. A vessel without a rank is
+    /// Does the same if ranks count; `ranks` has the ranks of the vessels in the same order. A vessel without a rank is
     /// power-driven.
     pub fn step_ranked(
         &mut self,
@@ -137,7 +137,7 @@ impl Audit {
             → AreAuditRowsBelow numbers
             (ticks ++ record { vessels = seen.now; ranks = ranks.now } ∷ [])
             (settled_by numbers (length ticks)) (given ++ rows.items)) }
-        // The limit is met exactly if the tick begins a 4097th trace; memory may run out before.
+        // The limit is exceeded exactly if the tick begins a 4097th trace; memory may run out before.
         ensures many { result ≡ Err TooManyPairs
             → (numbers : AuditNumbers) (ticks : List Sighting) (given : List Row)
             → StandsFor self.old numbers ticks given
@@ -158,7 +158,7 @@ impl Audit {
         Ok(keeper.queue.rows_below(bound)?)
     }
 
-    /// Ends the audit after the last tick of the window. Returns the rows that were not returned before, and one total for each rule.
+    /// Ends the audit after the last tick of the window. Returns the remaining rows, and one total per rule.
     pub fn end(self) -> Result<AuditEnd, Memory>
         requires sound { IsSound self }
         requires all { given_of self ≡ last_tick_of self + 1 }
@@ -176,7 +176,7 @@ impl Audit {
         Ok(AuditEnd { rows, totals })
     }
 
-    /// Does the same, but appends the rows to others, so that no second list of them is made.
+    /// Does the same, but appends the rows to a list, which avoids a second one.
     pub fn end_into(self, rows: &mut Vec<Row>) -> Result<Vec<Total>, Memory>
         requires sound { IsSound self }
         requires all { given_of self ≡ last_tick_of self + 1 }

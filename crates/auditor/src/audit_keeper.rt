@@ -1,4 +1,4 @@
-//! What an audit does with each trace of a window: it marks the trace's tracks.
+//! The audit's part for each trace of a window: marking the trace's tracks.
 ghost use Rattle.std.specs.Prelude.{ℕ, ◌≡◌, ◌≤◌, ◌++◌, ◌^◌, List, OnOk};
 ghost use Rattle.meetings.specs.declared.pair.Pair.{Pair};
 ghost use Rattle.audit_rows.specs.Standing.{QueueStandsFor};
@@ -14,7 +14,7 @@ use out_of_memory::Memory;
 use std::alloc::Global;
 use traces::{NextRow, TraceKeeper};
 
-/// Marks the tracks of all traces: the meeting's, and then one for each rule, one trace after the other.
+/// Marks the tracks of all traces, one trace after the other: the track of the meeting, then one per rule.
 #[derive(Drop)]
 pub(crate) struct AuditKeeper {
     pub(crate) alloc: Global,
@@ -29,7 +29,7 @@ impl AuditKeeper {
     ghost use Rattle.mtl_monitor.specs.Following.{count_of};
     ghost use Rattle.traces.specs.declared.all_traces.TheConstants.{MOST_TRACES};
 
-    /// The index of the first track of the trace with this index.
+    /// Returns the index of the first track of the trace with this index.
     #[inline(always)]
     fn first_track(&self, index: usize) -> usize
         requires rules { count_of self.now.program ≤ 17 }
@@ -76,9 +76,9 @@ impl TraceKeeper for AuditKeeper {
     }
 }
 
-/// Begins the tracks of a pair's trace, after those that are there: the meeting's, and then one for each of so many rules, at most
-/// 2^32, since a row names its rule by 32 bits. No other trace may be of the pair, and it may begin at no step below the bound of the
-/// rows that were handed out.
+/// Appends the tracks of a new trace of a pair: the track of the meeting, then one for each of `rules` rules, at most
+/// 2^32, because a row names its rule by 32 bits. The pair must not have another trace, and the trace must not begin
+/// below the bound of the rows returned so far.
 pub fn begin_tracks(queue: &mut RowQueue, pair: Pair, rules: usize) -> Result<(), Memory>
     requires { rules ≤ 2 ^ 32 }
     ensures { OnOk result

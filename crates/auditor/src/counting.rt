@@ -1,4 +1,4 @@
-//! What each rule comes to, counted track by track.
+//! The totals of the rules, counted track by track.
 ghost use Rattle.std.specs.Prelude.{◌≡◌, ◌==◌, [], ℕ, List, length, IfOk};
 ghost use Rattle.audit_rows.specs.Standing.{QueueStandsFor};
 ghost use Rattle.audit_rows.specs.Tracks.{EndAt, Track};
@@ -11,7 +11,7 @@ use audit_rows::{MarkCounts, RowQueue, Topic};
 use out_of_memory::Memory;
 use std::alloc::Global;
 
-/// Counts a track for its rule, if it is a rule's.
+/// Counts a track for its rule, if it is the track of a rule.
 fn take_track(totals: &mut [Total], topic: Topic, counts: MarkCounts)
     ensures { AddsTrack (λ rule. is_of_rule rule topic) counts totals.old totals.new }
 {
@@ -30,7 +30,7 @@ fn take_rule(totals: &mut [Total], rule: usize, counts: MarkCounts)
     }
 }
 
-/// Counts all tracks, whose next marks would be for the step.
+/// Counts all tracks; their next marks would be for step `end`.
 fn take_tracks(totals: &mut [Total], queue: &RowQueue, end: u32)
     ensures as_many { length totals.new ≡ length totals.old }
     ensures tallies { (rules bound : ℕ) (tracks : List Track) (given : List Row)
@@ -44,7 +44,7 @@ fn take_tracks(totals: &mut [Total], queue: &RowQueue, end: u32)
     }
 }
 
-/// One total for each of so many rules, over all tracks, whose next marks would be for the step.
+/// Returns one total for each of `rules` rules over all tracks; their next marks would be for step `end`.
 pub fn totals_of(
     alloc: Global,
     queue: &RowQueue,

@@ -1,4 +1,4 @@
-//! Laws of an audit's rows and totals, and of the rules' values over traces, which stand over the definitions alone.
+//! Laws of an audit's rows and totals, and of the rules' values over traces. They follow from the definitions alone.
 ghost use Rattle.std.specs.Prelude.{ℕ, ◌≡◌, List, Option};
 ghost use Rattle.encounters.specs.declared.pair_step.PairStep.{PairStep};
 ghost use Rattle.meetings.specs.Atoms.{AreRankedRows};
@@ -13,13 +13,13 @@ ghost use Rattle.auditor.specs.declared.total.Total.{Total};
 ghost use Rattle.auditor.specs.AuditRows.{AreAuditRows};
 ghost use Rattle.auditor.specs.AuditTotals.{AreTotals};
 
-/// An audit has one list of rows at most.
+/// An audit has at most one list of rows.
 pub fn one_list_of_rows()
     ensures { (numbers : AuditNumbers) (ticks : List Sighting) (rows others : List Row)
         → AreAuditRows numbers ticks rows → AreAuditRows numbers ticks others → rows ≡ others }
 {}
 
-/// With its rows an audit has one list of totals at most, in whatever order its traces are listed.
+/// Besides its rows, an audit has at most one list of totals, whatever the order of its traces.
 pub fn one_list_of_totals()
     ensures { (numbers : AuditNumbers) (ticks : List Sighting) (rows : List Row)
         (totals others : List Total) → AreTotals numbers ticks rows totals

@@ -1,8 +1,8 @@
-//! The audit of a window of ticks: which ordered pairs of vessels met, from which step to which, and where each rule's formula
-//! is broken or stays undecided.
+//! The audit of a window of ticks: which ordered pairs of vessels met, from which step to which, and at which steps
+//! each rule's formula is broken or stays undecided.
 //!
-//! The vessels seen at each tick are given one tick after the other. The rows come in the order of the report, each as soon as no
-//! further tick can change it.
+//! The caller passes the vessels seen at each tick, one tick after the other. The audit returns the rows in the order
+//! of the report, each as soon as no later tick can change it.
 //!
 //! In the shipped head-on encounter each of the two vessels breaks `r14a` at step 23 and `r8d` from step 56 to step 62, and has a meeting as
 //! `head_on` from step 23 to step 66. The rows come in this order, that of their last steps. The total of `r8d` has 134 positions: 120

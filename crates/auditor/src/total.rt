@@ -1,26 +1,27 @@
-//! What a rule comes to over all traces.
+//! The total of a rule over all traces.
 ghost use Rattle.std.specs.Prelude.{◌≡◌};
 ghost use Rattle.auditor.specs.Inner.TrackCounts.{with_counts};
 
 use audit_rows::MarkCounts;
 
-/// How many positions of all traces there are, how many of them by the value of a rule's formula, and how often it is broken.
+/// The number of positions of all traces, their numbers by the value of a rule's formula, and the number of broken
+/// stretches.
 #[derive(Clone, Copy, Debug, Default, PartialEq, Eq)]
 pub struct Total {
     /// The positions of all traces.
     pub positions: u64,
-    /// Those at which the rule is kept.
+    /// The positions at which the rule is kept.
     pub yes: u64,
-    /// Those at which it is broken.
+    /// The positions at which it is broken.
     pub no: u64,
-    /// Those at which the trace ends before it is decided.
+    /// The positions at which the trace ends before it is decided.
     pub undecided: u64,
     /// The maximal stretches of broken positions.
     pub runs: u64,
 }
 
 impl Total {
-    /// Counts a track of the rule. A count stands still at its type's end.
+    /// Counts a track of the rule. Counts saturate at the maximum of their type.
     pub(crate) fn take(&mut self, counts: MarkCounts)
         ensures { self.new ≡ with_counts counts self.old }
     {

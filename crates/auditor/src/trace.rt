@@ -19,7 +19,8 @@ use out_of_memory::Memory;
 use std::alloc::Global;
 use traces::NextRow;
 
-/// What the meeting's track has at a step: the kind of the engagement, and the least distance within the step.
+/// Returns the mark of the meeting's track at a step: the kind of the engagement, and the least distance within the
+/// step.
 #[inline(always)]
 fn meeting_mark(state: &EngagementState, seen: Option<&PairStep>) -> Mark
     ensures { (detect : Detect) (steps : List (Option PairStep))
@@ -35,7 +36,7 @@ fn meeting_mark(state: &EngagementState, seen: Option<&PairStep>) -> Mark
     }
 }
 
-/// What a rule's track has at a position where its formula has this value.
+/// Returns the mark of a rule's track at a position at which its formula has this value.
 fn mark_of(value: Verdict) -> Mark
     ensures { result ≡ mark_of value }
 {
@@ -46,7 +47,7 @@ fn mark_of(value: Verdict) -> Mark
     }
 }
 
-/// Takes the next mark of the track at the index, which is for the step. Nothing is to be done for a mark that repeats the last.
+/// Adds the mark for the step to the track at the index. A mark that repeats the last one needs no work.
 #[inline(always)]
 fn mark_or_repeat(
     queue: &mut RowQueue,
@@ -67,7 +68,8 @@ fn mark_or_repeat(
     queue.mark(index, step, mark)
 }
 
-/// One trace: its first step, and the values of the rules' formulas so far. It stands for what the steps so far answer to the atoms.
+/// One trace: its first step, and the values of the rules' formulas so far. Its model is the list of the atoms' values
+/// at the steps so far.
 #[derive(Drop)]
 pub struct AuditTrace {
     start: u32,
@@ -108,7 +110,7 @@ impl AuditTrace {
         })
     }
 
-    /// Marks the position that the last row has decided for a rule, if there is one: the rule's track has this index.
+    /// Marks the position that the last row has decided for a rule, if there is one. The rule's track is at this index.
     fn mark_rule(
         &self,
         program: &Program,
@@ -127,7 +129,8 @@ impl AuditTrace {
         }
     }
 
-    /// Marks the positions that the last row has decided: the rules' tracks in the queue begin with that of rule 0 at this index.
+    /// Marks the positions that the last row has decided. The track of rule 0 is at this index in the queue, and the
+    /// others follow.
     fn mark_rules(
         &self,
         program: &Program,
@@ -146,7 +149,7 @@ impl AuditTrace {
         Ok(())
     }
 
-    /// Whether each formula has answered to a row before that of the step.
+    /// Returns whether each formula has read a row before the row of the step.
     #[inline(always)]
     fn has_answered(&self, program: &Program, step: u32) -> bool
         ensures { result ≡ true → (formulas : List FormulaTree) → IsProgramOf program.now formulas
@@ -155,7 +158,7 @@ impl AuditTrace {
         program.reach() < step.saturating_sub(self.start)
     }
 
-    /// Whether the trace has a step before this one, and the vessels were apart there and still are.
+    /// Returns whether the trace has a step before this one, and the vessels were apart there and still are.
     #[inline(always)]
     fn stays_apart(&self, was: &EngagementState, is: &EngagementState, step: u32) -> bool
         ensures was { result ≡ true → was.now ≡ Apart }
@@ -168,9 +171,9 @@ impl AuditTrace {
         }
     }
 
-    /// Takes the row of the next step: its tracks get the marks that the row decides. The meeting's track is the one at this index.
-    /// If no formula's value changes, the marks of the rules repeat and need no work. Nor does the mark of the meeting if the vessels
-    /// stay apart.
+    /// Takes the row of the next step and adds the marks that it decides to the trace's tracks. The meeting's track is
+    /// at this index. If no formula's value changes, the marks of the rules repeat and need no work. The mark of the
+    /// meeting needs none if the vessels stay apart.
     #[inline(always)]
     pub fn step(
         &mut self,
@@ -204,7 +207,7 @@ impl AuditTrace {
         self.mark_rules(program, queue, first + 1)
     }
 
-    /// Ends the trace: its tracks get the marks of all positions that are left.
+    /// Ends the trace and adds the marks of all remaining positions to its tracks.
     pub fn end(
         &mut self,
         program: &Program,

@@ -1,8 +1,8 @@
--- What is kept of each trace by one who counts its rows.
+-- The state of a trace in the keeper that counts rows.
 use Rattle.std.specs.Prelude.{ℕ}
 use Rattle.traces.specs.Keeping.{Keeper}
 
--- The number of its rows, and no more is said.
+-- The number of its rows, and nothing else.
 abbrev pub counted_rows : Keeper ℕ (Unit {0})
 counted_rows = record {
   Sound = Unit {0};

@@ -16,7 +16,7 @@ use std::alloc::Global;
 use std::process::Abort;
 use std::test::Fail;
 
-/// A watch of 40 ticks of 10 seconds, by these rules.
+/// Returns a watch of 40 ticks of 10 seconds, by these rules.
 fn watch(alloc: Global, rules: &RuleSet) -> Result<Watch, Memory>
     ensures sound { IfOk result (λ watch. IsSound watch) }
     ensures none { IfOk result (λ watch. given_of watch ≡ 0) }
@@ -31,7 +31,7 @@ fn watch(alloc: Global, rules: &RuleSet) -> Result<Watch, Memory>
     Watch::new(alloc, rules, DETECT, ACT, &ALL, window)
 }
 
-/// Keeps alarms, each with the tick at which it came.
+/// Collects alarms, each with the tick that returned it.
 fn keep(alarms: &mut Vec<(u32, Alarm)>, k: u32, given: &[Alarm]) -> Result<(), Memory> {
     for alarm in given {
         alarms.push((k, *alarm))?;
@@ -39,7 +39,7 @@ fn keep(alarms: &mut Vec<(u32, Alarm)>, k: u32, given: &[Alarm]) -> Result<(), M
     Ok(())
 }
 
-/// Takes a tick of the meeting, and keeps the alarms that come with it.
+/// Takes a tick of the meeting, and collects the alarms that it returns.
 fn take(watch: &mut Watch, k: u32, alarms: &mut Vec<(u32, Alarm)>) -> Result<(), WatchFault>
     requires sound { IsSound watch.old }
     requires at { given_of watch.old ≡ k }
@@ -56,7 +56,7 @@ fn take(watch: &mut Watch, k: u32, alarms: &mut Vec<(u32, Alarm)>) -> Result<(),
     Ok(keep(alarms, k, &given)?)
 }
 
-/// Takes all ticks of the meeting, and keeps the alarms that come with them.
+/// Takes all ticks of the meeting, and collects the alarms that they return.
 fn take_all(watch: &mut Watch, alarms: &mut Vec<(u32, Alarm)>) -> Result<(), WatchFault>
     requires sound { IsSound watch.old }
     requires none { given_of watch.old ≡ 0 }
@@ -69,7 +69,7 @@ fn take_all(watch: &mut Watch, alarms: &mut Vec<(u32, Alarm)>) -> Result<(), Wat
     Ok(())
 }
 
-/// Keeps the alarms of the meeting by these rules, each with the tick at which it came.
+/// Collects the alarms of the meeting by these rules, each with the tick that returned it.
 fn keep_all(
     alloc: Global,
     rules: &RuleSet,
@@ -79,10 +79,11 @@ fn keep_all(
     take_all(&mut watch, alarms)
 }
 
-/// The tick at which alarms come, the step that decides them, their pair and rule, and their positions, from one up to another.
+/// The tick that returns alarms, the step that decides them, their pair and rule, and their positions from one to
+/// another.
 type Told = (u32, u32, Pair, u32, u32, u32);
 
-/// Each alarm by itself.
+/// Returns each alarm separately.
 fn listed(alloc: Global, told: &[Told]) -> Result<Vec<(u32, Alarm)>, Memory> {
     let mut alarms = Vec::new(alloc);
     for (tick, decided, pair, rule, first, end) in told {
@@ -99,7 +100,7 @@ fn listed(alloc: Global, told: &[Told]) -> Result<Vec<(u32, Alarm)>, Memory> {
     Ok(alarms)
 }
 
-/// By these rules the alarms of the meeting are these.
+/// Checks that these are the alarms of the meeting by these rules.
 fn are_told(
     rt: &impl Abort,
     alloc: Global,
@@ -113,8 +114,8 @@ fn are_told(
     Ok(())
 }
 
-/// The fourth rule is broken at step 0, as step 6 decides; the second at steps 18 to 21, at which the vessels are not clear, as each
-/// of them decides.
+/// The fourth rule is broken at step 0, which step 6 decides. The second is broken at steps 18 to 21, at which the
+/// vessels are not clear; each of these steps decides itself.
 static BY_ELEVEN_RULES: [Told; 10] = [
     (7, 6, PAIR, 3, 0, 1),
     (7, 6, BACK, 3, 0, 1),
@@ -136,7 +137,7 @@ fn head_on_where_nobody_alters_is_told_at_the_steps_that_decide_it(
     are_told(&rt, rt.alloc(), &rules, &BY_ELEVEN_RULES)
 }
 
-/// Adds a rule that the vessels be clear for 600 seconds.
+/// Adds the rule that the vessels are clear for 600 seconds.
 fn add_long_rule(rt: &impl Abort, alloc: Global, rules: &mut RuleSet) -> Result<(), Fail> {
     assert!(rt; rules.len() < 17 && !rules.holds(b"u1"));
     let always = parse(alloc, b"G[0,600] clear(200)", 10)?;
@@ -144,7 +145,7 @@ fn add_long_rule(rt: &impl Abort, alloc: Global, rules: &mut RuleSet) -> Result<
     Ok(())
 }
 
-/// A rule that the vessels be clear for 600 seconds is broken up to step 21, and step 18 decides that of all steps before it.
+/// The rule that the vessels are clear for 600 seconds is broken up to step 21; step 18 decides all steps before it.
 static WITH_A_LONG_RULE: [Told; 18] = [
     (7, 6, PAIR, 3, 0, 1),
     (7, 6, BACK, 3, 0, 1),

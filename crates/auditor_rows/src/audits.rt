@@ -50,10 +50,10 @@ pub(crate) const NUMBERS: RuleNumbers = RuleNumbers {
     te: 600,
 };
 
-/// No subjects are named, so that all vessels are.
+/// No subjects, so that all vessels are subjects.
 pub(crate) static ALL: [u32; 0] = [];
 
-/// The ranks where they do not count.
+/// The ranks if they do not count.
 pub(crate) static UNRANKED: [Rank; 0] = [];
 
 pub(crate) const OWN: u32 = 369_190_000;
@@ -66,13 +66,13 @@ pub(crate) const PAIR: Pair = Pair {
     other: OTHER,
 };
 
-/// Those of the second.
+/// The duties of the second vessel towards the first.
 pub(crate) const BACK: Pair = Pair {
     subject: OTHER,
     other: OWN,
 };
 
-/// The eleven rules, or the twelve of an audit with ranks.
+/// Returns the eleven rules, or the twelve of an audit with ranks.
 fn rules(alloc: Global, ranked: bool) -> Result<RuleSet, Memory> {
     if ranked {
         RuleSet::new_ranked(alloc, &NUMBERS, 10)
@@ -81,7 +81,7 @@ fn rules(alloc: Global, ranked: bool) -> Result<RuleSet, Memory> {
     }
 }
 
-/// An audit of so many ticks of 10 seconds.
+/// Returns an audit of `ticks` ticks of 10 seconds.
 fn audit(alloc: Global, ranked: bool, ticks: u32) -> Result<Audit, Memory>
     requires { ticks ≤ 20000 }
     ensures sound { IfOk result (λ audit. IsSound audit) }
@@ -98,7 +98,7 @@ fn audit(alloc: Global, ranked: bool, ticks: u32) -> Result<Audit, Memory>
     Audit::new(alloc, &rules, DETECT, ACT, &ALL, window)
 }
 
-/// How far north of the middle the first vessel is at a tick.
+/// Returns the first vessel's distance north of the middle at a tick.
 fn north(k: u32) -> i64
     requires { k ≤ 40 }
     ensures { result ≡ pos (926000 * k) -ℤ pos 18520000 }
@@ -106,7 +106,7 @@ fn north(k: u32) -> i64
     926_000 * i64::from(k) - 18_520_000
 }
 
-/// How far north of the middle the second vessel is at a tick.
+/// Returns the second vessel's distance north of the middle at a tick.
 fn other_north(k: u32) -> i64
     requires { k ≤ 40 }
     ensures { result ≡ pos 18520000 -ℤ pos (926000 * k) }
@@ -114,7 +114,7 @@ fn other_north(k: u32) -> i64
     18_520_000 - 926_000 * i64::from(k)
 }
 
-/// The first vessel, which heads north at 18 knots, at a tick.
+/// Returns the first vessel, which heads north at 18 knots, at a tick.
 fn own_at(k: u32) -> TickState
     requires { k ≤ 40 }
     ensures { result ≡ own_at k }
@@ -126,7 +126,7 @@ fn own_at(k: u32) -> TickState
     }
 }
 
-/// Two vessels that meet head-on at 18 knots each, 18.52 metres aside of each other, at a tick.
+/// Returns two vessels at a tick that meet head-on at 18 knots each, 18.52 metres abeam of each other.
 pub(crate) fn head_on(k: u32) -> [(u32, TickState); 2]
     requires { k ≤ 40 }
     ensures { result ≡ head_on_at k }
@@ -147,7 +147,7 @@ pub(crate) fn head_on(k: u32) -> [(u32, TickState); 2]
     ]
 }
 
-/// A vessel that overtakes another, which lies still, 18.52 metres aside of her, at a tick.
+/// Returns a vessel at a tick that overtakes another, which is stopped, 18.52 metres abeam of her.
 fn overtaking(k: u32) -> [(u32, TickState); 2]
     requires { k ≤ 40 }
     ensures { result ≡ overtaking_at k }
@@ -165,15 +165,15 @@ fn overtaking(k: u32) -> [(u32, TickState); 2]
     ]
 }
 
-/// A meeting of the two vessels: whether the second lies still, and the ranks at the first tick and at all later ones, which are none
-/// where ranks do not count.
+/// A meeting of the two vessels: whether the second is stopped, and the ranks at the first tick and at all later ones;
+/// no ranks if they do not count.
 pub(crate) struct Encounter {
     pub(crate) still: bool,
     pub(crate) first: &'static [Rank],
     pub(crate) later: &'static [Rank],
 }
 
-/// The vessels at a tick.
+/// Returns the vessels at a tick.
 fn seen_at(still: bool, k: u32) -> [(u32, TickState); 2]
     requires { k ≤ 40 }
     ensures vessels { result ≡ seen_at still k }
@@ -183,7 +183,7 @@ fn seen_at(still: bool, k: u32) -> [(u32, TickState); 2]
     if still { overtaking(k) } else { head_on(k) }
 }
 
-/// The rows that come with a tick of these vessels.
+/// Returns the rows of a tick of these vessels.
 fn given(
     audit: &mut Audit,
     seen: &[(u32, TickState)],
@@ -206,7 +206,7 @@ fn given(
     }
 }
 
-/// Keeps rows, each with the tick at which it came.
+/// Collects rows, each with the tick that returned it.
 fn keep(rows: &mut Vec<(u32, Row)>, k: u32, given: &[Row]) -> Result<(), Memory> {
     for row in given {
         rows.push((k, *row))?;
@@ -214,7 +214,7 @@ fn keep(rows: &mut Vec<(u32, Row)>, k: u32, given: &[Row]) -> Result<(), Memory>
     Ok(())
 }
 
-/// Takes a tick of the meeting, and keeps the rows that come with it.
+/// Takes a tick of the meeting, and collects the rows that it returns.
 fn take(
     audit: &mut Audit,
     encounter: &Encounter,
@@ -242,7 +242,7 @@ fn take(
     Ok(keep(rows, k, &given)?)
 }
 
-/// Takes all ticks of the meeting, and keeps the rows that come with them.
+/// Takes all ticks of the meeting, and collects the rows that they return.
 fn take_all(
     audit: &mut Audit,
     encounter: &Encounter,
@@ -263,7 +263,8 @@ fn take_all(
     Ok(())
 }
 
-/// Audits the meeting in a window of so many ticks, keeps the rows that come before its end, and gives what the end brings.
+/// Audits the meeting in a window of `ticks` ticks, collects the rows before its end, and returns the results of the
+/// end.
 pub(crate) fn audited(
     alloc: Global,
     encounter: &Encounter,
@@ -277,7 +278,8 @@ pub(crate) fn audited(
     Ok(audit.end()?)
 }
 
-/// The totals of the meeting in a window of so many ticks, where these rows come before its end, each with its tick, and these with it.
+/// Returns the totals of the meeting in a window of `ticks` ticks. Checks the rows before its end, each with its tick,
+/// and the rows of the end.
 pub(crate) fn totals_behind(
     rt: &impl Abort,
     alloc: Global,
@@ -358,7 +360,7 @@ fn a_window_that_ends_early_leaves_open_what_is_not_decided(
     Ok(())
 }
 
-/// So many vessels that lie still in one point.
+/// Returns `vessels` stopped vessels at one point.
 fn still(alloc: Global, vessels: u32) -> Result<Vec<(u32, TickState)>, Memory>
     requires { vessels ≤ 1000 }
     ensures ascending { IfOk result (λ seen. AreAscending seen.items) }
@@ -378,7 +380,7 @@ fn still(alloc: Global, vessels: u32) -> Result<Vec<(u32, TickState)>, Memory>
     Ok(seen)
 }
 
-/// The rows of the first tick of so many vessels that lie still.
+/// Returns the rows of the first tick of `vessels` stopped vessels.
 fn first_tick(alloc: Global, vessels: u32) -> Result<Vec<Row>, AuditFault>
     requires { vessels ≤ 1000 }
 {

@@ -1,4 +1,4 @@
-//! When traces begin, and what their next steps bring.
+//! The beginnings of traces, and their next steps.
 ghost use Rattle.std.specs.Prelude.{◌≤◌, IfOk, OnOk};
 ghost use Rattle.traces.specs.Audited.{MoveLittle};
 ghost use Rattle.traces.specs.Standing.{IsSound, latest_vessels};
@@ -16,7 +16,7 @@ use std::alloc::Global;
 use std::process::Abort;
 use traces::{AllTraces, TickFault, TraceWindow};
 
-/// The traces of the meeting after its first tick, in a window of so many ticks.
+/// Returns the traces of the meeting after its first tick, in a window up to this last tick.
 fn begun(alloc: Global, last_tick: u32) -> Result<AllTraces, TickFault>
     requires { last_tick ≤ 40 }
     ensures sound { IfOk result (λ traces. IsSound traces) }
@@ -28,7 +28,7 @@ fn begun(alloc: Global, last_tick: u32) -> Result<AllTraces, TickFault>
     Ok(traces)
 }
 
-/// The pair of a trace, where there is one of this index.
+/// Returns the pair of the trace with this index, if there is one.
 fn pair_at(traces: &AllTraces, index: usize) -> Option<Pair> {
     if index < traces.len() {
         Some(traces.pair(index))
@@ -37,7 +37,8 @@ fn pair_at(traces: &AllTraces, index: usize) -> Option<Pair> {
     }
 }
 
-/// The pairs of the first three traces, and how many ticks were given, the last one's number and how many traces there are.
+/// The pairs of the first three traces, the number of ticks so far, the number of the last one, and the number of
+/// traces.
 type Summary = ([Option<Pair>; 3], u32, u32, usize);
 
 fn told(traces: &AllTraces) -> Summary {
@@ -45,7 +46,7 @@ fn told(traces: &AllTraces) -> Summary {
     (pairs, traces.given(), traces.last_tick(), traces.len())
 }
 
-/// They are these for the traces of the meeting after its first tick.
+/// Checks that these are the traces of the meeting after its first tick.
 fn are_begun(
     rt: &impl Abort,
     alloc: Global,
@@ -72,7 +73,7 @@ fn no_trace_begins_at_the_last_tick(rt: HostRuntime) -> Result<(), TickFault> {
     are_begun(&rt, rt.alloc(), 0, ([None; 3], 1, 0, 0))
 }
 
-/// The kind of the engagement, where the vessels are engaged.
+/// Returns the kind of the engagement, if the vessels are engaged.
 fn kind_of(state: &EngagementState) -> Option<Class> {
     match state {
         EngagementState::Apart => None,
@@ -83,7 +84,7 @@ fn kind_of(state: &EngagementState) -> Option<Class> {
 /// The kinds of the engagement of a trace before and at the step to the second tick, and whether both vessels are seen at that step.
 type Stepped = (Option<Class>, Option<Class>, bool);
 
-/// Takes this step, where there is a trace of this index.
+/// Takes this step in the trace with this index, if there is one.
 fn take_first_step(traces: &mut AllTraces, index: usize) -> Option<Stepped>
     requires sound { IsSound traces.old }
     requires moves { MoveLittle (latest_vessels traces.old) (head_on_at 1) }
@@ -106,7 +107,7 @@ fn the_first_step_of_a_meeting_begins_an_engagement(rt: HostRuntime) -> Result<(
     Ok(())
 }
 
-/// The window of the meeting after its first three ticks, whose keeper counts rows.
+/// Returns the window of the meeting after its first three ticks, whose keeper counts rows.
 fn counted(alloc: Global) -> Result<TraceWindow<RowCounter>, TickFault>
     ensures { IfOk result (λ window. IsSoundWindow counted_rows window.traces window.kept.items) }
 {

@@ -1,4 +1,4 @@
-//! Which vessels are in contact.
+//! The vessels in contact.
 ghost use Rattle.std.specs.Prelude.{◌≡◌, ◌≤◌, ◌^◌, length, IfOk};
 ghost use Rattle.encounters.specs.Directions.{HasDirection};
 ghost use Rattle.fixed_geometry.specs.Sizes.{IsBelow};
@@ -29,7 +29,7 @@ fn vessel(mmsi: u32, x: i32, y: i32) -> (u32, TickState)
     (mmsi, state)
 }
 
-/// Vessels at these points, whose MMSIs are 10, 20, 30 and so on.
+/// Returns vessels at these points with the MMSIs 10, 20, 30 and so on.
 fn fleet(alloc: Global, points: &[(i32, i32)]) -> Result<Vec<(u32, TickState)>, Memory>
     requires { length points.now ≤ 1000 }
     ensures ascending { IfOk result (λ seen. AreAscending seen.items) }
@@ -90,7 +90,7 @@ fn of_the_others_none_but_those_near_a_subject_are_found(rt: HostRuntime) -> Res
     are_in_contact(&rt, rt.alloc(), &SUBJECTS, &NEAR_A_SUBJECT)
 }
 
-/// Points as a linear congruence gives them.
+/// Fills points from a linear congruential generator.
 fn scatter(points: &mut [(i32, i32)]) {
     let mut seed: u32 = 1;
     for point in points {
@@ -101,7 +101,7 @@ fn scatter(points: &mut [(i32, i32)]) {
     }
 }
 
-/// Each pair of vessels in contact, the one of the lesser MMSI first, as each vessel is held against each.
+/// Returns each pair of vessels in contact, the lesser MMSI first, by comparing each vessel with each other.
 fn all_against_all(
     alloc: Global,
     seen: &[(u32, TickState)],
@@ -124,7 +124,7 @@ fn all_against_all(
     Ok(pairs)
 }
 
-/// A hundred vessels.
+/// Returns a hundred vessels.
 fn scattered(alloc: Global) -> Result<Vec<(u32, TickState)>, Memory>
     ensures ascending { IfOk result (λ seen. AreAscending seen.items) }
     ensures placed { IfOk result (λ seen. ArePlaced seen.items) }
@@ -146,7 +146,7 @@ fn the_sweep_finds_what_all_against_all_finds(rt: HostRuntime) -> Result<(), Mem
     Ok(())
 }
 
-/// Where the vessel of an MMSI is, if she is seen.
+/// Returns the point of the vessel with this MMSI, if she is seen.
 fn point_of(seen: &[(u32, TickState)], mmsi: u32) -> Option<Point>
     requires { AreAscending seen.now }
 {
@@ -164,7 +164,7 @@ static SOUGHT: [(u32, Option<Point>); 6] = [
     (31, None),
 ];
 
-/// Of vessels at these points those that are sought have these points.
+/// Checks that a search among vessels at these points finds these points.
 fn are_found(
     rt: &impl Abort,
     alloc: Global,

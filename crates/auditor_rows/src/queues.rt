@@ -1,4 +1,4 @@
-//! What a queue does with the marks of tracks.
+//! A queue and the marks of its tracks.
 use crate::compared::is;
 use audit_rows::{Mark, Row, RowQueue, Topic};
 use auditor::{Total, begin_tracks, totals_of};
@@ -7,7 +7,7 @@ use out_of_memory::Memory;
 use std::alloc::Global;
 use std::process::Abort;
 
-/// What is done to a queue.
+/// An operation on a queue.
 pub(crate) enum Step {
     /// The tracks of a pair's trace begin, by so many rules.
     Trace(Pair, u16),
@@ -15,16 +15,16 @@ pub(crate) enum Step {
     Track(Topic),
     /// The track at an index gets the mark for a step.
     Mark(usize, u32, Mark),
-    /// The further rows below a bound are taken, which are these.
+    /// Taking the next rows below a bound returns these.
     Below(u32, &'static [Row]),
 }
 
 pub(crate) static NO_ROWS: [Row; 0] = [];
 
-/// The totals of no rule.
+/// The totals without rules.
 pub(crate) static NO_TOTALS: [Total; 0] = [];
 
-/// A queue gives these rows below a bound.
+/// Checks that a queue returns these rows below a bound.
 fn gives_below(
     rt: &impl Abort,
     queue: &mut RowQueue,
@@ -48,7 +48,7 @@ fn take(rt: &impl Abort, queue: &mut RowQueue, step: &Step) -> Result<(), Memory
     }
 }
 
-/// Does all this.
+/// Runs these operations.
 pub(crate) fn take_all(
     rt: &impl Abort,
     queue: &mut RowQueue,
@@ -60,7 +60,7 @@ pub(crate) fn take_all(
     Ok(())
 }
 
-/// Where all tracks end at a step, the rules come to these totals.
+/// Checks that the rules have these totals if all tracks end at a step.
 fn has_totals(
     rt: &impl Abort,
     alloc: Global,
@@ -73,7 +73,7 @@ fn has_totals(
     Ok(())
 }
 
-/// Where all tracks end at a step, a queue gives these rows, and the rules come to these totals.
+/// Checks that a queue returns these rows, and that the rules have these totals, if all tracks end at a step.
 pub(crate) fn ends_with(
     rt: &impl Abort,
     alloc: Global,
@@ -88,7 +88,7 @@ pub(crate) fn ends_with(
     Ok(())
 }
 
-/// The same of a queue to which this is done.
+/// Checks the same for a queue after these operations.
 pub(crate) fn comes_to(
     rt: &impl Abort,
     alloc: Global,

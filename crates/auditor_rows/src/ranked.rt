@@ -10,12 +10,13 @@ use sectors::Class;
 use std::alloc::Global;
 use std::process::Abort;
 
-/// How many positions broke `r18`, the last of the twelve rules.
+/// Returns the number of positions that broke `r18`, the last of the twelve rules.
 fn broken_by_rank(totals: &[Total]) -> Option<u64> {
     Some(totals.get(11)?.no)
 }
 
-/// Checks that these are the rows of 40 ticks, that none comes with the end, and how many positions broke the last of twelve rules.
+/// Checks that these are the rows of 40 ticks, that the end returns none, and the number of positions that broke the
+/// last of twelve rules.
 fn comes_to(
     rt: &impl Abort,
     alloc: Global,
@@ -50,7 +51,8 @@ static FISHES_ROWS: [(u32, Row); 7] = [
     (33, Row::Meeting { pair: BACK, kind: Class::HeadOn, first: 0, last: 25, least: 185_200 }),
 ];
 
-/// A power-driven vessel keeps out of the way of one that fishes, and may go to port of her (Rule 18 (a)).
+/// A power-driven vessel keeps out of the way of a vessel engaged in fishing, and may pass to port of her (Rule 18
+/// (a)).
 #[test]
 fn head_on_with_a_vessel_that_fishes(rt: HostRuntime) -> Result<(), AuditFault> {
     comes_to(&rt, rt.alloc(), &FISHES, &FISHES_ROWS, 4)
@@ -62,13 +64,13 @@ static BEGINS_TO_FISH: Encounter = Encounter {
     later: FISHING,
 };
 
-/// Her rank where the engagement began counts, so that both stay power-driven, as where ranks do not count.
+/// Her rank at the start of the engagement counts, so both stay power-driven, as without ranks.
 #[test]
 fn a_vessel_that_begins_to_fish_during_an_engagement(rt: HostRuntime) -> Result<(), AuditFault> {
     comes_to(&rt, rt.alloc(), &BEGINS_TO_FISH, &HEAD_ON_ROWS, 0)
 }
 
-/// The verdicts on the first vessel in these rows: the rule of each, and its first and last step.
+/// Returns the verdicts on the first vessel in these rows: the rule of each, and its first and last step.
 fn own_verdicts(alloc: Global, rows: &[(u32, Row)]) -> Result<Vec<(u32, u32, u32)>, Memory> {
     let mut own = Vec::new(alloc);
     for (_, row) in rows {
@@ -96,7 +98,7 @@ static OVERTAKES: Encounter = Encounter {
 
 static OVERTAKES_VERDICTS: [(u32, u32, u32); 3] = [(7, 0, 0), (1, 17, 22), (2, 17, 22)];
 
-/// The verdicts on the first vessel in 40 ticks, and how many positions broke the last rule.
+/// Returns the verdicts on the first vessel in 40 ticks, and the number of positions that broke the last rule.
 fn verdicts_on_own(
     alloc: Global,
     encounter: &Encounter,

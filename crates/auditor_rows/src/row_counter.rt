@@ -1,9 +1,9 @@
-//! A further keeper of traces, which counts the rows of each.
+//! Another keeper of traces, which counts the rows of each.
 use meetings::Pair;
 use out_of_memory::Memory;
 use traces::{NextRow, TraceKeeper};
 
-/// How many rows each trace has had that has ended.
+/// The number of rows of each trace that has ended.
 #[derive(Drop)]
 pub(crate) struct RowCounter {
     pub(crate) ended: Vec<u32>,

@@ -100,7 +100,7 @@ const ROWS: [(ReportRow<'static>, &str); 9] = [
     (ReportRow::NoPlan { plans: 1 }, "none,1,,,,,\n"),
 ];
 
-/// Each row is written as the text beside it.
+/// Checks that each row is written as the text next to it.
 fn are_written(
     rt: &impl Abort,
     alloc: Global,

@@ -147,7 +147,7 @@ static ALL_ROWS: [Row; 3] = [
     Row::Verdict { pair: PAIR, rule: 0, undecided: false, first: 3, last: 3 },
 ];
 
-/// Checks the rows below step 1, and after them those that are left if all tracks end at step 4.
+/// Checks the rows below step 1, and then the remaining rows if all tracks end at step 4.
 fn early_and_late_are(
     rt: &impl Abort,
     alloc: Global,

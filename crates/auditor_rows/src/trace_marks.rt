@@ -30,7 +30,8 @@ fn state(direction: u16) -> TickState
     }
 }
 
-/// A step of two vessels that meet head-on at 18 knots each, 18.52 metres aside of each other and so far apart along their tracks.
+/// Returns a step of two vessels that meet head-on at 18 knots each, 18.52 metres abeam of each other and this far
+/// apart along their tracks.
 fn head_on(ahead: i64) -> Option<PairStep>
     ensures { IfSome result HaveDirections }
 {
@@ -77,7 +78,7 @@ fn take(
     trace.step(program, next, step, queue, 0)
 }
 
-/// Takes steps of a head-on meeting, by their numbers and by how far apart the vessels are along their tracks.
+/// Takes steps of a head-on meeting, given their numbers and the vessels' distance along their tracks.
 fn take_all(
     trace: &mut AuditTrace,
     follower: &mut Follower,
@@ -97,7 +98,7 @@ fn take_all(
     Ok(())
 }
 
-/// A program with one more formula, at a tick of 10 seconds.
+/// Returns a program with one more formula, at a tick of 10 seconds.
 fn with_formula(alloc: Global, program: Program, text: &[u8]) -> Result<Program, Fail>
     requires { length text.now ≤ 1024 }
     ensures { IfOk result (λ more. count_of more ≡ count_of program + 1) }
@@ -106,7 +107,7 @@ fn with_formula(alloc: Global, program: Program, text: &[u8]) -> Result<Program,
     Ok(program.with(&formula)?)
 }
 
-/// Whether the vessels are engaged, and whether they are so within two steps.
+/// Returns two rules: the vessels are engaged, and they are engaged within two steps.
 fn two_rules(alloc: Global) -> Result<Program, Fail>
     ensures { IfOk result (λ program. count_of program ≡ 2) }
 {
@@ -131,7 +132,7 @@ fn take_whole(
     trace.end(program, queue, 0)
 }
 
-/// The tracks of a trace of these steps by the two rules.
+/// Returns the tracks of a trace of these steps by the two rules.
 fn tracks_of(alloc: Global, steps: &[(u32, i64)]) -> Result<RowQueue, Fail>
     requires { length steps.now < 2 ^ 31 }
 {

@@ -10,9 +10,9 @@ use motion::Step;
 /// An instant of a step: `a / b` of a tick after its beginning, from 0 to 1.
 #[derive(Clone, Copy, Debug, PartialEq, Eq)]
 pub struct Moment {
-    /// The parts of the tick that are over.
+    /// The elapsed parts of the tick.
     pub a: u64,
-    /// The parts of a tick, above 0.
+    /// The number of parts of a tick, above 0.
     pub b: u64,
 }
 
@@ -23,7 +23,7 @@ pub(crate) struct SquaredDistance {
     pub(crate) under: u128,
 }
 
-/// The dot product of the displacement and its change: below 0 if the vessels close.
+/// Returns the dot product of the displacement and its change: below 0 if the vessels close.
 fn along(step: &Step) -> i128
     ensures value { result ≡ dot_of step.now.p step.now.w }
     ensures small { unsigned_abs result ≤ 2 ^ 61 }
@@ -31,7 +31,7 @@ fn along(step: &Step) -> i128
     dot(step.p(), step.w())
 }
 
-/// The size of their cross product.
+/// Returns the size of their cross product.
 fn aside(step: &Step) -> u128
     ensures value { result ≡ unsigned_abs (turn_of step.now.p step.now.w) }
     ensures small { result ≤ 2 ^ 61 }
@@ -39,7 +39,7 @@ fn aside(step: &Step) -> u128
     turn(step.p(), step.w()).unsigned_abs()
 }
 
-/// The square of the change.
+/// Returns the square of the change.
 fn length2(step: &Step) -> u128
     ensures value { pos result ≡ norm2_of step.now.w }
     ensures small { result ≤ 2 ^ 53 }
@@ -47,7 +47,7 @@ fn length2(step: &Step) -> u128
     norm2(step.w())
 }
 
-/// One component of the displacement after whole ticks.
+/// Returns one component of the displacement after whole ticks.
 fn component(p: i64, w: i64, ticks: u64) -> i64
     requires p_small { unsigned_abs p ≤ 2 ^ 34 }
     requires w_small { unsigned_abs w ≤ 2 ^ 26 }
@@ -58,7 +58,7 @@ fn component(p: i64, w: i64, ticks: u64) -> i64
     p + w * ticks as i64
 }
 
-/// The square of the distance after whole ticks.
+/// Returns the square of the distance after whole ticks.
 fn square_at_tick(step: &Step, ticks: u64) -> u128
     requires { ticks ≤ 7200 }
     ensures { pos result ≡ norm2_of (displacement_at step.now ticks 1) }
@@ -71,7 +71,7 @@ fn square_at_tick(step: &Step, ticks: u64) -> u128
     })
 }
 
-/// The instant of least distance among those up to `ticks` ticks after the beginning.
+/// Returns the instant of least distance among those up to `ticks` ticks after the beginning.
 pub(crate) fn nearest(step: &Step, ticks: u32) -> Moment
     requires { ticks ≤ 7200 }
     ensures value { result ≡ nearest_of step.now ticks }
@@ -95,9 +95,9 @@ pub(crate) fn nearest(step: &Step, ticks: u32) -> Moment
     }
 }
 
-/// The square of the least distance up to `ticks` ticks after the beginning. Within a tick it is the square of the turn by
-/// that of the change, since `|w|^2 |b p + a w|^2 = (b p.w + a |w|^2)^2 + b^2 turn(p, w)^2`, where the first square
-/// vanishes at the instant of least distance.
+/// Returns the square of the least distance up to `ticks` ticks after the beginning. Within a tick it is the square of
+/// the turn by that of the change, since `|w|^2 |b p + a w|^2 = (b p.w + a |w|^2)^2 + b^2 turn(p, w)^2`, where the
+/// first square vanishes at the instant of least distance.
 pub(crate) fn least_square(step: &Step, ticks: u32) -> SquaredDistance
     requires { ticks ≤ 7200 }
     ensures some { 0 < result.under }

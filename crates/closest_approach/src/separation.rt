@@ -1,4 +1,4 @@
-//! What the least distance decides.
+//! Predicates that the least distance decides.
 ghost use Rattle.std.specs.Prelude.{ℕ, ◌≡◌, ◌*◌, ◌<◌, ◌≤◌, ◌^◌, ◌↔◌, IsTrue, IsNone, IfSome};
 ghost use Rattle.closest_approach.specs.Separation.{nearest_of, EntersWithin, IsNearer, IsNearest, IsSeparated, IsSeparatedByEnds};
 
@@ -14,8 +14,8 @@ fn is_at_least(distance: SquaredDistance, r: u64) -> bool
     square(r) * distance.under <= distance.over
 }
 
-/// Whether the distance is at least `r` tenths of a millimetre, below 2^31, at every rational instant of the step. The two ends
-/// and one comparison of squares decide it.
+/// Returns whether the distance is at least `r` tenths of a millimetre, below 2^31, at every rational instant of the
+/// step. The two ends and one comparison of squares decide it.
 pub fn separated(step: &Step, r: u64) -> bool
     requires { r < 2 ^ 31 }
     ensures exact { IsTrue result ↔ IsSeparated step.now r }
@@ -24,8 +24,8 @@ pub fn separated(step: &Step, r: u64) -> bool
     is_at_least(least_square(step, 1), r)
 }
 
-/// Whether the distance is less than `r` tenths of a millimetre at some rational instant up to `ticks` ticks after the
-/// beginning, at most 7200, if both vessels go on as in the step.
+/// Returns whether the distance is less than `r` tenths of a millimetre at some rational instant up to `ticks` ticks
+/// after the beginning, at most 7200, if both vessels continue as in the step.
 pub fn enters_within(step: &Step, r: u64, ticks: u32) -> bool
     requires r { r < 2 ^ 31 }
     requires ticks { ticks ≤ 7200 }
@@ -34,8 +34,8 @@ pub fn enters_within(step: &Step, r: u64, ticks: u32) -> bool
     !is_at_least(least_square(step, ticks), r)
 }
 
-/// The greatest whole number of tenths of a millimetre by which the step is separated: it is separated by each number up to
-/// this one, and by no greater.
+/// Returns the greatest whole number of tenths of a millimetre by which the step is separated: it is separated by each
+/// number up to this one, and by no greater.
 pub fn least(step: &Step) -> u64
     ensures exact { (m : ℕ) → IsSeparated step.now m ↔ (m ≤ result) }
     ensures ends { (m : ℕ) → IsSeparatedByEnds step.now m ↔ (m ≤ result) }
@@ -44,8 +44,9 @@ pub fn least(step: &Step) -> u64
     isqrt(square.over / square.under)
 }
 
-/// The instant of least distance, at which the distance is less than `r` tenths of a millimetre: `0 / 1` if the vessels draw apart, `1 / 1`
-/// if they close up to the end, and otherwise `-p.w / |w|^2`, not reduced. `None` if the step is separated by `r`.
+/// Returns the instant of least distance, at which the distance is less than `r` tenths of a millimetre: `0 / 1` if the
+/// vessels draw apart, `1 / 1` if they close up to the end, and otherwise `-p.w / |w|^2`, not reduced. `None` if the
+/// step is separated by `r`.
 pub fn entry(step: &Step, r: u64) -> Option<Moment>
     requires { r < 2 ^ 31 }
     ensures none { IsNone result ↔ IsSeparated step.now r }

@@ -1,4 +1,4 @@
-//! The program: `run` over the words, the files and the standard streams of the runtime.
+//! The program: calls `run` with the arguments, the files and the standard streams of the runtime.
 #![tactic(auto)]
 
 use colregs_program::{Status, run};
@@ -10,7 +10,7 @@ use std::process::ExitCode;
 use std::{env, io};
 use thiserror::Error;
 
-/// The exit status if the runtime does not give the arguments. `run` never gives it.
+/// The exit status if the runtime cannot provide the arguments. `run` never returns it.
 const NO_WORDS: u8 = 20;
 
 /// Why the arguments are not available.
@@ -34,7 +34,7 @@ impl From<Memory> for WordsFault {
     }
 }
 
-/// The arguments after the program's name.
+/// Returns the arguments after the program's name.
 fn words(rt: &HostRuntime) -> Result<Vec<Word>, WordsFault> {
     let mut words = Vec::new(rt.alloc());
     for word in env::args(rt)?.skip(1) {
@@ -46,7 +46,7 @@ fn words(rt: &HostRuntime) -> Result<Vec<Word>, WordsFault> {
     Ok(words)
 }
 
-/// Writes what the program says about itself to standard output.
+/// Writes the help text or the version to standard output.
 fn write_info(rt: &HostRuntime, request: InfoRequest) -> Status {
     let Ok(text) = info_text(rt.alloc(), request) else {
         let _ = eprintln!(rt; "memory");

@@ -36,19 +36,22 @@ use outside::{Shelf, Sink, Source, Word};
 use sessions::laws::one_answer;
 use std::alloc::Global;
 
-/// Runs the program with these words, which do not hold its own name, and which `clap` reads by the command `colregs`.
+/// Runs the program with these arguments, without its own name. `clap` reads them by the command `colregs`.
 ///
-/// `points SCENARIO` reads the scenario of that name from the shelf and the log to its end, and writes the report of `points` to `out`,
-/// each row as soon as the log read so far decides it: a row for each accepted report in the order of the log, and then how many lines
-/// came to each outcome. `audit SCENARIO` writes the report of `audit`: a row for each meeting and for each stretch on which a rule is
-/// broken or undecided, in their order, then the vessels, what each rule comes to, and the outcomes. `plan SCENARIO` takes the last tick
-/// as now and writes the report of `plan`: own ship and the vessels near her, the legs of the first of her plans that newly breaks no rule
-/// and enters no domain, or that there is none, and the outcomes. `drill SCENARIO` makes the log of forty vessels instead of reading one,
-/// audits it, and writes what each rule comes to, and the outcomes. `migrate SCENARIO` writes the scenario as one of version 2, and looks
-/// at no log. `recheck SCENARIO` reads rows `why` from the shelf too, under the name that `--rows` gives, and writes that there is no plan where they say
-/// rightly why, without a search. `--start` and `--ticks` replace the scenario's own start and length of the window.
+/// - `points SCENARIO` reads the scenario of that name from `shelf` and the log to its end. It writes a row for each accepted report, in
+///   the order of the log and once the log read so far decides it, then the number of lines of each outcome.
+/// - `audit SCENARIO` writes a row for each meeting and for each stretch on which a rule is broken or undecided, in their order, then the
+///   vessels, the totals of each rule, and the outcomes.
+/// - `watch SCENARIO` writes a row for each step at which a rule is broken, with the step that decides it, then the outcomes.
+/// - `plan SCENARIO` takes the last tick as now. It writes own ship and the vessels near her, then the legs of her first plan that newly
+///   breaks no rule and enters no domain, or that there is none, and the outcomes.
+/// - `drill SCENARIO` makes the log of forty vessels instead of reading one, audits it, and writes the totals of each rule, and the outcomes.
+/// - `recheck SCENARIO` also reads rows `why` from `shelf`, from the name that `--rows` gives. If they show that every plan fails, it writes
+///   that there is no plan. It does not search.
+/// - `migrate SCENARIO` writes the scenario in version 2, and reads no log.
 ///
-/// What `err` gets names the fault. A run that stops before the log's end has written what the log before that place decides.
+/// `--start` and `--ticks` replace the scenario's own start and length of the window. One line on `err` names the fault. A run that stops
+/// before the end of the log has written what the log before that place decides.
 pub fn run<H: Shelf, S: Source, K: Sink, E: Sink>(
     alloc: Global,
     words: &[Word],

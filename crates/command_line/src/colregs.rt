@@ -12,16 +12,16 @@ const STATUSES_AND_EXAMPLE: &str = "\
 Statuses:
   0  the report is written whole
   1  every plan fails, and the report says so
-  2  the words are no command line
+  2  invalid command line
   3  the scenario has a fault
-  4  the scenario is not to be read
-  5  the log is not to be read
-  6  the report is not to be written
-  7  a limit is passed
-  8  there is no memory
+  4  the scenario cannot be read
+  5  the log cannot be read
+  6  the report cannot be written
+  7  a limit is exceeded
+  8  out of memory
   9  own ship's state is not known
- 10  the rows do not say rightly why there is no plan
- 20  the system does not give the words
+ 10  the rows do not show that every plan fails
+ 20  the system does not provide the arguments
 
 Example:
   colregs audit scenario.toml --ticks 60 < log.nmea";
@@ -139,7 +139,7 @@ fn why<'a>(alloc: Global) -> Arg<'a>
     flag(
         alloc,
         "why",
-        "Say of each plan why it fails, where every plan does",
+        "If every plan fails, report why each one fails",
     )
 }
 

@@ -1,4 +1,4 @@
--- The limits of vessels and traces that a log may meet.
+-- The limits of vessels and traces for a log.
 use Rattle.std.specs.Prelude.{ℕ, ◌≡◌, List, false, take}
 use Rattle.log_lines.specs.GrowingLog.{ended_lines}
 use Rattle.log_lines.specs.JudgedLines.{is_crowded}
@@ -11,8 +11,8 @@ use Rattle.settling.specs.ScenarioAudit.{audit_numbers}
 use Rattle.traces.specs.ManyTraces.{HaveMoreThan}
 use Rattle.traces.specs.declared.all_traces.TheConstants.{MOST_TRACES}
 
--- No more vessels are held than a book can hold, and no more traces begin than are followed: in the whole log, and in what is ended of
--- each of its fronts.
+-- Neither the limit of vessels in a book nor the limit of traces is exceeded: in the whole log, and in the ended lines
+-- of each of its prefixes.
 pub record MeetsNoLimit (scenario : Scenario) (log : List ℕ) : Type 0 where
   pub calm : is_crowded scenario (lines_of log) ≡ false
   pub few : HaveMoreThan MOST_TRACES (audit_numbers scenario) (sighted scenario (sent scenario (lines_of log))) → ⊥

@@ -1,4 +1,4 @@
-//! What may be relied on of the log of a drill. The law follows from the definitions alone.
+//! A law about the log of a drill, which follows from the definitions alone.
 ghost use Rattle.std.specs.Prelude.{ℕ};
 ghost use Rattle.scenario_values.specs.ValueRanges.{IsWindow};
 ghost use Rattle.scenario_values.specs.declared.values.Scenario.{Scenario};
@@ -7,7 +7,7 @@ ghost use Rattle.drill_laws.specs.Limits.{MeetsNoLimit};
 
 use log_lines::laws::ended_lines_stay;
 
-/// A drill's log never makes more vessels held than a book can hold, nor more traces begin than are followed, wherever it is cut.
+/// No prefix of a drill's log has more vessels than a book can store, or begins more traces than an audit can follow.
 pub fn a_drill_meets_no_limit()
     ensures { (scenario : Scenario) (seed : ℕ) → IsWindow scenario.window
         → MeetsNoLimit scenario (drill_log_of scenario seed) }

@@ -1,8 +1,7 @@
-//! The fleet of a drill: forty vessels, so that a drill meets no limit of vessels or of traces.
+//! The fleet of a drill: forty vessels, so that a drill exceeds no limit of vessels or traces.
 //!
-//! If a run that makes its own log is refused, the cause is in the bytes of the log: the law states why. Forty vessels have 1560 pairs,
-//! and an audit
-//! follows 4096 traces at most. Nothing of the kind holds for a log that is read.
+//! If the program refuses a run that makes its own log, the cause is in the bytes of the log; the law states why. Forty
+//! vessels have 1560 ordered pairs, and an audit follows at most 4096 traces. A log from a file has no such law.
 #![tactic(auto)]
 
 pub mod laws;

@@ -1,10 +1,10 @@
--- What may be relied on of each report of a drill.
+-- Facts about each report of a drill.
 use Rattle.std.specs.Prelude.{◌≡◌, ◌+◌, ◌*◌, ◌≤◌}
 use Rattle.ais_messages.specs.MessageFields.{IsReport}
 use Rattle.scenario_values.specs.declared.values.Window.{Window}
 use Rattle.drill_log.specs.DrillLog.{TimedReport}
 
--- It is of one of the forty vessels and in the window.
+-- It comes from one of the forty vessels and is in the window.
 pub record IsDrillReport (window : Window) (timed : TimedReport) : Type 0 where
   pub ranges : IsReport timed.report
   pub kind : timed.report.kind ≡ 1

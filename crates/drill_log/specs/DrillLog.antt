@@ -1,6 +1,6 @@
--- The log of the drill. Forty vessels start about the reference and keep their courses and speeds; each reports at tick 0 and each
--- minute from then on. Where they start and how they go is drawn from a seed. Arcs are in ten thousandths of a minute, positive to
--- the north and to the east.
+-- The log of the drill. Forty vessels start around the reference and keep their courses and speeds. Each reports at
+-- tick 0 and at each minute after it. Start places, courses and speeds are drawn from a seed. Arcs are in ten
+-- thousandths of a minute, positive to the north and to the east.
 use Rattle.std.specs.Prelude.{ℕ, zero, suc, ◌+◌, ◌*◌, ◌/◌, ◌%◌, ◌^◌, nat_le, List, [], ◌∷◌, ◌++◌, map, flat_map, Option, Some, None, ℤ, pos, ◌+ℤ◌, ◌-ℤ◌, ◌*ℤ◌, unsigned_abs}
 use Rattle.std.specs.List.{range_with_len}
 use Rattle.aivdm.specs.SentenceWriting.{line_of}
@@ -14,7 +14,7 @@ use Rattle.fixed_geometry.specs.declared.point.Point.{Point}
 use Rattle.scenario_values.specs.declared.values.Scenario.{Scenario}
 use Rattle.scenario_values.specs.declared.values.Window.{Window}
 
--- ---- what is drawn
+-- ---- the drawn numbers
 
 -- a linear congruential generator
 abbrev pub next_state : ℕ → ℕ
@@ -25,23 +25,23 @@ unfoldable pub state_of : ℕ → ℕ → ℕ
 state_of seed zero = seed
 state_of seed (suc steps) = next_state (state_of seed steps)
 
--- the number that a state gives, from minus `half` to `half`; the lowest eight bits of a state are left out
+-- the number of a state, from minus `half` to `half`, without the lowest eight bits of the state
 abbrev pub centred : ℕ → ℕ → ℤ
 centred half state = pos ((state / 256) % (2 * half + 1)) -ℤ pos half
 
 abbrev pub drawn : ℕ → ℕ → ℕ → ℤ
 drawn half seed steps = centred half (state_of seed steps)
 
--- ---- a vessel, by her number from 0 on
+-- ---- a vessel, by her number from 0
 
--- how far from the reference she starts
+-- her start place relative to the reference
 abbrev pub start_of : ℕ → ℕ → Place
 start_of seed vessel = record {
   latitude = drawn 20000 seed (4 * vessel + 1);
   longitude = drawn 20000 seed (4 * vessel + 2);
 }
 
--- how far she goes in a minute, `y` to the north and `x` to the east
+-- her displacement per minute, `y` to the north and `x` to the east
 abbrev pub way_of : ℕ → ℕ → Point
 way_of seed vessel = record {
   x = drawn 1500 seed (4 * vessel + 4);
@@ -52,7 +52,7 @@ way_of seed vessel = record {
 abbrev pub root_of : ℕ → ℕ
 root_of n = greatest_below (n + 1) (λ root. nat_le (root * root) n)
 
--- the speed of such a way, in tenths of a knot: a minute of arc in an hour is a knot
+-- the speed of such a displacement, in tenths of a knot: a minute of arc per hour is a knot
 abbrev pub speed_of : Point → ℕ
 speed_of way = 6 * root_of (unsigned_abs (norm2_of way)) / 100
 
@@ -62,7 +62,7 @@ speed_of way = 6 * root_of (unsigned_abs (norm2_of way)) / 100
 abbrev pub coordinate_after : ℤ → ℤ → ℤ → ℕ → ℤ
 coordinate_after reference start way minutes = reference +ℤ start +ℤ pos minutes *ℤ way
 
--- where she is, unless that is not on the Earth
+-- her place, if it is on the Earth
 abbrev pub place_after : Place → ℕ → ℕ → ℕ → Option (ℤ × ℤ)
 place_after reference seed vessel minutes =
     place_of (coordinate_after reference.latitude (start_of seed vessel).latitude (way_of seed vessel).y minutes)

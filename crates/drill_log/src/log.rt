@@ -18,9 +18,10 @@ use std::alloc::Global;
 /// A line has at most this many bytes: 18 of the tag block, 47 of the sentence, and LF.
 const LINE_BYTES: usize = 66;
 
-/// The log of the drill with this seed, 0 to 999999: each of forty vessels at tick 0 and each minute of the window from then on.
+/// The log of the drill with this seed, 0 to 999999: one report of each of forty vessels at tick 0 and at each minute
+/// of the window after it.
 ///
-/// Its lines are ordered by their times, and at one time by the vessels' identities, which are 200000001 to 200000040. There are at most
+/// Its lines are ordered by time, and lines of the same time by MMSI, from 200000001 to 200000040. There are at most
 /// 800,040 lines of at most 66 bytes.
 pub fn drill_log(alloc: Global, scenario: &Scenario, seed: u32) -> Result<Vec<u8>, Memory>
     requires window { IsWindow scenario.now.window }
@@ -39,7 +40,7 @@ pub fn drill_log(alloc: Global, scenario: &Scenario, seed: u32) -> Result<Vec<u8
     )
 }
 
-/// The lines of the vessels' reports from one minute until before another.
+/// Returns the lines of the vessels' reports from one minute to before another.
 pub(crate) fn lines_between(
     alloc: Global,
     vessels: &[Vessel],
@@ -65,7 +66,7 @@ pub(crate) fn lines_between(
     Ok(lines)
 }
 
-/// The whole minutes of a window.
+/// Returns the whole minutes of a window.
 pub(crate) fn minutes_in(window: Window) -> u32
     requires { IsWindow window }
     ensures value { result ≡ minutes_in window }

@@ -1,4 +1,4 @@
-//! The log of the drill is made while it is read.
+//! Making the log of the drill while it is read.
 ghost use Rattle.std.specs.Prelude.{◌≡◌, ◌+◌, ◌-◌, ◌*◌, ◌<◌, ◌≤◌, [], All, IfOk, Some, false, flat_map, length, true};
 ghost use Rattle.std.specs.List.{range_with_len};
 ghost use Rattle.outside.specs.Streams.{Gives, ReadCause};
@@ -15,14 +15,14 @@ use outside::{PlainSource, Source, Taken};
 use scenario_values::Scenario;
 use std::alloc::Global;
 
-/// The lines of this many minutes are made at a time, which are about a block.
+/// The minutes whose lines are made at a time: about one block.
 const MINUTES: u32 = 24;
 
-/// A read gives this many bytes at most.
+/// The most bytes of a read.
 const BLOCK: usize = 65536;
 
 impl MinuteLog {
-    /// The log of the drill with this seed.
+    /// Returns the log of the drill with this seed.
     pub(crate) fn new(alloc: Global, scenario: &Scenario, seed: u32) -> Result<MinuteLog, Memory>
         requires window { IsWindow scenario.now.window }
         requires seed { seed ≤ 999999 }
@@ -41,7 +41,7 @@ impl MinuteLog {
         })
     }
 
-    /// Makes the lines of the next minutes, if minutes are left; returns whether they are.
+    /// Makes the lines of the next minutes; returns whether any minutes were left.
     fn make(&mut self) -> Result<bool, Memory>
         requires { self.old.block.left ≡ [] }
         ensures left { left_of self.new ≡ left_of self.old }
@@ -67,7 +67,7 @@ impl MinuteLog {
         Ok(true)
     }
 
-    /// Reads of what is left.
+    /// Reads from the remaining lines.
     pub(crate) fn read(&mut self, room: &mut [u8]) -> Taken
         requires { 0 < length room.old }
         ensures bytes { Gives (Some (left_of self.old)) (Some (left_of self.new)) room.new result }

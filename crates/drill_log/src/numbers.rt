@@ -1,8 +1,8 @@
-//! The numbers that are drawn from a seed.
+//! Pseudorandom numbers from a seed.
 ghost use Rattle.std.specs.Prelude.{◌≡◌, ◌<◌, ◌≤◌, ◌^◌, unsigned_abs};
 ghost use Rattle.drill_log.specs.DrillLog.{centred, next_state};
 
-/// A linear congruential generator. Its lowest bits are of short periods, so eight of them are left out.
+/// A linear congruential generator. It drops its lowest eight bits, because they have short periods.
 #[derive(Drop)]
 pub(crate) struct DrawnNumbers {
     pub(crate) state: u32,
@@ -10,7 +10,7 @@ pub(crate) struct DrawnNumbers {
 }
 
 impl DrawnNumbers {
-    /// The generator in the state that is the seed.
+    /// Returns a generator with the seed as its state.
     pub(crate) fn new(seed: u32) -> DrawnNumbers
         requires { seed < 2 ^ 31 }
         ensures { result.state ≡ seed }
@@ -18,7 +18,7 @@ impl DrawnNumbers {
         DrawnNumbers { state: seed }
     }
 
-    /// The next number, from `-half` to `half`.
+    /// Returns the next number, from `-half` to `half`.
     pub(crate) fn draw(&mut self, half: u32) -> i32
         requires { half ≤ 20000 }
         ensures state { self.new.state ≡ next_state self.old.state }

@@ -11,8 +11,8 @@ use scenario_values::Scenario;
 use std::alloc::Global;
 use std::marker::Model;
 
-/// The log of a drill, made while it is read: the lines of a few minutes are held, and no more. A read fails if there is no memory
-/// to make them, and nowhere else.
+/// The log of a drill, made while it is read. It stores only the lines of a few minutes. A read fails only if memory
+/// runs out.
 #[derive(Drop)]
 pub struct DrillSource {
     log: MinuteLog,
@@ -28,7 +28,7 @@ impl Model for DrillSource {
 }
 
 impl DrillSource {
-    /// The log of the drill with this seed, 0 to 999999: that of [`drill_log`](crate::drill_log).
+    /// Returns the log of the drill with this seed, 0 to 999999: that of [`drill_log`](crate::drill_log).
     pub fn new(alloc: Global, scenario: &Scenario, seed: u32) -> Result<DrillSource, Memory>
         requires window { IsWindow scenario.now.window }
         requires seed { seed ≤ 999999 }

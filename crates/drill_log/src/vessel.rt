@@ -13,18 +13,18 @@ use fixed_geometry::{Point, Reference, bearing, isqrt, norm2};
 use out_of_memory::Memory;
 use std::alloc::Global;
 
-/// How many vessels there are.
+/// The number of vessels.
 pub(crate) const VESSELS: u32 = 40;
 
 /// A vessel that keeps her course and speed. Arcs are in ten thousandths of a minute.
 #[derive(Clone, Copy)]
 pub(crate) struct Vessel {
     pub(crate) mmsi: u32,
-    /// How far north of the reference she starts.
+    /// Her distance north of the reference at the start.
     pub(crate) north: i32,
-    /// How far east of the reference she starts.
+    /// Her distance east of the reference at the start.
     pub(crate) east: i32,
-    /// How far she goes in a minute.
+    /// Her displacement in a minute.
     pub(crate) way: Point,
     /// In tenths of a knot.
     pub(crate) speed: u16,
@@ -32,7 +32,7 @@ pub(crate) struct Vessel {
     pub(crate) course: Option<u16>,
 }
 
-/// How long a way is, rounded down.
+/// Returns the length of a displacement, rounded down.
 fn length(way: Point) -> u64
     requires { IsWithin 1500 way }
     ensures value { result ≡ root_of (unsigned_abs (norm2_of way)) }
@@ -41,7 +41,7 @@ fn length(way: Point) -> u64
     isqrt(norm2(way))
 }
 
-/// The speed of a way a minute, in tenths of a knot: a minute of arc in an hour is a knot.
+/// Returns the speed of a displacement per minute, in tenths of a knot: a minute of arc per hour is a knot.
 fn speed(way: Point) -> u16
     requires { IsWithin 1500 way }
     ensures value { result ≡ speed_of way }
@@ -58,7 +58,7 @@ fn product(minutes: u32, way: i64) -> i64
     i64::from(minutes) * way
 }
 
-/// One component of the way in this many minutes.
+/// Returns one component of the displacement in this many minutes.
 fn gone(minutes: u32, way: i64) -> i64
     requires minutes { minutes ≤ 20000 }
     requires way { unsigned_abs way ≤ 1500 }
@@ -68,7 +68,7 @@ fn gone(minutes: u32, way: i64) -> i64
     product(minutes, way)
 }
 
-/// A latitude or a longitude after this many minutes.
+/// Returns a latitude or a longitude after this many minutes.
 fn reached(reference: i32, start: i32, way: i64, minutes: u32) -> i32
     requires reference { unsigned_abs reference ≤ 108000000 }
     requires start { unsigned_abs start ≤ 20000 }
@@ -80,7 +80,7 @@ fn reached(reference: i32, start: i32, way: i64, minutes: u32) -> i32
 }
 
 impl Vessel {
-    /// The vessel with this identity and the next four numbers.
+    /// Returns the vessel with this MMSI, drawn with the next four numbers.
     fn draw(numbers: &mut DrawnNumbers, mmsi: u32) -> Vessel
         requires mmsi_from { 200000000 ≤ mmsi }
         requires mmsi_to { mmsi ≤ 799999999 }
@@ -108,7 +108,7 @@ impl Vessel {
         }
     }
 
-    /// Her report this many minutes after tick 0.
+    /// Returns her report this many minutes after tick 0.
     pub(crate) fn report(&self, reference: Reference, minutes: u32) -> PositionReport
         requires vessel { IsVessel self.now }
         requires minutes { minutes ≤ 20000 }
@@ -131,7 +131,7 @@ impl Vessel {
     }
 }
 
-/// The vessels of a seed.
+/// Returns the vessels of a seed.
 pub(crate) fn vessels(alloc: Global, seed: u32) -> Result<Vec<Vessel>, Memory>
     requires { seed ≤ 999999 }
     ensures figures { IfOk result

@@ -21,7 +21,7 @@ abbrev pub alarm_cmp : Alarm → Alarm → Ordering
 alarm_cmp a b =
     ordering_then (nat_cmp a.decided b.decided) (ordering_then (pair_cmp a.pair b.pair) (ordering_then (nat_cmp a.rule b.rule) (nat_cmp a.position b.position)))
 
--- They ascend strictly, so none is there twice.
+-- They ascend strictly, so none occurs twice.
 abbrev pub InOrder : List Alarm → Type 0
 InOrder alarms = IsStrictlySortedBy alarm_cmp alarms
 
@@ -32,7 +32,7 @@ abbrev pub tree_of_rule : List NamedTree → ℕ → FormulaTree
 tree_of_rule rules rule = (rule_at rules rule).tree
 
 module _ (numbers : AuditNumbers) (ticks : List Sighting) where
-  -- A rule is broken at a position of a trace, and exactly the trace's first steps up to the deciding one decide that.
+  -- A rule is broken at a position of a trace, and exactly the trace's first steps up to the deciding one decide this.
   pub record IsAlarm (alarm : Alarm) : Type 0 where
     pub within : alarm.rule < length numbers.rules
     pub known : Known
@@ -45,12 +45,12 @@ module _ (numbers : AuditNumbers) (ticks : List Sighting) where
     pub deciding : alarm.decided + 1 ≡ known.start + count
     pub decided : IsDecided (tree_of_rule numbers.rules alarm.rule) known.trace at count
 
-  -- The list holds each of them and nothing else, in order.
+  -- The list has each of them and nothing else, in order.
   pub record AreAlarms (alarms : List Alarm) : Type 0 where
     pub each : (alarm : Alarm) → Contains alarms alarm ↔ IsAlarm alarm
     pub ordered : InOrder alarms
 
-  -- the same of those that the step to the last of these ticks decides
+  -- the same for the alarms that the step to the last of these ticks decides
   pub record AreAlarmsNow (alarms : List Alarm) : Type 0 where
     pub each : (alarm : Alarm) → Contains alarms alarm ↔ (IsAlarm alarm × (alarm.decided + 2 ≡ length ticks))
     pub ordered : InOrder alarms

@@ -1,4 +1,4 @@
-//! The alarms of one step, as they are found trace by trace, and in order.
+//! The alarms of one step, collected trace by trace and kept in order.
 ghost use Rattle.std.specs.Prelude.{◌≡◌, ◌<◌, ◌^◌, IfOk, IfSome, OnOk, Some, true};
 ghost use Rattle.early_monitor.specs.Alarms.{InOrder};
 ghost use Rattle.early_monitor.specs.Inner.Breaches.{Adds, IsNotBroken, Tells, alarm_at};
@@ -11,7 +11,7 @@ use out_of_memory::Memory;
 use std::alloc::Global;
 use std::collections::BTreeSet;
 
-/// Where a rule is checked: the trace by its pair and its first step, the rule, and the latest step.
+/// The place of a check: the trace, given by its pair and its first step, the rule, and the latest step.
 #[derive(Clone, Copy)]
 pub(crate) struct Place {
     pub(crate) pair: Pair,
@@ -20,7 +20,7 @@ pub(crate) struct Place {
     pub(crate) step: u32,
 }
 
-/// Adds the alarm of a position of the trace, which the latest step has decided.
+/// Adds the alarm of a position of the trace that the latest step has decided.
 pub(crate) fn add_alarm(
     alarms: &mut BTreeSet<Alarm>,
     place: Place,
@@ -40,7 +40,7 @@ pub(crate) fn add_alarm(
     Ok(())
 }
 
-/// Adds the alarm of a position with this value, if that is No.
+/// Adds the alarm of a position if its value is No.
 pub(crate) fn take_value(
     alarms: &mut BTreeSet<Alarm>,
     place: Place,
@@ -58,7 +58,7 @@ pub(crate) fn take_value(
     }
 }
 
-/// Adds the alarm of an answer, that of its position, if its value is No.
+/// Adds the alarm of an answer's position if its value is No.
 pub(crate) fn take_answer(
     alarms: &mut BTreeSet<Alarm>,
     place: Place,
@@ -74,7 +74,7 @@ pub(crate) fn take_answer(
     }
 }
 
-/// Whether there is an answer whose value is not No.
+/// Returns whether there is an answer whose value is not No.
 pub(crate) fn is_not_broken(answer: Option<(u32, Verdict)>) -> bool
     ensures { result ≡ true → IsNotBroken answer }
 {
@@ -84,7 +84,7 @@ pub(crate) fn is_not_broken(answer: Option<(u32, Verdict)>) -> bool
     }
 }
 
-/// The alarms in order.
+/// Returns the alarms in order.
 pub(crate) fn listed(alloc: Global, alarms: &BTreeSet<Alarm>) -> Result<Vec<Alarm>, Memory>
     ensures items { IfOk result (λ list. list.items ≡ alarms.now.keys) }
     ensures ordered { IfOk result (λ list. InOrder list.items) }

@@ -8,8 +8,8 @@ use mtl_formulas::{Atoms, Formula, Verdict};
 use out_of_memory::Memory;
 use std::alloc::Global;
 
-/// A formula over a trace whose rows come one by one: each position comes with its value at the first row with which that is
-/// Yes or No.
+/// A formula over a trace whose rows arrive one by one. It returns each position with its value at the first row that
+/// makes the value Yes or No.
 #[derive(Drop)]
 pub struct EarlyMonitor {
     program: EarlyProgram,
@@ -25,7 +25,7 @@ impl EarlyMonitor {
     ghost use Rattle.mtl_early.specs.Decided.{IsNextDecided};
     ghost use Rattle.early_monitor.specs.Standing.{Continues, HasGivenAll, IsAt, IsGiving, rows_fed};
 
-    /// The monitor of a formula, of whose trace no row was fed. It takes all its memory here.
+    /// Returns the monitor of a formula before the first row. It allocates all its memory here.
     pub fn new(alloc: Global, formula: &Formula) -> Result<EarlyMonitor, Memory>
         requires { IsValid (tree_of formula.now) }
         ensures at { IfOk result (λ m. IsAt m (tree_of formula.now) []) }
@@ -37,7 +37,8 @@ impl EarlyMonitor {
         Ok(EarlyMonitor { program, state })
     }
 
-    /// Feeds the next row, once `next` has given all that the row before decides. At most 2^31 rows are fed. It takes no memory.
+    /// Feeds the next row, after `next` has returned all positions that the row before decides. Takes at most 2^31
+    /// rows. It takes no memory.
     pub fn feed<A: Atoms>(&mut self, row: &A)
         requires done { HasGivenAll self.old }
         requires small { rows_fed self.old < 2 ^ 31 }
@@ -48,8 +49,8 @@ impl EarlyMonitor {
         self.program.feed(&mut self.state, row);
     }
 
-    /// The next position that exactly the rows fed so far decide, with its value: in ascending order, and each once. `None`
-    /// where all were given. It takes no memory.
+    /// Returns the next position that exactly the rows so far decide, with its value: in ascending order, each once.
+    /// Returns `None` after the last one. It takes no memory.
     pub fn next(&mut self) -> Option<(u32, Verdict)>
         ensures answer { (t : FormulaTree) (rows : Trace) (from : ℕ) → IsGiving self.old t rows from
             → IsNextDecided result t rows from × Continues result self.new t rows }

@@ -1,4 +1,4 @@
-//! Early answers of one formula: by sweeps where they compute it, and by passing rows beyond the last one where not.
+//! Early answers of one formula: by sweeps if they can compute it, otherwise by passing rows beyond the last one.
 ghost use Rattle.std.specs.Prelude.{◌≡◌, IfOk};
 
 use crate::pass_program::PassProgram;
@@ -8,22 +8,23 @@ use mtl_formulas::{Atoms, Formula, Verdict};
 use out_of_memory::Memory;
 use std::alloc::Global;
 
-/// A formula whose positions are answered at the first row that decides them. One program serves many traces.
+/// A formula that answers each position at the first row that decides it. One program serves many traces.
 #[derive(Drop)]
 pub(crate) enum EarlyProgram {
     Sweeps(SweepProgram),
-    /// Where an operator looks back at a part that looks ahead.
+    /// For formulas in which an operator looks back at a part that looks ahead.
     Passes(PassProgram),
 }
 
-/// What is known early of one trace, beside the program of the same form. It lies apart, since most rules of a trace keep none.
+/// The early state of one trace, for the program of the same form. It is stored separately, because most rules of a
+/// trace have none.
 #[derive(Drop)]
 pub(crate) enum EarlyState {
     Sweeps(Box<SweepState>),
     Passes(Box<PassState>),
 }
 
-/// A value in a place of its own.
+/// Returns a value in a box.
 fn apart<T: Drop>(alloc: Global, value: T) -> Result<Box<T>, Memory>
     ensures { IfOk result (λ place. place.value ≡ value) }
 {
@@ -41,7 +42,7 @@ impl EarlyProgram {
     ghost use Rattle.mtl_early.specs.Decided.{IsNextDecided};
     ghost use Rattle.early_monitor.specs.Inner.EarlyStates.{Continues, HasGivenAll, IsAt, IsEarlyProgramOf, IsGiving, IsStateOf, left_to_look, rows_fed};
 
-    /// The program of a formula.
+    /// Returns the program of a formula.
     pub(crate) fn of(alloc: Global, formula: &Formula) -> Result<EarlyProgram, Memory>
         requires { IsValid (tree_of formula.now) }
         ensures { IfOk result (λ p. IsEarlyProgramOf p (tree_of formula.now)) }
@@ -52,7 +53,7 @@ impl EarlyProgram {
         }
     }
 
-    /// Returns the state over a trace before its first row. It takes all its memory here.
+    /// Returns the state over a trace before its first row. It allocates all its memory here.
     pub(crate) fn begin(&self, alloc: Global) -> Result<EarlyState, Memory>
         ensures of { IfOk result (IsStateOf self.now) }
         ensures at { IfOk result
@@ -72,7 +73,7 @@ impl EarlyProgram {
         }
     }
 
-    /// Feeds the next row, once `next` has given all that the row before decides. It takes no memory.
+    /// Feeds the next row, after `next` has returned all positions that the row before decides. It takes no memory.
     pub(crate) fn feed<A: Atoms>(&self, state: &mut EarlyState, row: &A)
         requires of { IsStateOf self.now state.old }
         requires done { HasGivenAll state.old }
@@ -91,8 +92,8 @@ impl EarlyProgram {
         }
     }
 
-    /// The next position that exactly the rows fed so far decide, with its value: in ascending order, and each once. `None`
-    /// where all were given. It takes no memory.
+    /// Returns the next position that exactly the rows so far decide, with its value: in ascending order, each once.
+    /// Returns `None` after the last one. It takes no memory.
     pub(crate) fn next(&self, state: &mut EarlyState) -> Option<(u32, Verdict)>
         requires of { IsStateOf self.now state.old }
         ensures of { IsStateOf self.now state.new }

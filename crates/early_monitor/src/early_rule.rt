@@ -1,4 +1,4 @@
-//! A rule whose breaches may be decided before all rows that its formula reaches.
+//! A rule whose breaches may be decided before the last row that its formula reaches.
 use crate::alarm::Alarm;
 use crate::alarm_set::{Place, take_value};
 use crate::early_program::{EarlyProgram, EarlyState};
@@ -9,7 +9,7 @@ use rule_program::is_no_last;
 use std::alloc::Global;
 use std::collections::BTreeSet;
 
-/// The formula of such a rule, alone as a program.
+/// The formula of such a rule as a separate program.
 #[derive(Drop)]
 pub(crate) struct EarlyRule {
     pub(crate) program: EarlyProgram,
@@ -25,7 +25,7 @@ impl EarlyRule {
     ghost use Rattle.early_monitor.specs.Inner.EarlyStates.{HasGivenAll, IsAt, IsEarlyProgramOf, IsStateOf, rows_fed};
     ghost use Rattle.early_monitor.specs.Inner.RulesWatched.{IsWatchedAs};
 
-    /// The rule of a formula: `None` where each breach is decided by the last row that the formula reaches.
+    /// Returns the rule of a formula. Returns `None` if the last row that the formula reaches decides each breach.
     pub(crate) fn of(alloc: Global, formula: &Formula) -> Result<Option<EarlyRule>, Memory>
         requires { IsValid (tree_of formula.now) }
         ensures { IfOk result (λ early. IsWatchedAs early (tree_of formula.now)) }

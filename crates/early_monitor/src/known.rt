@@ -1,4 +1,4 @@
-//! Which of the last positions are known to be decided.
+//! The last positions that are known to be decided.
 ghost use Rattle.std.specs.Prelude.{◌≡◌, IfOk, replicate, false};
 ghost use Rattle.early_monitor.specs.Inner.Known.{is_answered, known_at};
 
@@ -6,7 +6,7 @@ use mtl_formulas::Verdict;
 use out_of_memory::Memory;
 use std::alloc::Global;
 
-/// Whether the position at a place is known to be decided. There is none beyond the last place.
+/// Returns whether the position at an index is known to be decided; `false` beyond the last index.
 pub(crate) fn is_known_at(known: &[bool], place: usize) -> bool
     ensures { result ≡ known_at known.now place }
 {
@@ -17,7 +17,7 @@ pub(crate) fn is_known_at(known: &[bool], place: usize) -> bool
     }
 }
 
-/// Whether an answer is Yes or No.
+/// Returns whether an answer is Yes or No.
 pub(crate) fn is_answer(answer: Option<(u32, Verdict)>) -> bool
     ensures { result ≡ is_answered answer }
 {
@@ -27,7 +27,7 @@ pub(crate) fn is_answer(answer: Option<(u32, Verdict)>) -> bool
     }
 }
 
-/// Returns this number of places, with nothing known of any.
+/// Returns `count` positions, none of them known to be decided.
 pub(crate) fn nothing_known(alloc: Global, count: usize) -> Result<Vec<bool>, Memory>
     ensures { IfOk result (λ known. known.items ≡ replicate count false) }
 {

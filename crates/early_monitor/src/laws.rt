@@ -1,4 +1,4 @@
-//! Laws of early answers, which stand over the definitions alone.
+//! Laws of early answers, which follow from the definitions alone.
 ghost use Rattle.std.specs.Prelude.{◌≡◌, ◌≢◌, ℕ, ◌+◌, ◌<◌, ◌++◌, length, take, List};
 ghost use Rattle.mtl_formulas.specs.declared.verdict.Verdict.TheVariants.{No, Open};
 ghost use Rattle.mtl_formulas.specs.FormulaTree.{FormulaTree};
@@ -13,19 +13,19 @@ ghost use Rattle.rule_program.specs.Lags.{lags_of};
 
 pub use rule_program::laws::no_lags;
 
-/// Each value of Yes or No over a whole trace is decided by some number of its rows.
+/// Some number of rows decides each value of Yes or No over a whole trace.
 pub fn value_is_decided()
     ensures { (rows : Trace) (t : FormulaTree) (i : ℕ) → value_in rows t i ≢ Open
         → (m : ℕ) × IsDecided t rows i m }
 {}
 
-/// A position is decided by one number of rows at most.
+/// At most one number of rows decides a position.
 pub fn decided_once()
     ensures { (rows : Trace) (t : FormulaTree) (i m n : ℕ) → IsDecided t rows i m
         → IsDecided t rows i n → m ≡ n }
 {}
 
-/// Further rows leave what is decided, and its value.
+/// Further rows do not change a decided value.
 pub fn decided_stays()
     ensures still { (rows more : Trace) (t : FormulaTree) (i m : ℕ) → IsDecided t rows i m
         → IsDecided t (rows ++ more) i m }
@@ -33,14 +33,14 @@ pub fn decided_stays()
         → value_in rows t i ≡ value_in (take m rows) t i }
 {}
 
-/// Where the lag of No is the whole reach, a No is decided by exactly the rows that the formula reaches.
+/// If the lag of No is the whole reach, exactly the rows that the formula reaches decide a No.
 pub fn no_is_last()
     ensures { (rows : Trace) (t : FormulaTree) (i : ℕ) → HasValidParts t
         → (lags_of t).no ≡ reach_of t → value_in rows t i ≡ No
         → IsDecided t rows i (i + reach_of t + 1) }
 {}
 
-/// Each position of a trace at which a rule is No over the whole trace has an alarm, and only one.
+/// Each position of a trace at which a rule is No over the whole trace has exactly one alarm.
 pub fn each_breach_has_one_alarm()
     ensures some { (numbers : AuditNumbers) (ticks : List Sighting) (known : Known) (rule at : ℕ)
         → IsKnown numbers ticks known → rule < length numbers.rules
@@ -52,7 +52,7 @@ pub fn each_breach_has_one_alarm()
         → a.position ≡ b.position → a ≡ b }
 {}
 
-/// The ticks of a watch have one list of alarms at most.
+/// The ticks of a watch have at most one list of alarms.
 pub fn one_list_of_alarms()
     ensures { (numbers : AuditNumbers) (ticks : List Sighting) (alarms others : List Alarm)
         → AreAlarms numbers ticks alarms → AreAlarms numbers ticks others → alarms ≡ others }

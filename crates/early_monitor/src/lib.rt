@@ -1,11 +1,12 @@
-//! Early answers of formulas of metric temporal logic (Koymans 1990): the rows of a trace are fed one by one, and each position
-//! comes with its value at the first row with which that is Yes or No.
+//! Early answers of formulas of metric temporal logic (Koymans 1990): the caller feeds the rows of a trace one by one,
+//! and the monitor returns each position with its value at the first row that makes the value Yes or No.
 //!
-//! `F[0,20] risk` at a tick of 10 seconds looks two positions ahead. Over the rows without risk, without risk, with risk, an early
-//! monitor gives nothing after the first two, and `(0, Yes)`, `(1, Yes)`, `(2, Yes)` after the third.
+//! `F[0,20] risk` at a tick of 10 seconds looks two positions ahead. Over two rows without risk and one with risk, an
+//! early monitor returns nothing after the first two, and `(0, Yes)`, `(1, Yes)`, `(2, Yes)` after the third.
 //!
-//! A watch over a window of ticks gives the alarms of all traces: each breach of a rule at the step that decides it. Most rules can be
-//! No only with the last row that they reach; an ordinary monitor answers these in time, and the others are watched early.
+//! A watch over a window of ticks returns the alarms of all traces: each breach of a rule at the step that decides it.
+//! Most rules can be No only with the last row that they reach. An ordinary monitor answers these in time; early
+//! monitors watch the others.
 #![tactic(auto)]
 
 mod alarm;

@@ -1,4 +1,4 @@
-//! A formula as a program of its own, for states that pass rows beyond the last one.
+//! A formula as a separate program, for states that pass rows beyond the last one.
 ghost use Rattle.std.specs.Prelude.{◌≡◌, ◌≤◌};
 ghost use Rattle.mtl_monitor.specs.Following.{count_of};
 
@@ -7,7 +7,7 @@ use mtl_monitor::Program;
 use out_of_memory::Memory;
 use std::alloc::Global;
 
-/// A formula, alone as a program. What is known of one trace is a `PassState` beside it.
+/// A formula as a separate program. The state of one trace is a `PassState`.
 #[derive(Drop)]
 pub(crate) struct PassProgram {
     pub(crate) program: Program,
@@ -22,7 +22,7 @@ impl PassProgram {
     ghost use Rattle.mtl_formulas.specs.FormulaMeasures.{IsValid};
     ghost use Rattle.early_monitor.specs.Inner.Passing.{IsPassProgramOf};
 
-    /// The program of a formula.
+    /// Returns the program of a formula.
     pub(crate) fn of(alloc: Global, formula: &Formula) -> Result<PassProgram, Memory>
         requires { IsValid (tree_of formula.now) }
         ensures { IfOk result (λ p. IsPassProgramOf p (tree_of formula.now)) }

@@ -1,5 +1,5 @@
-//! What is known early of one trace in the plain form, which fits every formula: beside a program of one formula, as a `TraceState` is
-//! beside a program.
+//! The early state of one trace in the plain form, which fits every formula: the counterpart of `TraceState` for a
+//! program of one formula.
 ghost use Rattle.std.specs.Prelude.{◌≡◌, ◌≤◌, ◌<◌, ◌+◌, ◌^◌, length};
 ghost use Rattle.mtl_monitor.specs.Following.{fed_of, past_of};
 
@@ -12,16 +12,16 @@ use std::alloc::Global;
 /// The state of a program of one formula over one trace, which answers each position at the first row that decides it. One program
 /// serves many traces.
 ///
-/// Beside the state after the rows fed is one that passes rows beyond them, which gives the value so far at each position that
-/// the formula's reach still keeps open.
+/// It has the state after the rows so far, and a second state that passes rows beyond them. The second one returns the
+/// value so far at each position that the formula's reach still leaves open.
 #[derive(Drop)]
 pub(crate) struct PassState {
     pub(crate) state: TraceState,
     pub(crate) ahead: TraceState,
     pub(crate) reach: u32,
-    /// Which of the last positions, one more than the reach, are decided.
+    /// Whether each of the last positions, one more than the reach, is decided.
     known: Vec<bool>,
-    /// How many of them were checked since the last row.
+    /// The number of them checked since the last row.
     pub(crate) place: u32,
     ghost fed_small: { fed_of state ≤ 2 ^ 31 },
     ghost unclosed: { past_of state ≡ 0 },
@@ -43,7 +43,7 @@ impl PassState {
     ghost use Rattle.mtl_early.specs.Decided.{IsNextDecided};
     ghost use Rattle.early_monitor.specs.Inner.Passing.{Continues, HasLookedAll, IsAt, IsGiving, IsLooked, IsLooking, IsStateOf, fed_rows, left_to_look};
 
-    /// Returns the state over a trace before its first row. It takes all its memory here.
+    /// Returns the state over a trace before its first row. It allocates all its memory here.
     pub(crate) fn new(alloc: Global, program: &Program, reach: u32) -> Result<PassState, Memory>
         requires { reach ≤ 7200 }
         ensures of { IfOk result (IsStateOf program.now) }
@@ -65,7 +65,7 @@ impl PassState {
         })
     }
 
-    /// Feeds the next row, once all places were checked. It takes no memory.
+    /// Feeds the next row, after all positions were checked. It takes no memory.
     pub(crate) fn feed<A: Atoms>(&mut self, program: &Program, row: &A)
         requires of { IsStateOf program.now self.old }
         requires small { fed_rows self.old < 2 ^ 31 }
@@ -79,8 +79,8 @@ impl PassState {
         self.place = 0;
     }
 
-    /// The next position that exactly the rows fed so far decide, with its value: in ascending order, and each once. `None`
-    /// where all were given. It takes no memory.
+    /// Returns the next position that exactly the rows so far decide, with its value: in ascending order, each once.
+    /// Returns `None` after the last one. It takes no memory.
     pub(crate) fn next(&mut self, program: &Program) -> Option<(u32, Verdict)>
         requires of { IsStateOf program.now self.old }
         requires one { count_of program.now ≡ 1 }
@@ -104,7 +104,7 @@ impl PassState {
         None
     }
 
-    /// Looks at the next place: the answer is its position, if the last row has decided that.
+    /// Checks the next position; returns it if the last row has decided it.
     fn look(&mut self, program: &Program) -> Option<(u32, Verdict)>
         requires more { self.old.place ≤ self.old.reach }
         requires of { IsStateOf program.now self.old }
@@ -122,7 +122,7 @@ impl PassState {
         let place = self.place as usize;
         let answer = self.ahead.answer(program, 0);
         self.ahead.pass_end(program);
-        // One row more has moved each position one place on.
+        // Another row has moved each position by one place.
         let was = is_known_at(&self.known, place + 1);
         let is = is_answer(answer);
         self.known[place] = is;

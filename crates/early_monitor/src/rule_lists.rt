@@ -1,4 +1,4 @@
-//! What each rule of a watch is, and what each keeps of a trace that begins.
+//! The early form of each rule of a watch, and its state for a new trace.
 ghost use Rattle.std.specs.Prelude.{◌≡◌, ◌+◌, ◌≤◌, ◌++◌, ◌∷◌, [], IfOk, List, Option, length};
 ghost use Rattle.mtl_formulas.specs.FormulaTree.{tree_of};
 ghost use Rattle.mtl_formulas.specs.FormulaMeasures.{IsValid};
@@ -16,7 +16,7 @@ use out_of_memory::Memory;
 use rule_set::RuleSet;
 use std::alloc::Global;
 
-/// For each rule what it is by its formula.
+/// Returns the early form of each rule's formula, if it has one.
 pub(crate) fn early_rules(alloc: Global, rules: &RuleSet) -> Result<Vec<Option<EarlyRule>>, Memory>
     ensures { IfOk result (λ early. AreEarlyRules early.items rules.now) }
 {
@@ -27,8 +27,8 @@ pub(crate) fn early_rules(alloc: Global, rules: &RuleSet) -> Result<Vec<Option<E
     Ok(early)
 }
 
-/// The program with the formula of one rule more. Where the rule is watched early the program is never asked for it, so there stands a
-/// formula that costs nothing.
+/// Returns the program with the formula of another rule. If an early monitor watches the rule, nothing asks the program
+/// for it, so the program has a formula that costs nothing instead.
 fn with_rule(
     program: Program,
     early: &Option<EarlyRule>,
@@ -46,7 +46,7 @@ fn with_rule(
     }
 }
 
-/// The program of the rules that are not watched early. Each has the index that it has among all.
+/// Returns the program of the rules without an early monitor. Each rule has the same index as among all rules.
 pub(crate) fn plain_program(
     alloc: Global,
     rules: &RuleSet,
@@ -64,7 +64,7 @@ pub(crate) fn plain_program(
     Ok(program)
 }
 
-/// Returns what each rule keeps of a trace before its first row.
+/// Returns the early state of each rule before a trace's first row.
 pub(crate) fn begin_rules(
     alloc: Global,
     rules: &WatchedRules,

@@ -23,7 +23,7 @@ use std::alloc::Global;
 use std::collections::BTreeSet;
 use traces::{AllTraces, TickFault, TraceWindow};
 
-/// The watch over a window. It stands for the vessels seen at the ticks that it was given.
+/// The watch over a window. Its model is the list of vessels seen at each tick so far.
 #[derive(Drop)]
 pub struct Watch {
     alloc: Global,
@@ -66,9 +66,9 @@ impl Watch {
         })
     }
 
-    /// Takes the next tick, and returns the alarms of each breach that the step to it decides: call `k`, counted from 0, returns those
-    /// with the deciding step `k - 1`. These vessels are seen at the tick, in the order of their MMSIs. The ranks are theirs, in the
-    /// same order; if ranks do not count, there are none. After an `Err` the watch may only be dropped.
+    /// Takes the vessels seen at the next tick, in the order of their MMSIs, and their ranks in the same order; no
+    /// ranks if they do not count. Returns the alarms of each breach that the step to this tick decides: call `k`,
+    /// counted from 0, returns those with the deciding step `k - 1`. After an `Err` the caller may only drop the watch.
     pub fn step(
         &mut self,
         seen: &[(u32, TickState)],
@@ -92,13 +92,13 @@ impl Watch {
             → StandsFor self.old numbers ticks
             → AreAlarmsNow numbers
             (ticks ++ record { vessels = seen.now; ranks = ranks.now } ∷ []) alarms.items) }
-        // With them all alarms of the ticks so far were given.
+        // These complete the alarms of the ticks so far.
         ensures all { IfOk result
             (λ alarms. (numbers : AuditNumbers) (ticks : List Sighting) (given : List Alarm)
             → StandsFor self.old numbers ticks → AreAlarms numbers ticks given
             → AreAlarms numbers (ticks ++ record { vessels = seen.now; ranks = ranks.now } ∷ [])
             (given ++ alarms.items)) }
-        // The limit is met exactly if the tick begins a 4097th trace; memory may run out before.
+        // The limit is exceeded exactly if the tick begins a 4097th trace; memory may run out before.
         ensures many { result ≡ Err TooManyPairs → (numbers : AuditNumbers) (ticks : List Sighting)
             → StandsFor self.old numbers ticks
             → HaveMoreThan MOST_TRACES numbers

@@ -1,4 +1,4 @@
-//! What a watch does with each trace of a window: it finds the alarms that the trace's steps bring.
+//! The watch's part for each trace of a window: finding the alarms of the trace's steps.
 use crate::alarm::Alarm;
 use crate::watched_rules::WatchedRules;
 use crate::watched_trace::WatchedTrace;
@@ -43,7 +43,7 @@ impl TraceKeeper for WatchKeeper {
         Ok(())
     }
 
-    /// A trace that ends brings no alarm.
+    /// Does nothing: the end of a trace has no alarm.
     fn end(&mut self, _index: usize, _trace: &mut WatchedTrace) -> Result<(), Memory> {
         Ok(())
     }

@@ -1,4 +1,4 @@
-//! The rules of a watch: all of them as one program, and beside it those whose breaches may be decided early.
+//! The rules of a watch: all of them as one program, and separately those whose breaches may be decided early.
 ghost use Rattle.std.specs.Prelude.{◌≡◌, length};
 ghost use Rattle.mtl_monitor.specs.Following.{count_of};
 
@@ -14,8 +14,8 @@ use rule_set::RuleSet;
 use std::alloc::Global;
 use std::collections::BTreeSet;
 
-/// One program for all traces: with it the positions of a trace are answered once they can no longer change. A rule whose breaches
-/// may be decided before has a program of its own, and none of the parts of this one.
+/// One program for all traces, which answers the positions of a trace once they can no longer change. A rule whose
+/// breaches may be decided earlier has its own program instead, without the parts of this one.
 #[derive(Drop)]
 pub(crate) struct WatchedRules {
     pub(crate) program: Program,
@@ -33,7 +33,7 @@ impl WatchedRules {
     ghost use Rattle.early_monitor.specs.Inner.Breaches.{Adds, IsBreach};
     ghost use Rattle.early_monitor.specs.Inner.RulesWatched.{AreWatched, FitsRule, IsCalmRule, StandsForRule, early_at, plain_trees};
 
-    /// These rules.
+    /// Returns the watched form of these rules.
     pub(crate) fn new(alloc: Global, rules: &RuleSet) -> Result<WatchedRules, Memory>
         ensures of { IfOk result (λ w. AreWatched w rules.now) }
         ensures few { IfOk result (λ w. count_of w.program ≤ 17) }
@@ -43,7 +43,7 @@ impl WatchedRules {
         Ok(WatchedRules { program, early })
     }
 
-    /// Returns what the rule at an index keeps of a trace before its first row.
+    /// Returns the early state of the rule at an index before a trace's first row, if the rule has one.
     pub(crate) fn begin_rule(
         &self,
         alloc: Global,
@@ -60,8 +60,9 @@ impl WatchedRules {
         }
     }
 
-    /// Adds the alarms that the latest row of a trace brings for the rule of the place. The values were fed the row; what the rule
-    /// itself keeps takes it here. True where a further row brings none unless it changes the rule's value.
+    /// Adds the alarms of the latest row of a trace for the rule of the place. The values have already taken the row;
+    /// the rule's early state takes it here. Returns whether further rows have no alarm unless they change the rule's
+    /// value.
     pub(crate) fn take_row(
         &self,
         values: &TraceState,

@@ -12,15 +12,15 @@ use out_of_memory::Memory;
 use std::alloc::Global;
 use std::collections::BTreeSet;
 
-/// One trace: its pair, its first step, and what the rules' formulas come to over its steps so far.
+/// One trace: its pair, its first step, and the values of the rules' formulas over its steps so far.
 #[derive(Drop)]
 pub(crate) struct WatchedTrace {
     pair: Pair,
     start: u32,
     values: TraceState,
-    /// What each rule keeps whose breaches may be decided early.
+    /// The early state of each rule whose breaches may be decided early.
     early: Vec<Option<EarlyState>>,
-    /// Whether a further row brings no alarm unless it changes a rule's value.
+    /// Whether further rows have no alarm unless they change a rule's value.
     calm: bool,
     ghost small: { start < 2 ^ 31 },
 }
@@ -61,7 +61,7 @@ impl WatchedTrace {
         })
     }
 
-    /// Takes the row of the next step, which has this number, and adds the alarms that it brings.
+    /// Takes the row of the next step, which has this number, and adds its alarms.
     pub(crate) fn step(
         &mut self,
         rules: &WatchedRules,

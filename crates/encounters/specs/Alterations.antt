@@ -1,4 +1,4 @@
--- How a vessel has altered since an engagement began (Rules 8 (b), 16 and 17 of the COLREGs 1972).
+-- The alterations of a vessel since an engagement began (Rules 8 (b), 16 and 17 of the COLREGs 1972).
 use Rattle.std.specs.Prelude.{ℕ, Bool, true, false, Option, Some, None, ℤ, pos, neg_ℤ, ◌-ℤ◌, int_le, int_lt, nat_le, nat_lt, unsigned_abs}
 use Rattle.std.specs.Option.{option_map}
 use Rattle.fixed_geometry.specs.Bearing.{swing_of}
@@ -43,7 +43,7 @@ apparent act was now = greatest
 abbrev pub to_starboard : Act → TickState → TickState → Verdict
 to_starboard act was now = verdict_of (option_map (λ d. int_le (pos act.apparent_turn) d) (turn_between was.direction now.direction))
 
--- a turn to port of more than a vessel that keeps her course makes
+-- a turn to port of more than that of a vessel that keeps her course
 abbrev pub to_port : Act → TickState → TickState → Verdict
 to_port act was now = verdict_of (option_map (λ d. int_lt (pos act.steady_turn) (neg_ℤ d)) (turn_between was.direction now.direction))
 

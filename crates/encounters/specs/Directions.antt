@@ -9,12 +9,12 @@ use Rattle.encounters.specs.declared.engagement_state.EngagementState.TheVariant
 abbrev pub HasDirection : TickState → Type 0
 HasDirection state = IfSome state.direction (λ d. d < 3600)
 
--- the same of both vessels of a step
+-- the same for both vessels of a step
 pub record HaveDirections (pair : PairStep) : Type 0 where
   pub a : HasDirection pair.a
   pub b : HasDirection pair.b
 
--- the same of both at the beginning of an engagement
+-- the same for both at the beginning of an engagement
 abbrev pub HaveDirectionsSince : EngagementState → Type 0
 HaveDirectionsSince Apart = ⊤
 HaveDirectionsSince (Engaged kind age a b) = HasDirection a × HasDirection b

@@ -1,4 +1,4 @@
--- Engagements of an ordered pair of vessels, by the list of its steps: each is seen, or it is not.
+-- Engagements of an ordered pair of vessels, by the list of its steps: at each step both vessels are seen, or not.
 use Rattle.std.specs.Prelude.{ℕ, ◌≡◌, ◌+◌, ◌-◌, ◌≤◌, ◌<◌, List, Option, Some, None, slice_get, unwrap_or, IsSome, IsSomeAnd, IfSome}
 use Rattle.motion.specs.declared.leg.TickState.{TickState}
 use Rattle.sectors.specs.Class.{class_of}
@@ -9,7 +9,7 @@ use Rattle.encounters.specs.declared.pair_step.PairStep.{PairStep}
 use Rattle.encounters.specs.declared.engagement_state.EngagementState.{EngagementState}
 use Rattle.encounters.specs.declared.engagement_state.EngagementState.TheVariants.{Apart, Engaged}
 
--- the step of an index, if there is one and it is seen
+-- the step at an index, if there is one and it is seen
 abbrev pub seen_at : List (Option PairStep) → ℕ → Option PairStep
 seen_at steps k = unwrap_or (slice_get steps k) None
 
@@ -25,7 +25,7 @@ pub record IsEngaged (detect : Detect) (steps : List (Option PairStep)) (i : ℕ
 abbrev pub IsEngagedFrom : Detect → List (Option PairStep) → ℕ → ℕ → Type 0
 IsEngagedFrom detect steps first i = (k : ℕ) → first ≤ k → k ≤ i → IsEngaged detect steps k
 
--- The beginning of the engagement at i is the least step from which on they are engaged up to i.
+-- The beginning of the engagement at i is the least step from which they are engaged up to i.
 pub record IsBeginning (detect : Detect) (steps : List (Option PairStep)) (i first : ℕ) : Type 0 where
   pub until : first ≤ i
   pub engaged : IsEngagedFrom detect steps first i
@@ -51,7 +51,7 @@ abbrev pub IsState : Detect → List (Option PairStep) → ℕ → EngagementSta
 IsState detect steps i Apart = ¬ IsEngaged detect steps i
 IsState detect steps i (Engaged kind age a b) = IsEngagement detect steps i kind age a b
 
--- the state of the same engagement n steps later: its kind and the states at its beginning stay
+-- the state of the same engagement n steps later, with the same kind and states at its beginning
 abbrev pub later_by : ℕ → EngagementState → EngagementState
 later_by n Apart = Apart
 later_by n (Engaged kind age a b) = Engaged kind (age + n) a b

@@ -1,11 +1,11 @@
--- What an engagement stands for.
+-- The model of an engagement.
 use Rattle.std.specs.Prelude.{◌≡◌, ◌-◌, List, Option, length}
 use Rattle.encounters.specs.Engagement.{IsState}
 use Rattle.encounters.specs.declared.detect.Detect.{Detect}
 use Rattle.encounters.specs.declared.pair_step.PairStep.{PairStep}
 use Rattle.encounters.specs.declared.engagement_state.EngagementState.{EngagementState}
 
--- what it keeps: its numbers, and the state at the latest step
+-- its state: its numbers, and the state at the latest step
 pub record Kept : Type 0 where
   pub detect : Detect
   pub latest : EngagementState
@@ -14,7 +14,7 @@ pub record Kept : Type 0 where
 abbrev pub IsStateAfter : Detect → List (Option PairStep) → EngagementState → Type 0
 IsStateAfter detect steps state = IsState detect steps (length steps - 1) state
 
--- An engagement stands for its numbers and the list of the steps so far.
+-- The model of an engagement is its numbers and the list of the steps so far.
 pub record StandsFor (kept : Kept) (numbers : Detect) (steps : List (Option PairStep)) : Type 0 where
   pub by : kept.detect ≡ numbers
   pub after : IsStateAfter numbers steps kept.latest

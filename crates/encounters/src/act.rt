@@ -1,6 +1,6 @@
 //! The numbers that define alterations.
 
-/// What counts as keeping course and speed (Rule 17), and what as an alteration that is readily apparent (Rule 8 (b)).
+/// The limits for keeping course and speed (Rule 17), and for a readily apparent alteration (Rule 8 (b)).
 #[derive(Clone, Copy, Debug, PartialEq, Eq)]
 pub struct Act {
     /// The greatest turn of a vessel that keeps her course: tenths of a degree, at most 1800 in a scenario.

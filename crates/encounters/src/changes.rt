@@ -1,4 +1,4 @@
-//! How a vessel has altered since an engagement began.
+//! The alterations of a vessel since an engagement began.
 ghost use Rattle.std.specs.Prelude.{◌≡◌, ◌≤◌, ◌<◌, true, false, pos, neg_ℤ, int_le, int_lt, nat_le, nat_lt, unsigned_abs, Some, IfSome};
 ghost use Rattle.std.specs.Option.{option_map};
 ghost use Rattle.mtl_formulas.specs.VerdictOrder.{greatest};
@@ -11,19 +11,19 @@ use fixed_geometry::swing;
 use motion::TickState;
 use mtl_formulas::Verdict;
 
-/// How the vessels of a pair (A, B) have altered since their engagement began. Each is Open if a direction or a speed that
-/// it needs is absent, and No if they are not engaged.
+/// The alterations of the vessels of a pair (A, B) since their engagement began. A value is Open if a direction or a
+/// speed that it needs is absent, and No if they are not engaged.
 #[derive(Clone, Copy, Debug, PartialEq, Eq)]
 pub struct Changes {
     /// A has not kept her course and speed (Rule 17).
     pub alters: Verdict,
-    /// A has altered course or speed so that it is readily apparent (Rule 8 (b)).
+    /// A has made a readily apparent alteration of course or speed (Rule 8 (b)).
     pub apparent: Verdict,
-    /// A has so altered course to starboard.
+    /// A has made a readily apparent alteration of course to starboard.
     pub to_starboard: Verdict,
-    /// A has altered course to port, by more than a vessel does that keeps her course (Rule 17 (c)).
+    /// A has altered course to port by more than a vessel that keeps her course (Rule 17 (c)).
     pub to_port: Verdict,
-    /// B has altered course or speed so that it is readily apparent.
+    /// B has made a readily apparent alteration of course or speed.
     pub other_apparent: Verdict,
 }
 
@@ -47,7 +47,7 @@ fn verdict(passes: Option<bool>) -> Verdict
     }
 }
 
-/// The turn since then, positive to starboard.
+/// Returns the turn since then, positive to starboard.
 fn turn_between(was: Option<u16>, now: Option<u16>) -> Option<i16>
     requires was { IfSome was (λ d. d < 3600) }
     requires now { IfSome now (λ d. d < 3600) }
@@ -60,7 +60,7 @@ fn turn_between(was: Option<u16>, now: Option<u16>) -> Option<i16>
     }
 }
 
-/// The size of the change of speed since then.
+/// Returns the size of the change of speed since then.
 fn change_between(was: Option<u16>, now: Option<u16>) -> Option<u16>
     ensures { result ≡ change_between was now }
 {
@@ -114,8 +114,8 @@ fn to_port(act: &Act, was: &TickState, now: &TickState) -> Verdict
     verdict(turn.map(|d| -i32::from(d) > i32::from(act.steady_turn)))
 }
 
-/// How A and B have altered from their states at the beginning of the engagement to these. Directions are below 3600. A swing
-/// of exactly half a turn is to starboard.
+/// Returns the alterations of A and B from their states at the start of the engagement to these. Directions are below
+/// 3600. A swing of exactly half a turn is to starboard.
 #[inline(always)]
 pub fn changes_since(
     act: &Act,

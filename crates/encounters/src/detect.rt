@@ -1,16 +1,16 @@
-//! The numbers by which encounters are detected.
+//! The numbers that define encounters.
 use sectors::Angles;
 
-/// When two vessels are in risk of collision, and when they are past and clear.
+/// The limits for risk of collision, and for past and clear.
 #[derive(Clone, Copy, Debug, PartialEq, Eq)]
 pub struct Detect {
-    /// How near a vessel is watched: tenths of a millimetre, at most 10^9.
+    /// The greatest distance of a watched vessel: tenths of a millimetre, at most 10^9.
     pub watch: u64,
-    /// How near is a risk: tenths of a millimetre, at most 10^9.
+    /// A distance below this is a risk: tenths of a millimetre, at most 10^9.
     pub risk: u64,
-    /// How far is clear: tenths of a millimetre, at most 10^9.
+    /// The least distance that is clear: tenths of a millimetre, at most 10^9.
     pub clear: u64,
-    /// How far ahead risk is looked for, if both go on as they do: ticks, at most 7200.
+    /// The look-ahead for risk, if both keep course and speed: ticks, at most 7200.
     pub horizon: u32,
     /// The angles of the classes.
     pub angles: Angles,

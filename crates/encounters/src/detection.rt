@@ -8,7 +8,7 @@ use closest_approach::enters_within;
 use fixed_geometry::{dot, norm2, square};
 use motion::Step;
 
-/// Whether the vessels are at most so far apart at the step's beginning.
+/// Returns whether the vessels are at most `distance` apart at the step's beginning.
 fn is_within(step: &Step, distance: u64) -> bool
     requires { distance ≤ 1000000000 }
     ensures { IsTrue result ↔ (norm2_of step.now.p ≤ℤ pos (distance * distance)) }
@@ -16,7 +16,7 @@ fn is_within(step: &Step, distance: u64) -> bool
     norm2(step.p()) <= square(distance)
 }
 
-/// Whether they are at least so far apart there.
+/// Returns whether the vessels are at least `distance` apart at the step's beginning.
 fn is_beyond(step: &Step, distance: u64) -> bool
     requires { distance ≤ 1000000000 }
     ensures { IsTrue result ↔ (pos (distance * distance) ≤ℤ norm2_of step.now.p) }
@@ -24,8 +24,8 @@ fn is_beyond(step: &Step, distance: u64) -> bool
     square(distance) <= norm2(step.p())
 }
 
-/// Whether there is risk of collision (Rule 7) at a step that is seen: the vessels are at most `watch` apart, and come nearer
-/// than `risk` at some instant within the horizon, if both go on as they do.
+/// Returns whether there is risk of collision (Rule 7) at a step at which both are seen: the vessels are at most
+/// `watch` apart, and come nearer than `risk` at some instant within the horizon if both keep course and speed.
 #[inline(always)]
 pub fn risk(detect: &Detect, step: &Step) -> bool
     requires { IsDetect detect.now }
@@ -38,15 +38,15 @@ pub fn risk(detect: &Detect, step: &Step) -> bool
     }
 }
 
-/// Whether the vessels draw apart at the beginning of a step, or keep their distance.
+/// Returns whether the vessels draw apart at the beginning of a step, or keep their distance.
 pub fn opening(step: &Step) -> bool
     ensures { IsTrue result ↔ IsOpening step.now }
 {
     dot(step.p(), step.w()) >= 0
 }
 
-/// Whether they are past and clear (Rule 13 (d)) at a step that is seen: there is no risk, they are opening, and at least
-/// `clear` apart.
+/// Returns whether they are past and clear (Rule 13 (d)) at a step at which both are seen: there is no risk, and they
+/// are opening and at least `clear` apart.
 pub fn past_clear(detect: &Detect, step: &Step) -> bool
     requires { IsDetect detect.now }
     ensures { IsTrue result ↔ IsPastClear detect.now step.now }
@@ -54,7 +54,7 @@ pub fn past_clear(detect: &Detect, step: &Step) -> bool
     is_past_clear(detect, step, risk(detect, step))
 }
 
-/// The same if it is known whether there is risk.
+/// Returns the same, given whether there is risk.
 pub(crate) fn is_past_clear(detect: &Detect, step: &Step, risk: bool) -> bool
     requires detect { IsDetect detect.now }
     requires risk { IsTrue risk ↔ HasRisk detect.now step.now }

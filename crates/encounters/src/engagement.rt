@@ -17,7 +17,7 @@ use crate::pair_step::PairStep;
 use sectors::class_of;
 use std::marker::Model;
 
-/// The state at the beginning of an engagement.
+/// Returns the state at the beginning of an engagement.
 fn engaged_at(detect: &Detect, pair: &PairStep) -> EngagementState
     requires detect { IsDetect detect.now }
     requires pair { HaveDirections pair.now }
@@ -37,7 +37,7 @@ fn engaged_at(detect: &Detect, pair: &PairStep) -> EngagementState
     }
 }
 
-/// Takes a step that is seen, if it is known whether there is risk.
+/// Takes a step at which both are seen, given whether there is risk.
 fn take_seen(state: &mut EngagementState, detect: &Detect, pair: &PairStep, risk: bool)
     requires detect { IsDetect detect.now }
     requires pair { HaveDirections pair.now }
@@ -62,7 +62,7 @@ fn take_seen(state: &mut EngagementState, detect: &Detect, pair: &PairStep, risk
     }
 }
 
-/// Takes a step, and returns whether there is risk at it.
+/// Takes a step; returns whether there is risk at it.
 fn take_step(state: &mut EngagementState, detect: &Detect, seen: Option<&PairStep>) -> bool
     requires detect { IsDetect detect.now }
     requires seen { IfSome (option_copied seen) HaveDirections }
@@ -87,8 +87,8 @@ fn take_step(state: &mut EngagementState, detect: &Detect, seen: Option<&PairSte
     }
 }
 
-/// The engagement of an ordered pair (A, B), to which the steps are given one after the other. It is seen as what it keeps,
-/// which stands for its numbers and the list of the steps so far.
+/// The engagement of an ordered pair (A, B), which takes the steps one after the other. Its model is its state, which
+/// stands for its numbers and the list of the steps so far.
 #[derive(Clone, Copy)]
 pub struct Engagement {
     detect: Detect,
@@ -110,7 +110,7 @@ impl Model for Engagement {
 }
 
 impl Engagement {
-    /// An engagement of no steps yet, by these numbers.
+    /// Returns an engagement before its first step, with these numbers.
     pub fn new(detect: Detect) -> Engagement
         requires { IsDetect detect }
         ensures { StandsFor result detect [] }
@@ -121,7 +121,7 @@ impl Engagement {
         }
     }
 
-    /// Its numbers.
+    /// Returns its numbers.
     pub fn detect(&self) -> Detect
         ensures value { result ≡ self.now.detect }
         ensures numbers { IsDetect result }
@@ -129,7 +129,7 @@ impl Engagement {
         self.detect
     }
 
-    /// The state at the latest step; apart before the first.
+    /// Returns the state at the latest step; apart before the first.
     pub fn state(&self) -> EngagementState
         ensures { (detect : Detect) (steps : List (Option PairStep))
             → StandsFor self.now detect steps → IsStateAfter detect steps result }
@@ -137,7 +137,7 @@ impl Engagement {
         self.latest
     }
 
-    /// The same in place.
+    /// Returns a reference to the same state.
     pub fn latest(&self) -> &EngagementState
         ensures value { result.now ≡ self.now.latest }
         ensures directions { HaveDirectionsSince result.now }
@@ -145,11 +145,10 @@ impl Engagement {
         &self.latest
     }
 
-    /// Takes the next step, which is seen or is not, and returns whether there is risk of collision at it. Over fewer than 2^31
-    /// steps the state is the definition's: the vessels are engaged if some step had risk, all steps since are seen, and none
-    /// after
-    /// it is past and clear; the kind is the class when the engagement began (Rule 13 (d): a later change of bearing does not
-    /// make an overtaking vessel a crossing one). Directions are below 3600.
+    /// Takes the next step, at which both are seen or not; returns whether there is risk of collision at it. Over fewer
+    /// than 2^31 steps the state is the definition's: the vessels are engaged if some step had risk, all steps since
+    /// are seen, and none after it is past and clear; the kind is the class when the engagement began (Rule 13 (d): a
+    /// later change of bearing does not make an overtaking vessel a crossing one). Directions are below 3600.
     #[inline(always)]
     pub fn take(&mut self, seen: Option<&PairStep>) -> bool
         requires { IfSome (option_copied seen) HaveDirections }
@@ -166,7 +165,7 @@ impl Engagement {
         take_step(&mut self.latest, &self.detect, seen)
     }
 
-    /// The state at the next step, which is taken.
+    /// Takes the next step and returns the state at it.
     pub fn step(&mut self, seen: Option<&PairStep>) -> EngagementState
         requires { IfSome (option_copied seen) HaveDirections }
         ensures state { (detect : Detect) (steps : List (Option PairStep)) → length steps < 2 ^ 31

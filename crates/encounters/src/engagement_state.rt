@@ -1,4 +1,4 @@
-//! Whether two vessels are engaged at a step.
+//! The state of two vessels at a step: engaged or apart.
 use motion::TickState;
 use sectors::Class;
 

@@ -1,9 +1,9 @@
-//! Encounters of two vessels: risk of collision, when they are past and clear, the engagement that lasts between, and how a
-//! vessel has altered since it began.
+//! Encounters of two vessels: risk of collision, past and clear, the engagement between the two, and the vessels'
+//! alterations since it began.
 //!
-//! Rules 7 and 13 to 17 of the COLREGs 1972 speak of risk of collision and of being "finally past and clear" in words; the numbers
-//! are the scenario's. Distances are tenths of a millimetre, angles tenths of a degree, speeds tenths of a knot, and times
-//! ticks. Nothing here takes memory.
+//! Rules 7 and 13 to 17 of the COLREGs 1972 speak of risk of collision and of being "finally past and clear" in words;
+//! the numbers are the scenario's. Distances are tenths of a millimetre, angles tenths of a degree, speeds tenths of a
+//! knot, and times ticks. No function takes memory.
 //!
 //! Both head north, and from A vessel B is at `p` `(-3000000, 20000000 - 1000000 i)` at step `i`, with `w` `(0, -1000000)`. With risk
 //! within 500 metres and 60 ticks there is risk at step 0, where A is `Overtaking`. At step 19 the class alone is

@@ -14,7 +14,7 @@ greatest_below (suc n) test = if test n then n else greatest_below n test
 abbrev pub has_turned : ℤ → ℤ → ℕ → Bool
 has_turned n e k = int_le (sine_of k *ℤ n) (cosine_of k *ℤ e)
 
--- by how much it has turned, less than a quarter of the circle
+-- the angle that it has turned, less than a quarter of the circle
 unfoldable pub quarter_angle : ℤ → ℤ → ℕ
 quarter_angle n e = greatest_below 900 (has_turned n e)
 
@@ -27,11 +27,11 @@ bearing_of r =
     else (if int_lt r.x (pos 0) && int_le (pos 0) r.y then Some (2700 + quarter_angle (neg_ℤ r.x) r.y)
     else None)))
 
--- the bearing b as it is seen from a vessel in direction d: (b - d) mod 3600
+-- the bearing b relative to a vessel in direction d: (b - d) mod 3600
 unfoldable pub relative_of : ℕ → ℕ → ℕ
 relative_of b d = unsigned_abs (int_rem_euclid (pos b -ℤ pos d) (pos 3600))
 
--- whether the bearing b lies to port of direction d, neither right ahead nor right astern
+-- whether the bearing b is to port of direction d, neither right ahead nor right astern
 abbrev pub lies_to_port : ℕ → ℕ → Bool
 lies_to_port d b = nat_le 1801 (relative_of b d) && nat_le (relative_of b d) 3599
 

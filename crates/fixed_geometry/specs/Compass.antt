@@ -24,7 +24,7 @@ compass_direction (suc k) = tenth_further (compass_direction k)
 unfoldable pub eighth_of : ℕ → Point
 eighth_of k = record { x = rounded (compass_direction k).sine (10 ^ 9); y = rounded (compass_direction k).cosine (10 ^ 9) }
 
--- past 45 degrees the sine and the cosine change places
+-- above 45 degrees the sine and the cosine are exchanged
 abbrev pub mirrored : Point → Point
 mirrored p = record { x = p.y; y = p.x }
 

@@ -1,4 +1,4 @@
--- The projection of latitudes and longitudes, in ten thousandths of a minute, into the plane about a reference.
+-- The projection of latitudes and longitudes, in ten thousandths of a minute, into the plane around a reference.
 use Rattle.std.specs.Prelude.{ℕ, ◌^◌, ◌≤◌, ◌&&◌, nat_le, if◌then◌else◌, Option, Some, None, ℤ, pos, ◌-ℤ◌, ◌*ℤ◌, unsigned_abs}
 use Rattle.fixed_geometry.specs.Rounding.{rounded}
 use Rattle.fixed_geometry.specs.Circle.{shorter_arc}

@@ -4,7 +4,7 @@ use Rattle.fixed_geometry.specs.Rounding.{rounded}
 use Rattle.fixed_geometry.specs.Compass.{sine_of, cosine_of}
 use Rattle.fixed_geometry.specs.declared.point.Point.{Point}
 
--- A tenth of a knot is 185.2 metres an hour: 463 / 0.9 tenths of a millimetre a second.
+-- A tenth of a knot is 185.2 metres per hour: 463 / 0.9 tenths of a millimetre per second.
 unfoldable pub velocity_of : ℕ → ℕ → Point
 velocity_of course speed = record {
   x = rounded (pos speed *ℤ sine_of course *ℤ pos 463) 900000;

@@ -10,7 +10,7 @@ use crate::compass::quarter;
 use crate::point::{Point, product, turn};
 use crate::rounding::{difference, round_the_circle};
 
-/// Whether a vector of `n` ahead and `e` to starboard has turned by `k` tenths of a degree or more.
+/// Returns whether a vector of `n` ahead and `e` to starboard has turned by `k` tenths of a degree or more.
 fn has_turned(n: i64, e: i64, k: u16) -> bool
     requires n_small { unsigned_abs n ≤ 2 ^ 62 }
     requires e_small { unsigned_abs e ≤ 2 ^ 62 }
@@ -21,7 +21,8 @@ fn has_turned(n: i64, e: i64, k: u16) -> bool
     product(x, n) <= product(y, e)
 }
 
-/// By how much such a vector has turned. Within a quarter the sines rise and the cosines fall, so halving finds it.
+/// Returns the angle by which such a vector has turned. Within a quarter the sines rise and the cosines fall, so
+/// bisection finds it.
 fn quarter_angle(n: i64, e: i64) -> u16
     requires n_sign { pos 0 ≤ℤ n }
     requires n_small { unsigned_abs n ≤ 2 ^ 62 }
@@ -43,10 +44,10 @@ fn quarter_angle(n: i64, e: i64) -> u16
     low
 }
 
-/// A vector by the quarter of the circle that it lies in.
+/// A vector, given by its quarter of the circle.
 #[derive(Drop)]
 struct Quartered {
-    /// Where the quarter begins: 0, 900, 1800 or 2700.
+    /// The start of the quarter: 0, 900, 1800 or 2700.
     start: u16,
     /// The component along the quarter's beginning.
     ahead: i64,
@@ -54,7 +55,7 @@ struct Quartered {
     starboard: i64,
 }
 
-/// The quarter of a vector. `None` if it has no length.
+/// Returns the quarter of a vector. `None` if it has no length.
 fn by_quarter(r: Point) -> Option<Quartered>
     requires { IsWithin (2 ^ 62) r }
     ensures some { IfSome result (IsInQuarter r) }
@@ -90,8 +91,8 @@ fn by_quarter(r: Point) -> Option<Quartered>
     }
 }
 
-/// The bearing of a vector by the compass, below 3600: the greatest whole tenth of a degree clockwise from north that it has
-/// reached. `None` if it has no length. Components are at most 2^62 in size.
+/// Returns the bearing of a vector by the compass, below 3600: the greatest whole tenth of a degree clockwise from
+/// north that it has reached. `None` if it has no length. Components are at most 2^62 in size.
 pub fn bearing(r: Point) -> Option<u16>
     requires { IsWithin (2 ^ 62) r }
     ensures value { result ≡ bearing_of r }
@@ -106,7 +107,7 @@ pub fn bearing(r: Point) -> Option<u16>
     Some(start + quarter_angle(ahead, starboard))
 }
 
-/// A vector that has been turned back by this number of quarters of the circle.
+/// Returns a vector that has been turned back by this number of quarters of the circle.
 fn turned_back(r: Point, quarters: u16) -> Point
     requires small { IsWithin (2 ^ 62) r }
     requires quarters { quarters < 4 }
@@ -121,7 +122,7 @@ fn turned_back(r: Point, quarters: u16) -> Point
     }
 }
 
-/// Whether a vector's bearing falls short of `k` tenths of a degree, by less than half a turn.
+/// Returns whether a vector's bearing falls short of `k` tenths of a degree, by less than half a turn.
 fn falls_short(r: Point, k: u16) -> bool
     requires small { IsWithin (2 ^ 62) r }
     requires k { k ≤ 900 }
@@ -130,7 +131,7 @@ fn falls_short(r: Point, k: u16) -> bool
     turn(quarter(k), r) > 0
 }
 
-/// Whether it has reached the opposite of `k` tenths of a degree, and not passed it by more than half a turn.
+/// Returns whether it has reached the opposite of `k` tenths of a degree, and not passed it by more than half a turn.
 fn reaches_opposite(r: Point, k: u16) -> bool
     requires small { IsWithin (2 ^ 62) r }
     requires k { k ≤ 900 }
@@ -139,9 +140,9 @@ fn reaches_opposite(r: Point, k: u16) -> bool
     turn(quarter(k), r) >= 0
 }
 
-/// Whether a vector's bearing lies on the port side of a vessel that points in a direction, neither right ahead nor right
-/// astern: it falls short of right ahead, and has reached the first tenth of a degree past right astern. `None` if the
-/// vector has no length.
+/// Returns whether a vector's bearing is on the port side of a vessel with this direction, neither right ahead nor
+/// right astern: it falls short of right ahead, and has reached the first tenth of a degree past right astern. `None`
+/// if the vector has no length.
 pub fn to_port(r: Point, direction: u16) -> Option<bool>
     requires small { IsWithin (2 ^ 62) r }
     requires direction { direction < 3600 }
@@ -155,7 +156,7 @@ pub fn to_port(r: Point, direction: u16) -> Option<bool>
     Some(falls_short(seen, tenths) & reaches_opposite(seen, tenths + 1))
 }
 
-/// A bearing as it is seen from a vessel that points in a direction, in tenths of a degree below 3600: 0 is ahead, 900 on her
+/// Returns a bearing relative to a vessel with this direction, in tenths of a degree below 3600: 0 is ahead, 900 on her
 /// starboard beam, 1800 astern.
 #[tactic(auto, unfolding(crate::specs::Bearing::relative_of))]
 pub fn relative(bearing: u16, direction: u16) -> u16
@@ -167,8 +168,8 @@ pub fn relative(bearing: u16, direction: u16) -> u16
     (bearing + 3600 - direction) % 3600
 }
 
-/// The turn from one direction to another, in tenths of a degree from -1799 to 1800: positive to starboard. Exactly half a
-/// turn is 1800, and so to starboard.
+/// Returns the turn from one direction to another, in tenths of a degree from -1799 to 1800: positive to starboard.
+/// Exactly half a turn is 1800, which is to starboard.
 #[tactic(auto, unfolding(crate::specs::Bearing::swing_of))]
 pub fn swing(from: u16, to: u16) -> i16
     requires from { from < 3600 }

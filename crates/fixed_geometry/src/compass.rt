@@ -94,7 +94,7 @@ fn sine_at(k: u16) -> u32
     SINES[usize::from(k)]
 }
 
-/// The unit vector within the first quarter of the circle: its cosine is the sine of what is left of the quarter.
+/// Returns the unit vector within the first quarter of the circle: its cosine is the sine of the rest of the quarter.
 pub(crate) fn quarter(k: u16) -> Point
     requires { k ≤ 900 }
     ensures value { result ≡ quarter_of k }
@@ -106,8 +106,8 @@ pub(crate) fn quarter(k: u16) -> Point
     }
 }
 
-/// The vector of length 1,000,000 at `k` tenths of a degree clockwise from north, `k` below 3600: the sine to the east and the
-/// cosine to the north, in millionths.
+/// Returns the vector of length 1,000,000 at `k` tenths of a degree clockwise from north, `k` below 3600: the sine to
+/// the east and the cosine to the north, in millionths.
 #[tactic(auto, unfolding(crate::specs::Compass::unit_of))]
 pub fn unit(k: u16) -> Point
     requires { k < 3600 }

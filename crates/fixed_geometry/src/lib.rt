@@ -1,9 +1,9 @@
 //! The fixed-point plane in which vessels move: its points and their products, the compass, and the bearings.
 //!
-//! A component is a count of tenths of a millimetre, `x` to the east and `y` to the north. An angle is a count of tenths
-//! of a degree clockwise from north. Places, courses and speeds come in the units of ITU-R M.1371-5, Annex 8, section 3.1:
-//! ten thousandths of a minute, tenths of a degree, tenths of a knot. The plane and the compass are this project's own. All
-//! values are whole numbers and exact; nothing here takes memory.
+//! A component is a count of tenths of a millimetre, `x` to the east and `y` to the north. An angle is a count of
+//! tenths of a degree clockwise from north. Places, courses and speeds have the units of ITU-R M.1371-5, Annex 8,
+//! section 3.1: ten thousandths of a minute, tenths of a degree, tenths of a knot. The plane and the compass are this
+//! project's own. All values are exact whole numbers. No function takes memory.
 //!
 //! About the reference at 60 degrees north on the meridian of Greenwich, the place a tenth of a minute further east has the
 //! point `(926000, 0)`, which is 92.6 metres: `project` of latitude 36,000,000 and longitude 1000. A vessel on course 300, which

@@ -1,10 +1,10 @@
-//! Points of the plane, how far they lie from one another, and the products by which distances and sides are compared.
+//! Points of the plane, their distances, and the products that compare distances and sides.
 ghost use Rattle.std.specs.Prelude.{ℕ, pos, ◌≡◌, ◌^◌, ◌+◌, ◌*◌, ◌<◌, ◌≤◌, ◌+ℤ◌, ◌-ℤ◌, ◌*ℤ◌, ◌≤ℤ◌, ◌↔◌, IsTrue, unsigned_abs};
 ghost use Rattle.fixed_geometry.specs.Displacement.{displacement};
 ghost use Rattle.fixed_geometry.specs.Plane.{dot_of, turn_of, norm2_of};
 ghost use Rattle.fixed_geometry.specs.Sizes.{IsWithin};
 
-/// A point of the plane, or a vector in it, as the displacement from one point to another, which is the second less the
+/// A point of the plane, or a vector in it, such as the displacement from one point to another: the second minus the
 /// first.
 #[derive(Clone, Copy, Debug, PartialEq, Eq)]
 pub struct Point {
@@ -42,7 +42,7 @@ fn minus(a: i128, b: i128) -> i128
     a - b
 }
 
-/// The second component less the first.
+/// Returns the second component minus the first.
 fn difference(a: i64, b: i64) -> i64
     requires a_small { unsigned_abs a ≤ 2 ^ 61 }
     requires b_small { unsigned_abs b ≤ 2 ^ 61 }
@@ -52,7 +52,7 @@ fn difference(a: i64, b: i64) -> i64
     b - a
 }
 
-/// The displacement from one point to another: the second less the first. Components are at most 2^61 in size.
+/// Returns the displacement from one point to another: the second minus the first. Components are at most 2^61 in size.
 pub fn displacement(a: Point, b: Point) -> Point
     requires a_small { IsWithin (2 ^ 61) a }
     requires b_small { IsWithin (2 ^ 61) b }
@@ -67,7 +67,7 @@ pub fn displacement(a: Point, b: Point) -> Point
     }
 }
 
-/// The square of a distance.
+/// Returns the square of a distance.
 pub fn square(distance: u64) -> u128
     ensures { result ≡ distance * distance }
 {
@@ -82,8 +82,8 @@ fn component_square(a: i64) -> u128
     square(a.unsigned_abs())
 }
 
-/// The dot product of two vectors, components at most 2^62 in size: positive if the angle between them is less than a
-/// right angle, negative if it is more.
+/// Returns the dot product of two vectors, components at most 2^62 in size: positive if the angle between them is less
+/// than a right angle, negative if it is more.
 pub fn dot(a: Point, b: Point) -> i128
     requires a_small { IsWithin (2 ^ 62) a }
     requires b_small { IsWithin (2 ^ 62) b }
@@ -94,8 +94,8 @@ pub fn dot(a: Point, b: Point) -> i128
     sum(product(a.x, b.x), product(a.y, b.y))
 }
 
-/// The cross product of two vectors, components at most 2^62 in size: positive if `b` points to port of `a`, negative
-/// if it points to starboard.
+/// Returns the cross product of two vectors, components at most 2^62 in size: positive if `b` points to port of `a`,
+/// negative if it points to starboard.
 pub fn turn(a: Point, b: Point) -> i128
     requires a_small { IsWithin (2 ^ 62) a }
     requires b_small { IsWithin (2 ^ 62) b }
@@ -106,7 +106,7 @@ pub fn turn(a: Point, b: Point) -> i128
     minus(product(a.x, b.y), product(a.y, b.x))
 }
 
-/// The square of a vector's length, components at most 2^62 in size.
+/// Returns the square of a vector's length, components at most 2^62 in size.
 pub fn norm2(a: Point) -> u128
     requires { IsWithin (2 ^ 62) a }
     ensures value { pos result ≡ norm2_of a }
@@ -116,7 +116,7 @@ pub fn norm2(a: Point) -> u128
     component_square(a.x) + component_square(a.y)
 }
 
-/// Whether two points are at most so far apart. Their components are at most 2^61 in size.
+/// Returns whether two points are at most `range` apart. Their components are at most 2^61 in size.
 pub fn within(a: Point, b: Point, range: u64) -> bool
     requires a_small { IsWithin (2 ^ 61) a }
     requires b_small { IsWithin (2 ^ 61) b }
@@ -125,7 +125,7 @@ pub fn within(a: Point, b: Point, range: u64) -> bool
     norm2(displacement(a, b)) <= square(range)
 }
 
-/// A power of two that is no less than the root of `n`, by the number's bit length.
+/// Returns a power of two that is at least the root of `n`, from the number's bit length.
 fn power_above(n: u128) -> u128
     requires { 0 < n }
     ensures above { n < (result + 1) * (result + 1) }
@@ -135,8 +135,8 @@ fn power_above(n: u128) -> u128
     1 << (n.ilog2() / 2 + 1)
 }
 
-/// A number nearer to the root of `n`, by Newton's method. It is no less than the root, rounded down; if it is no less
-/// than the number before, that one is the root.
+/// Returns a number nearer to the root of `n`, by Newton's method. The result is at least the root, rounded down. If it
+/// is not less than the previous number, that number is the root.
 fn nearer_root(n: u128, root: u128) -> u128
     requires above { n < (root + 1) * (root + 1) }
     requires some { 0 < root }
@@ -148,7 +148,7 @@ fn nearer_root(n: u128, root: u128) -> u128
     (root + n / root) / 2
 }
 
-/// The greatest whole number whose square is at most `n`: a length, from its square, rounded down.
+/// Returns the greatest whole number whose square is at most `n`: a length, from its square, rounded down.
 pub fn isqrt(n: u128) -> u64
     ensures square_le { result * result ≤ n }
     ensures greatest { (m : ℕ) → m * m ≤ n → m ≤ result }

@@ -1,4 +1,4 @@
-//! The projection of places on the earth into the plane about a reference.
+//! The projection of places on the Earth into the plane around a reference.
 //!
 //! Latitudes and longitudes are in ten thousandths of a minute, as ITU-R M.1371-5, Annex 8, section 3.1 gives them: a degree is
 //! 600,000.
@@ -12,8 +12,8 @@ use crate::point::Point;
 use crate::rounding::{difference, round_quotient, round_the_circle, scale};
 use std::marker::Model;
 
-/// How far a point of the region lies from the reference at most, in each component: 222,240 metres, in tenths of a millimetre.
-/// Two degrees of latitude are as long.
+/// The greatest distance of a point of the region from the reference in each component: 222,240 metres, in tenths of a
+/// millimetre. This is the length of two degrees of latitude.
 pub const REGION_SIZE: u64 = 2_222_400_000;
 
 /// The place at the plane's origin, at most 75 degrees from the equator.
@@ -21,7 +21,7 @@ pub const REGION_SIZE: u64 = 2_222_400_000;
 pub struct Reference {
     latitude: i32,
     longitude: i32,
-    /// The cosine of the latitude, in millionths. Each point asks for it.
+    /// The cosine of the latitude, in millionths. It is stored because each point needs it.
     cosine: i64,
 }
 
@@ -50,8 +50,8 @@ impl Model for Reference {
 }
 
 impl Reference {
-    /// A reference at a latitude and a longitude in ten thousandths of a minute, positive to the north and to the east.
-    /// `None` beyond 75 degrees of latitude or 180 degrees of longitude.
+    /// Returns a reference at a latitude and a longitude in ten thousandths of a minute, positive to the north and to
+    /// the east. `None` beyond 75 degrees of latitude or 180 degrees of longitude.
     pub fn new(lat: i32, lon: i32) -> Option<Reference>
         ensures some { IsSome result
             ↔ (unsigned_abs lat ≤ 45000000 × unsigned_abs lon ≤ 108000000) }
@@ -67,7 +67,7 @@ impl Reference {
         })
     }
 
-    /// The latitude of the origin, in ten thousandths of a minute, positive to the north.
+    /// Returns the latitude of the origin, in ten thousandths of a minute, positive to the north.
     pub fn lat(&self) -> i32
         ensures value { result ≡ self.now.latitude }
         ensures small { unsigned_abs result ≤ 45000000 }
@@ -75,7 +75,7 @@ impl Reference {
         self.latitude
     }
 
-    /// The longitude of the origin, in ten thousandths of a minute, positive to the east.
+    /// Returns the longitude of the origin, in ten thousandths of a minute, positive to the east.
     pub fn lon(&self) -> i32
         ensures value { result ≡ self.now.longitude }
         ensures small { unsigned_abs result ≤ 108000000 }
@@ -84,7 +84,7 @@ impl Reference {
     }
 }
 
-/// The length of an arc of latitude, whose minute is 1852 metres long.
+/// Returns the length of an arc of latitude, whose minute is 1852 metres long.
 fn length(arc: i64) -> i64
     requires { unsigned_abs arc ≤ 108000000 }
     ensures value { result ≡ arc *ℤ pos 1852 }
@@ -93,7 +93,7 @@ fn length(arc: i64) -> i64
     arc * 1852
 }
 
-/// The cosine of a latitude, to the nearest tenth of a degree, in millionths.
+/// Returns the cosine of a latitude, to the nearest tenth of a degree, in millionths.
 #[tactic(auto, unfolding(crate::specs::Rounding::rounded))]
 fn latitude_cosine(latitude: i32) -> i64
     requires { unsigned_abs latitude ≤ 45000000 }
@@ -104,7 +104,7 @@ fn latitude_cosine(latitude: i32) -> i64
     unit(tenths as u16).y
 }
 
-/// How far to the east of the reference a longitude is, at the reference's latitude.
+/// Returns the distance of a longitude east of the reference, at the reference's latitude.
 fn east(reference: Reference, lon: i32) -> i64
     requires { unsigned_abs lon ≤ 108000000 }
     ensures { result ≡ east_of reference.latitude reference.longitude lon }
@@ -113,7 +113,7 @@ fn east(reference: Reference, lon: i32) -> i64
     round_quotient(scale(length(arc), reference.cosine), 1_000_000)
 }
 
-/// How far to the north of the reference a latitude is, as an arc.
+/// Returns the distance of a latitude north of the reference, as an arc.
 fn north(reference: Reference, lat: i32) -> i64
     ensures value { result ≡ lat -ℤ reference.latitude }
     ensures small { unsigned_abs result ≤ unsigned_abs lat + 45000000 }
@@ -121,9 +121,9 @@ fn north(reference: Reference, lat: i32) -> i64
     difference(reference.latitude, lat)
 }
 
-/// The point of a place, given by its latitude and its longitude in ten thousandths of a minute, at most 90 and 180 degrees in
-/// size. `None` outside the region: more than 2 degrees of latitude, or 222,240 metres to the east or to the west, from the
-/// reference.
+/// Returns the point of a place, given by its latitude and its longitude in ten thousandths of a minute, at most 90 and
+/// 180 degrees in size. `None` outside the region: more than 2 degrees of latitude, or 222,240 metres to the east or to
+/// the west, from the reference.
 #[inline(always)]
 pub fn project(reference: Reference, lat: i32, lon: i32) -> Option<Point>
     requires lat { unsigned_abs lat ≤ 54000000 }

@@ -8,10 +8,11 @@ use crate::compass::unit;
 use crate::point::Point;
 use crate::rounding::{round_quotient, scale};
 
-/// The greatest component of a velocity, in tenths of a millimetre a second: 102.2 knots are 525,762.2.
+/// The greatest component of a velocity, in tenths of a millimetre per second: 102.2 knots are 525,762.2.
 pub const GREATEST_VELOCITY: u64 = 525_763;
 
-/// One component: a speed times a sine or a cosine, where a tenth of a knot is 463 / 0.9 tenths of a millimetre a second.
+/// Returns one component: a speed times a sine or a cosine. A tenth of a knot is 463 / 0.9 tenths of a millimetre per
+/// second.
 #[tactic(auto, unfolding(crate::specs::Rounding::rounded))]
 fn component(speed: u16, millionths: i64) -> i64
     requires speed_small { speed ≤ 1022 }
@@ -22,8 +23,8 @@ fn component(speed: u16, millionths: i64) -> i64
     round_quotient(463 * scale(i64::from(speed), millionths), 900_000)
 }
 
-/// The velocity of a course in tenths of a degree, below 3600, and a speed in tenths of a knot, at most 1022, the units of
-/// ITU-R M.1371-5, Annex 8, section 3.1: the displacement in a second, in tenths of a millimetre.
+/// Returns the velocity of a course in tenths of a degree, below 3600, and a speed in tenths of a knot, at most 1022,
+/// the units of ITU-R M.1371-5, Annex 8, section 3.1: the displacement in a second, in tenths of a millimetre.
 #[tactic(auto, unfolding(crate::specs::Velocity::velocity_of))]
 pub fn velocity(course: u16, speed: u16) -> Point
     requires course { course < 3600 }

@@ -1,5 +1,5 @@
-//! What no clause says: a worked case, many random formulas against the values over every front of their rows, and a formula that
-//! stays open long.
+//! Beyond the contracts: a worked case, many random formulas against the values over every prefix of their rows, and a
+//! formula that stays open for long.
 ghost use Rattle.std.specs.Prelude.{◌≡◌, ◌≤◌, ◌<◌, ◌+◌, true, length, IfOk};
 ghost use Rattle.mtl_formulas.specs.FormulaTree.{tree_of};
 ghost use Rattle.mtl_formulas.specs.FormulaMeasures.{IsValid};
@@ -16,7 +16,7 @@ use std::alloc::{AllocError, Global};
 use std::process::Abort;
 use std::test::Fail;
 
-/// The rows so far decide nothing that was not given.
+/// Checks that the rows so far decide no more positions than the monitor has returned.
 fn gives_nothing(rt: &impl Abort, monitor: &mut EarlyMonitor)
     ensures done { HasGivenAll monitor.new }
     ensures fed { rows_fed monitor.new ≡ rows_fed monitor.old }
@@ -41,7 +41,7 @@ fn soon_is_known_as_soon_as_it_is(rt: HostRuntime) -> Result<(), Fail> {
     Ok(())
 }
 
-/// The value at a position, if all of these rows decide it and fewer do not.
+/// Returns the value at a position, if all of these rows decide it and fewer do not.
 pub(crate) fn newly(formula: &Formula, rows: &[Row], position: usize) -> Option<Verdict>
     requires { IsValid (tree_of formula.now) }
 {
@@ -53,7 +53,7 @@ pub(crate) fn newly(formula: &Formula, rows: &[Row], position: usize) -> Option<
     }
 }
 
-/// Whether an answer is this value at this position.
+/// Returns whether an answer has this value at this position.
 pub(crate) fn is_given(answer: Option<(u32, Verdict)>, position: usize, wanted: Verdict) -> bool {
     match answer {
         Some((at, given)) => at as usize == position && given as u8 == wanted as u8,
@@ -61,7 +61,8 @@ pub(crate) fn is_given(answer: Option<(u32, Verdict)>, position: usize, wanted: 
     }
 }
 
-/// Whether the monitor, to which these rows were fed, gives the positions that the last of them decides, and then nothing.
+/// Returns whether the monitor, after these rows, returns the positions that the last of them decides, and then
+/// nothing.
 fn gives_all(monitor: &mut EarlyMonitor, formula: &Formula, rows: &[Row]) -> bool
     requires { IsValid (tree_of formula.now) }
     ensures fed { rows_fed monitor.new ≡ rows_fed monitor.old }
@@ -77,8 +78,7 @@ fn gives_all(monitor: &mut EarlyMonitor, formula: &Formula, rows: &[Row]) -> boo
     monitor.next().is_none()
 }
 
-/// Feeds the rows to an early monitor, and returns whether it gives each position after the row that decides
-/// it.
+/// Feeds the rows to an early monitor; returns whether it returns each position after the row that decides it.
 fn agrees(alloc: Global, formula: &Formula, rows: &[Row]) -> Result<bool, Memory>
     requires valid { IsValid (tree_of formula.now) }
     requires few { length rows.now < 1000 }
@@ -147,7 +147,7 @@ fn random_formulas_agree_with_the_values_over_every_front(rt: HostRuntime) -> Re
     Ok(())
 }
 
-/// The monitor of sixteen nested windows.
+/// Returns the monitor of sixteen nested windows.
 fn nested(rt: &impl Abort, alloc: Global) -> Result<EarlyMonitor, Fail>
     ensures fed { IfOk result (λ m. rows_fed m ≡ 0) }
     ensures done { IfOk result HasGivenAll }
@@ -162,7 +162,7 @@ fn nested(rt: &impl Abort, alloc: Global) -> Result<EarlyMonitor, Fail>
     Ok(EarlyMonitor::new(alloc, &formula)?)
 }
 
-/// Whether each of this many rows decides nothing.
+/// Returns whether each of this many rows decides nothing.
 fn waits(monitor: &mut EarlyMonitor, rows: u8) -> bool
     requires done { HasGivenAll monitor.old }
     requires fed { rows_fed monitor.old ≡ 0 }

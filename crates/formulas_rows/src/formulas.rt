@@ -1,4 +1,4 @@
-//! What no clause says: worked texts, faults by number, and the limits.
+//! Beyond the contracts: worked texts, faults by number, and the limits.
 ghost use Rattle.std.specs.Prelude.{IfOk};
 ghost use Rattle.mtl_formulas.specs.FormulaTree.{tree_of};
 ghost use Rattle.mtl_formulas.specs.FormulaMeasures.{IsValid, IsTick};
@@ -12,14 +12,14 @@ use out_of_memory::Memory;
 use std::alloc::{AllocError, Global};
 use std::process::Abort;
 
-/// How the formula of a text is printed at a tick of 10 seconds.
+/// Returns the printed form of a text's formula at a tick of 10 seconds.
 fn reprinted(rt: &impl Abort, alloc: Global, text: &[u8]) -> Result<Vec<u8>, ParseFault> {
     is_true(rt, text.len() <= 1024);
     let formula = parse(alloc, text, 10)?;
     Ok(print(alloc, &formula, 10)?)
 }
 
-/// Compares how the formula of a text is printed at a tick of 10 seconds.
+/// Compares the printed form of a text's formula at a tick of 10 seconds.
 pub(crate) fn is_reprinted(
     rt: &impl Abort,
     alloc: Global,
@@ -40,7 +40,7 @@ fn has_fault(rt: &impl Abort, alloc: Global, text: &[u8], tick: u32, wanted: Opt
     is(rt, (text, fault), (text, wanted));
 }
 
-/// Adds the text as often as stated, and then the end.
+/// Appends the text `times` times, and then the end.
 fn add(all: &mut Vec<u8>, text: &[u8], times: u8, end: &[u8]) -> Result<(), AllocError> {
     for _ in 0..times {
         all.extend_from_slice(text)?;
@@ -48,7 +48,7 @@ fn add(all: &mut Vec<u8>, text: &[u8], times: u8, end: &[u8]) -> Result<(), Allo
     all.extend_from_slice(end)
 }
 
-/// The text as often as stated, and then the end.
+/// Returns the text `times` times, and then the end.
 pub(crate) fn repeated(
     alloc: Global,
     text: &[u8],
@@ -60,7 +60,7 @@ pub(crate) fn repeated(
     Ok(all)
 }
 
-/// Texts, and how their formulas are printed: operators and spaces in one way.
+/// Texts, and the printed forms of their formulas, with uniform operators and spaces.
 static PRINTED: [(&[u8], &[u8]); 3] = [
     (b"F[0,20] risk & !seen", b"(F[0,20] risk & !seen)"),
     (
@@ -78,7 +78,7 @@ fn operators_and_spaces_are_printed_in_one_way(rt: HostRuntime) -> Result<(), Pa
     Ok(())
 }
 
-/// Texts, and the index at which each is refused at a tick of 10 seconds.
+/// Texts, and the fault of each at a tick of 10 seconds.
 static REFUSED: [(&[u8], ParseFault); 10] = [
     // wrong tokens
     (b"risk &", ParseFault::Syntax(6)),
@@ -112,10 +112,10 @@ fn depth_64_is_taken(rt: HostRuntime) -> Result<(), AllocError> {
     Ok(())
 }
 
-/// How four groups of 32 atoms end.
+/// The ends of four groups of 32 atoms.
 static ENDS: [&[u8]; 4] = [b"true)&(", b"true)&(", b"true)&(", b"true))"];
 
-/// The four groups, joined, and the whole so often negated: 4 * 63 + 3 nodes, and one for each negation.
+/// Returns the four groups joined, negated `negations` times: 4 * 63 + 3 nodes, and one per negation.
 fn groups(alloc: Global, negations: u8) -> Result<Vec<u8>, AllocError> {
     let mut all = repeated(alloc, b"!", negations, b"((")?;
     for end in &ENDS {
@@ -147,7 +147,7 @@ fn reach_7200_is_taken(rt: HostRuntime) {
     }
 }
 
-/// `risk` in three positions, the nearest this one.
+/// Returns `risk` in three positions, the nearest of them this one.
 fn risk_in_window(alloc: Global, kind: SpanKind) -> Result<Formula, Memory>
     ensures { IfOk result (λ f. IsValid (tree_of f)) }
 {
@@ -178,7 +178,7 @@ impl Atoms for Row {
 
 static QUIET: [Row; 4] = [Row { each: Verdict::No }; 4];
 
-/// Compares the values of a formula, each at a position, if nothing is answered by yes.
+/// Compares the values of a formula, each at a position, over a row that answers no atom with Yes.
 fn has_values(rt: &impl Abort, formula: &Formula, values: &[(usize, Verdict)])
     requires { IsValid (tree_of formula.now) }
 {

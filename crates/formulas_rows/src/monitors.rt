@@ -1,4 +1,4 @@
-//! What no clause says: worked rows, many random formulas, and that each call can succeed.
+//! Beyond the contracts: worked rows, many random formulas, and that each call can succeed.
 ghost use Rattle.std.specs.Prelude.{◌≡◌, ◌<◌, ◌≤◌, length, IfOk};
 ghost use Rattle.mtl_formulas.specs.FormulaTree.{tree_of};
 ghost use Rattle.mtl_formulas.specs.FormulaMeasures.{IsValid};
@@ -16,7 +16,7 @@ use rand_pcg::Pcg32;
 use std::alloc::{AllocError, Global};
 use std::process::Abort;
 
-/// Feeds the rows, and then finishes: all answers in order.
+/// Feeds the rows and finishes; returns all answers in order.
 fn answers(
     alloc: Global,
     monitor: &mut Monitor,
@@ -36,7 +36,7 @@ fn answers(
     Ok(all)
 }
 
-/// The monitor of a text at a tick of 10 seconds.
+/// Returns the monitor of a text at a tick of 10 seconds.
 fn monitor_of(rt: &impl Abort, alloc: Global, text: &[u8]) -> Result<Monitor, ParseFault>
     ensures past { IfOk result (λ m. past_rows m ≡ 0) }
     ensures fed { IfOk result (λ m. fed_rows m ≡ 0) }
@@ -46,7 +46,7 @@ fn monitor_of(rt: &impl Abort, alloc: Global, text: &[u8]) -> Result<Monitor, Pa
     Ok(Monitor::new(alloc, &formula)?)
 }
 
-/// All answers of that monitor over fewer than a thousand rows.
+/// Returns all answers of that monitor over fewer than a thousand rows.
 fn answers_of(
     rt: &impl Abort,
     alloc: Global,
@@ -58,7 +58,7 @@ fn answers_of(
     answers(alloc, &mut monitor, rows)
 }
 
-/// What a run shows, its formula and its rows, and the answers: those to each row, and then those of the end.
+/// A run: its name, its formula, its rows, and the answers: first those to each row, then those of the end.
 type Run = (
     &'static str,
     &'static [u8],
@@ -127,7 +127,7 @@ static RUNS: [Run; 4] = [
     ),
 ];
 
-/// A run has its answers.
+/// Checks that a run has its answers.
 fn has_answers(rt: &impl Abort, alloc: Global, run: &Run) -> Result<(), ParseFault> {
     let (shows, text, rows, expected) = run;
     let all = answers_of(rt, alloc, text, rows)?;
@@ -143,7 +143,7 @@ fn each_run_has_its_answers(rt: HostRuntime) -> Result<(), ParseFault> {
     Ok(())
 }
 
-/// How many of the answers have this value.
+/// Returns the number of answers with this value.
 fn count(answers: &[Option<(u32, Verdict)>], wanted: Verdict) -> usize {
     answers
         .iter()
@@ -167,7 +167,7 @@ fn many_windows_in_one_another(rt: HostRuntime) -> Result<(), ParseFault> {
 
 static BOUNDS: [&str; 5] = ["[0,0] ", "[0,20] ", "[10,30] ", "[20,20] ", "[10,70] "];
 
-/// Writes an operator of one operand, by its number, before the operand.
+/// Writes the unary operator of this number, before its operand.
 fn write_before(source: &mut Pcg32, text: &mut String, operator: usize) -> Result<(), AllocError>
     requires { operator ≤ 4 }
 {
@@ -178,7 +178,7 @@ fn write_before(source: &mut Pcg32, text: &mut String, operator: usize) -> Resul
     text.push_str(BOUNDS[below(source, 5) as usize])
 }
 
-/// Writes an operator of two operands, by its number, between them.
+/// Writes the binary operator of this number, between its operands.
 fn write_between(source: &mut Pcg32, text: &mut String, operator: usize) -> Result<(), AllocError>
     requires { operator < 5 }
 {
@@ -212,7 +212,7 @@ static SPANS: [&str; 4] = ["F", "G", "O", "H"];
 
 static LINKS: [&str; 5] = [" & ", " | ", " -> ", " U", " S"];
 
-/// Whether an answer is that of the definition's plain program over these rows.
+/// Returns whether an answer is that of a plain program of the definition over these rows.
 fn is_right(
     answer: Option<(u32, Verdict)>,
     formula: &Formula,
@@ -229,7 +229,7 @@ fn is_right(
     }
 }
 
-/// Feeds the rows to a monitor and finishes it, and returns whether each answer is that of the plain program.
+/// Feeds the rows to a monitor and finishes it; returns whether each answer is that of the plain program.
 fn agrees(alloc: Global, formula: &Formula, rows: &[Row]) -> Result<bool, Memory>
     requires valid { IsValid (tree_of formula.now) }
     requires few { length rows.now < 1000 }
@@ -286,7 +286,7 @@ fn random_formulas_agree_with_the_plain_program(rt: HostRuntime) -> Result<(), P
     Ok(())
 }
 
-/// The program of two formulas.
+/// Returns the program of two formulas.
 fn program_of(alloc: Global, first: &Formula, second: &Formula) -> Result<Program, ParseFault>
     requires first { IsValid (tree_of first.now) }
     requires second { IsValid (tree_of second.now) }
@@ -296,7 +296,7 @@ fn program_of(alloc: Global, first: &Formula, second: &Formula) -> Result<Progra
     Ok(of_first.with(second)?)
 }
 
-/// The program of two formulas that share a part.
+/// Returns the program of two formulas that share a part.
 fn program_of_two(alloc: Global) -> Result<Program, ParseFault>
     ensures { IfOk result (λ p. count_of p ≡ 2) }
 {
@@ -305,7 +305,7 @@ fn program_of_two(alloc: Global) -> Result<Program, ParseFault>
     program_of(alloc, &soon, &not_soon)
 }
 
-/// Two traces are followed, and the second takes over the first.
+/// Checks that a program follows two traces, and that the second can take over the first.
 fn traces_are_followed(rt: &impl Abort, alloc: Global, program: &Program) -> Result<(), Memory>
     requires { count_of program.now ≡ 2 }
 {
@@ -337,7 +337,7 @@ fn two_formulas_over_two_traces(rt: HostRuntime) -> Result<(), ParseFault> {
     Ok(followed?)
 }
 
-/// A monitor takes over another.
+/// Checks that a monitor takes over another.
 fn is_taken_over(rt: &impl Abort, alloc: Global, formula: &Formula) -> Result<(), Memory>
     requires { IsValid (tree_of formula.now) }
 {

@@ -1,4 +1,4 @@
-//! Rows with answers to the atoms, worked and random ones.
+//! Rows with values for the atoms, worked and random ones.
 ghost use Rattle.std.specs.Prelude.{◌≡◌, ◌<◌, length, IfOk, if◌then◌else◌};
 ghost use Rattle.mtl_formulas.specs.declared.atom.Atom.TheVariants.{Risk};
 ghost use Rattle.mtl_monitor.specs.Inner.Compiling.{same_atom};
@@ -8,7 +8,7 @@ use rand_core::utils::NextWord;
 use rand_pcg::Pcg32;
 use std::alloc::{AllocError, Global};
 
-/// A row with an answer to `risk`, and one to all other atoms.
+/// A row with a value for `risk`, and one for all other atoms.
 #[derive(Clone, Copy)]
 pub(crate) struct Row {
     pub(crate) risk: Verdict,
@@ -47,7 +47,7 @@ const APART: Row = Row {
     other: Verdict::No,
 };
 
-/// One of this many, at most 256.
+/// Returns a number below `many`, which is at most 256.
 pub(crate) fn below(source: &mut Pcg32, many: u32) -> u32
     requires { 0 < many }
     ensures { result < many }
@@ -55,7 +55,7 @@ pub(crate) fn below(source: &mut Pcg32, many: u32) -> u32
     (source.next_word() >> 8) % many
 }
 
-/// A random row. Most rows are as the one before, so that nodes come to rest.
+/// Returns a random row. Most rows equal the one before, so that nodes come to rest.
 fn random_row(source: &mut Pcg32, last: Row) -> Row {
     match below(source, 12) {
         0 => NO,
@@ -66,7 +66,7 @@ fn random_row(source: &mut Pcg32, last: Row) -> Row {
     }
 }
 
-/// So many random rows.
+/// Returns `many` random rows.
 pub(crate) fn random_rows(
     alloc: Global,
     source: &mut Pcg32,

@@ -1,4 +1,4 @@
-//! The texts of the rules, their weights, and rules that are added.
+//! The texts of the rules, their weights, and added rules.
 use crate::compared::{is, is_true};
 use crate::formulas::is_reprinted;
 use mtl_formulas::weight;
@@ -31,7 +31,7 @@ const PER_KIND: RuleNumbers = RuleNumbers {
     ..NUMBERS
 };
 
-/// The rule at an index has this name, and is printed as this text.
+/// Checks that the rule at an index has this name and prints as this text.
 fn is_rule(
     rt: &impl Abort,
     alloc: Global,
@@ -46,7 +46,7 @@ fn is_rule(
     Ok(())
 }
 
-/// The rules in their order: the name of each, how it is printed, and a text that means it.
+/// The rules in order: the name of each, its printed form, and a text with the same meaning.
 static RULES: [(&[u8], &[u8], &[u8]); 11] = [
     (
         b"r8b",
@@ -101,7 +101,7 @@ static RULES: [(&[u8], &[u8], &[u8]); 11] = [
     ),
 ];
 
-/// The rules of a set are these, and are printed as the texts that mean them.
+/// Checks that these are the rules of a set, and that they print like the texts with the same meaning.
 fn are_meant(
     rt: &impl Abort,
     alloc: Global,
@@ -122,7 +122,7 @@ fn each_rule_is_printed_as_its_text_means(rt: HostRuntime) -> Result<(), ParseFa
     are_meant(&rt, rt.alloc(), &set, &RULES)
 }
 
-/// The same of the rules with ranks: the name of each, and how it is printed.
+/// The same for the rules with ranks: the name of each, and its printed form.
 static RANKED: [(&[u8], &[u8]); 12] = [
     (b"r8b", b"(alters -> F[0,60] (apparent | !engaged))"),
     (b"r8d", b"(engaged -> clear(200))"),
@@ -159,7 +159,7 @@ static RANKED: [(&[u8], &[u8]); 12] = [
     (b"r18", b"((engaged & rank_gives) -> clear(200))"),
 ];
 
-/// The rules of a set are these.
+/// Checks that these are the rules of a set.
 fn are_rules(
     rt: &impl Abort,
     alloc: Global,
@@ -179,7 +179,7 @@ fn each_ranked_rule_is_printed(rt: HostRuntime) -> Result<(), Memory> {
     are_rules(&rt, rt.alloc(), &set, &RANKED)
 }
 
-/// The rule of the safe distance with a distance for each kind, and how it is printed.
+/// The printed form of the rule of the safe distance with one distance per kind.
 const MEANT_PER_KIND: &[u8] =
     b"(engaged & head_on -> clear(100)) & (engaged & (overtaking | overtaken) -> clear(200)) & (engaged & (crossing_gives | crossing_stands) -> clear(300)) & (engaged & (passing | unclassified) -> clear(400))";
 
@@ -206,7 +206,7 @@ fn all_weigh(set: &RuleSet) -> u64 {
     sum
 }
 
-/// Compares what the rules of a set weigh.
+/// Compares the weight of the rules of a set.
 fn weigh(rt: &impl Abort, set: Result<RuleSet, Memory>, wanted: u64) -> Result<(), Memory> {
     let set = set?;
     is(rt, all_weigh(&set), wanted);
@@ -220,11 +220,12 @@ fn the_rules_have_their_weights(rt: HostRuntime) -> Result<(), Memory> {
     weigh(&rt, RuleSet::new(alloc, &NUMBERS, TICK), 509)?;
     // The rule of the safe distance has 29 nodes instead of 3.
     weigh(&rt, RuleSet::new(alloc, &PER_KIND, TICK), 535)?;
-    // With ranks 16 more for r14a, 32 for r16, 4 for r17a, 12 for r17b, 2 each for r14b, r14p, r15 and r17c, and 5 for r18.
+    // With ranks, 16 more for r14a, 32 for r16, 4 for r17a, 12 for r17b, 2 each for r14b, r14p, r15 and r17c, and 5 for
+    // r18.
     weigh(&rt, RuleSet::new_ranked(alloc, &NUMBERS, TICK), 586)
 }
 
-/// Adds a rule of the name `mine`.
+/// Adds a rule with the name `mine`.
 fn add_mine(rt: &impl Abort, alloc: Global, set: &mut RuleSet) -> Result<(), ParseFault> {
     let name = Name::of(b"mine");
     is_true(rt, set.len() < 17 && !set.holds(name.bytes()));
@@ -233,7 +234,7 @@ fn add_mine(rt: &impl Abort, alloc: Global, set: &mut RuleSet) -> Result<(), Par
     Ok(())
 }
 
-/// The twelve rules are the eleven and `mine`.
+/// Checks that the twelve rules are the eleven and `mine`.
 fn are_with_mine(rt: &impl Abort, alloc: Global, set: &RuleSet) -> Result<(), Memory> {
     let held = (set.holds(b"r17c"), set.holds(b"mine"));
     is(rt, (held, set.len()), ((true, true), 12));

@@ -1,5 +1,5 @@
-//! What no clause states about sweeps: a worked case, many random formulas against the values over every front of their rows, and which
-//! formulas are left out.
+//! Beyond the contracts of sweeps: a worked case, many random formulas against the values over every prefix of their
+//! rows, and the formulas that sweeps cannot compute.
 ghost use Rattle.std.specs.Prelude.{◌≡◌, ◌<◌, true, length};
 ghost use Rattle.mtl_formulas.specs.FormulaTree.{tree_of};
 ghost use Rattle.mtl_formulas.specs.FormulaMeasures.{IsValid};
@@ -17,7 +17,7 @@ use std::alloc::Global;
 use std::process::Abort;
 use std::test::Fail;
 
-/// The rows so far decide nothing that was not given.
+/// Checks that the rows so far decide no more positions than the state has returned.
 fn gives_nothing(rt: &impl Abort, program: &SweepProgram, state: &mut SweepState)
     requires of { IsStateOf program.now state.old }
     ensures of { IsStateOf program.now state.new }
@@ -28,7 +28,7 @@ fn gives_nothing(rt: &impl Abort, program: &SweepProgram, state: &mut SweepState
     is_true(rt, answer.is_none());
 }
 
-/// Feeds one row after another to a state of `F[0,20] risk`.
+/// Feeds rows one after another to a state of `F[0,20] risk`.
 fn soon(rt: &impl Abort, program: &SweepProgram, state: &mut SweepState)
     requires of { IsStateOf program.now state.old }
     requires done { HasGivenAll state.old }
@@ -64,7 +64,7 @@ fn sweeps_leave_out_what_looks_back_at_what_looks_ahead(rt: HostRuntime) -> Resu
     Ok(())
 }
 
-/// Whether the state, to which these rows were fed, gives the positions that the last of them decides, and then nothing.
+/// Returns whether the state, after these rows, returns the positions that the last of them decides, and then nothing.
 fn gives_all(
     state: &mut SweepState,
     program: &SweepProgram,
@@ -87,8 +87,7 @@ fn gives_all(
     state.next(program).is_none()
 }
 
-/// Feeds the rows to a state, and returns whether it gives each position after the row that decides
-/// it.
+/// Feeds the rows to a state; returns whether it returns each position after the row that decides it.
 fn agrees(
     alloc: Global,
     program: &SweepProgram,
@@ -108,7 +107,7 @@ fn agrees(
     Ok(true)
 }
 
-/// Tries one random formula over random rows: whether sweeps compute it.
+/// Tries one random formula over random rows; returns whether sweeps can compute it.
 fn one_agrees(rt: &impl Abort, alloc: Global, source: &mut Pcg32) -> Result<bool, Fail> {
     let mut text = String::new(alloc);
     write_random(source, &mut text)?;

@@ -2,14 +2,14 @@
 use Rattle.std.specs.Prelude.{ℕ, ℤ, ◌+◌, ◌*◌, ◌^◌, ◌≤◌, List, length, All, unsigned_abs}
 
 pub record Grid : Type 0 where
-  -- the changes of course that a leg may choose from, in tenths of a degree, and of speed, in tenths of a knot
+  -- the changes of course that a leg may choose, in tenths of a degree, and of speed, in tenths of a knot
   pub courses : List ℤ
   pub speeds : List ℤ
-  -- how many legs a plan has, how many ticks each lasts, and for how many more the last is held
+  -- the number of legs of a plan, the ticks of each, and for how many more the last is held
   pub legs : ℕ
   pub leg_ticks : ℕ
   pub tail : ℕ
-  -- how far own ship turns in a tick at most, in tenths of a degree, and how much she changes speed, in tenths of a knot
+  -- the most that own ship turns per tick, in tenths of a degree, and changes speed, in tenths of a knot
   pub turn_rate : ℕ
   pub speed_rate : ℕ
 
@@ -24,7 +24,7 @@ grid courses speeds legs leg_ticks tail turn_rate speed_rate = record {
   speed_rate = speed_rate;
 }
 
--- how many choices a leg has, how many plans there are, and how many ticks a plan lasts
+-- the number of choices of a leg, of plans, and of ticks of a plan
 abbrev pub choices_of : Grid → ℕ
 choices_of grid = length grid.courses * length grid.speeds
 

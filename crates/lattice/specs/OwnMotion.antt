@@ -1,4 +1,4 @@
--- Own ship's motion under a plan, tick by tick from now on.
+-- Own ship's motion under a plan, tick by tick from now.
 use Rattle.std.specs.Prelude.{◌≡◌, ℕ, zero, suc, ◌+◌, ◌-◌, ◌/◌, ◌%◌, ◌<◌, ◌≤◌, min, List, length, slice_index, slice_index_or, ℤ, pos, neg_ℤ, ◌+ℤ◌, ◌-ℤ◌, ◌*ℤ◌, unsigned_abs, Some}
 use Rattle.std.specs.Int.{int_max, int_min, int_rem_euclid}
 use Rattle.fixed_geometry.specs.Bearing.{swing_of}
@@ -7,11 +7,11 @@ use Rattle.fixed_geometry.specs.declared.point.Point.{Point}
 use Rattle.motion.specs.declared.leg.TickState.{TickState}
 use Rattle.lattice.specs.Grids.{Grid, positions_of}
 
--- a number held within two others
+-- a number limited to the range of two others
 abbrev pub held : ℤ → ℤ → ℤ → ℤ
 held low high z = int_max low (int_min z high)
 
--- a direction, in tenths of a degree, that has changed
+-- a direction, in tenths of a degree, after a change
 abbrev pub direction_by : ℕ → ℤ → ℕ
 direction_by direction change = unsigned_abs (int_rem_euclid (pos direction +ℤ change) (pos 3600))
 
@@ -23,7 +23,7 @@ course_change grid choice = slice_index_or grid.courses (choice / length grid.sp
 abbrev pub speed_change : Grid → ℕ → ℤ
 speed_change grid choice = slice_index_or grid.speeds (choice % length grid.speeds) (pos 0)
 
--- the course and the speed that a choice orders, from own ship's at now; a speed is held within what a report can say
+-- the course and the speed that a choice orders, from own ship's at now; the speed is limited to the range of a report
 
 unfoldable pub ordered_course : Grid → ℕ → ℕ → ℕ
 ordered_course grid choice course = direction_by course (course_change grid choice)
@@ -59,7 +59,7 @@ speed_after grid plan speed zero = speed
 speed_after grid plan speed (suc step) =
     hastened grid.speed_rate (speed_after grid plan speed step) (ordered_speed grid (choice_in_force grid plan step) speed)
 
--- where she gets in a tick of this many seconds
+-- her displacement in a tick of this many seconds
 unfoldable pub point_by : ℕ → Point → Point → Point
 point_by tick velocity point = record {
   x = point.x +ℤ pos tick *ℤ velocity.x;
@@ -73,12 +73,12 @@ point_after grid plan tick point course speed (suc step) =
     point_by tick (velocity_of (direction_after grid plan course (suc step)) (speed_after grid plan speed (suc step)))
     (point_after grid plan tick point course speed step)
 
--- how many steps have begun at a tick: at the last planned tick no more begins
+-- the number of steps that have begun at a tick; at the last planned tick none begins
 abbrev pub begun_at : Grid → ℕ → ℕ
 begun_at grid k = min (k + 1) (positions_of grid)
 
--- Her state this many ticks after now, from her point, course and speed at now: she heads and moves as in the step that
--- then begins, and at the last planned tick as in the last planned step.
+-- Her state this many ticks after now, from her point, course and speed at now: her heading and speed are those of the
+-- step that begins then, and at the last planned tick those of the last planned step.
 unfoldable pub own_state : Grid → List ℕ → ℕ → Point → ℕ → ℕ → ℕ → TickState
 own_state grid plan tick point course speed k = record {
   point = point_after grid plan tick point course speed k;
@@ -86,7 +86,7 @@ own_state grid plan tick point course speed k = record {
   speed = Some (speed_after grid plan speed (begun_at grid k));
 }
 
--- In each planned step own ship has the course and the speed that are ordered for it.
+-- In each planned step own ship has the ordered course and speed.
 pub record TakesOrdersAtOnce (grid : Grid) : Type 0 where
   pub course : (plan : List ℕ) (course step : ℕ) → course < 3600 →
       direction_after grid plan course (step + 1) ≡ ordered_course grid (choice_in_force grid plan step) course

@@ -1,4 +1,4 @@
--- A vessel under way, and how she has advanced.
+-- A vessel under way, and her advance.
 use Rattle.std.specs.Prelude.{ℕ, ◌≡◌, ◌+◌, ◌*◌, ◌<◌, ◌≤◌, List, unsigned_abs}
 use Rattle.fixed_geometry.specs.Sizes.{IsWithin}
 use Rattle.fixed_geometry.specs.declared.velocities.TheConstants.{GREATEST_VELOCITY}
@@ -16,7 +16,7 @@ pub record HasAdvanced (grid : Grid) (plan : List ℕ) (tick : ℕ) (start : Und
   pub direction : reached.direction ≡ direction_after grid plan start.direction steps
   pub speed : reached.speed ≡ speed_after grid plan start.speed steps
 
--- She is where this many steps lead, and no farther than they can.
+-- She is where this many steps lead, within the distance that they allow.
 pub record IsReached (grid : Grid) (plan : List ℕ) (tick : ℕ) (start : UnderWay) (steps : ℕ) (reached : UnderWay) : Type 0 where
   pub advanced : HasAdvanced grid plan tick start steps reached
   pub direction : reached.direction < 3600

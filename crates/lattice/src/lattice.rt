@@ -10,8 +10,8 @@ use smallvec::SmallVec;
 use std::alloc::Global;
 use std::marker::Model;
 
-/// The plans among which a manoeuvre is searched for: what a leg may choose from, how long the legs last, and how fast
-/// own ship turns and changes speed.
+/// The plans for a manoeuvre: the choices of a leg, the lengths of the legs, and how fast own ship turns and changes
+/// speed.
 #[derive(Drop)]
 pub struct Lattice {
     alloc: Global,
@@ -37,12 +37,12 @@ impl Model for Lattice {
 }
 
 impl Lattice {
-    /// A lattice of these changes of course (1 to 32, each at most 1800 tenths of a degree in size) and of speed (1 to 16,
-    /// each at most 1022 tenths of a knot), of 1 to 8 legs of 1 to 7200 ticks and a tail of at most 7200. Own ship turns by
-    /// 1 to 1800 tenths of a degree in a tick, and changes speed by 1 to 1022 tenths of a knot. There may be at most 2^30
-    /// plans, of at most 7200 ticks.
+    /// Returns the lattice of these changes of course (1 to 32, each at most 1800 tenths of a degree in size) and of
+    /// speed (1 to 16, each at most 1022 tenths of a knot), of 1 to 8 legs of 1 to 7200 ticks and a tail of at most
+    /// 7200. Own ship turns by 1 to 1800 tenths of a degree per tick, and changes speed by 1 to 1022 tenths of a knot
+    /// per tick. A lattice has at most 2^30 plans, of at most 7200 ticks.
     ///
-    /// The lists lie inline: this takes no memory.
+    /// The lists are stored inline, so this takes no memory.
     pub fn new(
         alloc: Global,
         courses: &[i16],
@@ -68,7 +68,7 @@ impl Lattice {
         }
     }
 
-    /// How many choices a leg has, 1 to 512.
+    /// Returns the number of choices of a leg, 1 to 512.
     pub fn choices(&self) -> u32
         ensures value { result ≡ choices_of self.now }
         ensures some { 1 ≤ result }
@@ -78,7 +78,7 @@ impl Lattice {
         self.courses.len() as u32 * self.speeds.len() as u32
     }
 
-    /// How many legs a plan has, 1 to 8.
+    /// Returns the number of legs of a plan, 1 to 8.
     pub fn legs(&self) -> u8
         ensures value { result ≡ self.now.legs }
         ensures some { 1 ≤ result }
@@ -87,7 +87,7 @@ impl Lattice {
         self.legs
     }
 
-    /// How many ticks a leg lasts, 1 to 7200; the last one is held for the tail more.
+    /// Returns the ticks of a leg, 1 to 7200; the last leg is held for the tail in addition.
     pub fn leg_ticks(&self) -> u32
         ensures value { result ≡ self.now.leg_ticks }
         ensures some { 1 ≤ result }
@@ -96,7 +96,7 @@ impl Lattice {
         self.leg_ticks
     }
 
-    /// How many plans there are, at most 2^30.
+    /// Returns the number of plans, at most 2^30.
     pub fn plans(&self) -> u32
         ensures value { result ≡ plans_of self.now }
         ensures few { result ≤ 1073741824 }
@@ -104,7 +104,7 @@ impl Lattice {
         self.choices().pow(u32::from(self.legs))
     }
 
-    /// How many ticks a plan lasts, 1 to 7200.
+    /// Returns the ticks of a plan, 1 to 7200.
     pub fn positions(&self) -> u32
         ensures value { result ≡ positions_of self.now }
         ensures some { 1 ≤ result }
@@ -113,7 +113,7 @@ impl Lattice {
         u32::from(self.legs) * self.leg_ticks + self.tail
     }
 
-    /// The plan that has the number.
+    /// Returns the plan with this number.
     pub fn plan(&self, number: u32) -> Plan
         requires { number < plans_of self.now }
         ensures value { result ≡ plan_of (choices_of self.now) self.now.legs number }
@@ -122,7 +122,7 @@ impl Lattice {
         plan_of(self.alloc, self.choices(), self.legs, self.plans(), number)
     }
 
-    /// The number of a plan of this lattice: its choices are the digits, the first leg's the highest.
+    /// Returns the number of a plan of this lattice: its choices are the digits, the first leg's the highest.
     pub fn number(&self, plan: &Plan) -> u32
         requires { IsPlan (choices_of self.now) self.now.legs plan.now }
         ensures value { result ≡ number_of (choices_of self.now) plan.now }
@@ -131,8 +131,8 @@ impl Lattice {
         number_of(self.choices(), plan.choices())
     }
 
-    /// The block of a prefix, the choices of the first legs: the number of the first plan that extends it, and the number after the
-    /// last one. The plans that extend it are those between, in consecutive numbers.
+    /// Returns the block of a prefix, the choices of the first legs: the number of the first plan that extends it, and
+    /// the number after the last one. The plans that extend it have the consecutive numbers between.
     pub fn block(&self, prefix: &[u16]) -> (u32, u32)
         requires few { length prefix.now ≤ self.now.legs }
         requires below { AllBelowBase (choices_of self.now) prefix.now }

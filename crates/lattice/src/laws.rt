@@ -1,4 +1,4 @@
-//! Laws of lattices. They do no work.
+//! Laws of lattices, which do nothing at run time.
 ghost use Rattle.std.specs.Prelude.{◌≡◌};
 ghost use Rattle.lattice.specs.Grids.{choices_of};
 ghost use Rattle.lattice.specs.OwnMotion.{TakesOrdersAtOnce};
@@ -13,7 +13,7 @@ pub fn numbers_and_plans_are_inverse(lattice: &Lattice)
     let _choices = lattice.choices();
 }
 
-/// With both rates at their greatest, own ship takes the ordered course and speed at once.
+/// If both rates have their greatest values, own ship takes the ordered course and speed at once.
 pub fn orders_are_taken_at_once(lattice: &Lattice)
     requires turn_rate { lattice.now.turn_rate ≡ 1800 }
     requires speed_rate { lattice.now.speed_rate ≡ 1022 }

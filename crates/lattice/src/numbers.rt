@@ -6,7 +6,7 @@ ghost use Rattle.lattice.specs.PlanNumbers.{number_of, plan_of, IsPlan};
 use crate::plan::Plan;
 use std::alloc::Global;
 
-/// The plan that has the number, of this many plans.
+/// Returns the plan with this number, among `plans` plans.
 pub(crate) fn plan_of(alloc: Global, choices: u32, legs: u8, plans: u32, number: u32) -> Plan
     requires some_choice { 1 ≤ choices }
     requires few_choices { choices ≤ 512 }
@@ -25,7 +25,7 @@ pub(crate) fn plan_of(alloc: Global, choices: u32, legs: u8, plans: u32, number:
     plan
 }
 
-/// The number of a plan, or of its first legs alone.
+/// Returns the number of a plan, or of only its first legs.
 pub(crate) fn number_of(choices: u32, legs: &[u16]) -> u32
     requires some_choice { 1 ≤ choices }
     requires below { AllBelowBase choices legs.now }
@@ -40,7 +40,8 @@ pub(crate) fn number_of(choices: u32, legs: &[u16]) -> u32
     number
 }
 
-/// The block of a prefix: the number of the first of the plans that extend it, and the number after the last one.
+/// Returns the block of a prefix: the number of the first of the plans that extend it, and the number after the last
+/// one.
 pub(crate) fn block_of(choices: u32, legs: u8, prefix: &[u16]) -> (u32, u32)
     requires some_choice { 1 ≤ choices }
     requires few_legs { length prefix.now ≤ legs }

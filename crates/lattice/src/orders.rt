@@ -8,7 +8,7 @@ use crate::lattice::Lattice;
 use crate::plan::Plan;
 use fixed_geometry::swing;
 
-/// A direction in tenths of a degree that has changed.
+/// Returns a direction in tenths of a degree after a change.
 pub(crate) fn direction_by(direction: u16, change: i16) -> u16
     requires direction { direction < 3600 }
     requires change { unsigned_abs change ≤ 1800 }
@@ -18,7 +18,7 @@ pub(crate) fn direction_by(direction: u16, change: i16) -> u16
     (i32::from(direction) + i32::from(change)).rem_euclid(3600) as u16
 }
 
-/// A change that is held within a rate, either way.
+/// Returns a change limited to a rate in both directions.
 fn limited(change: i16, rate: u16) -> i16
     requires { rate ≤ 1800 }
     ensures value { result ≡ held (neg_ℤ (pos rate)) (pos rate) change }
@@ -28,7 +28,7 @@ fn limited(change: i16, rate: u16) -> i16
     change.clamp(-rate, rate)
 }
 
-/// A direction that has turned the short way towards another one, by at most the rate.
+/// Returns a direction after turning the short way towards another one, by at most the rate.
 #[tactic(auto, unfolding(crate::specs::OwnMotion::turned))]
 pub(crate) fn turned(rate: u16, direction: u16, ordered: u16) -> u16
     requires rate { rate ≤ 1800 }
@@ -63,7 +63,7 @@ fn hold(speed: i16) -> u16
     speed.clamp(0, 1022) as u16
 }
 
-/// A speed in tenths of a knot that has changed towards another one, by at most the rate.
+/// Returns a speed in tenths of a knot after changing towards another one, by at most the rate.
 #[tactic(auto, unfolding(crate::specs::OwnMotion::hastened))]
 pub(crate) fn hastened(rate: u16, speed: u16, ordered: u16) -> u16
     requires rate { rate ≤ 1022 }
@@ -76,7 +76,7 @@ pub(crate) fn hastened(rate: u16, speed: u16, ordered: u16) -> u16
 }
 
 impl Lattice {
-    /// The change of course that a choice makes.
+    /// Returns the change of course that a choice makes.
     fn course_change(&self, choice: u16) -> i16
         requires { choice < choices_of self.now }
         ensures value { result ≡ course_change self.now choice }
@@ -85,7 +85,7 @@ impl Lattice {
         self.courses[usize::from(choice / self.speeds.len() as u16)]
     }
 
-    /// The change of speed that a choice makes.
+    /// Returns the change of speed that a choice makes.
     fn speed_change(&self, choice: u16) -> i16
         requires { choice < choices_of self.now }
         ensures value { result ≡ speed_change self.now choice }
@@ -94,7 +94,7 @@ impl Lattice {
         self.speeds[usize::from(choice % self.speeds.len() as u16)]
     }
 
-    /// The course that a choice orders.
+    /// Returns the course that a choice orders.
     #[tactic(auto, unfolding(crate::specs::OwnMotion::ordered_course))]
     fn ordered_course(&self, choice: u16, course: u16) -> u16
         requires choice { choice < choices_of self.now }
@@ -105,7 +105,7 @@ impl Lattice {
         direction_by(course, self.course_change(choice))
     }
 
-    /// The speed that a choice orders.
+    /// Returns the speed that a choice orders.
     #[tactic(auto, unfolding(crate::specs::OwnMotion::ordered_speed))]
     fn ordered_speed(&self, choice: u16, speed: u16) -> u16
         requires choice { choice < choices_of self.now }
@@ -116,7 +116,7 @@ impl Lattice {
         hold(sum(speed, self.speed_change(choice)))
     }
 
-    /// The course that a plan orders in a leg, for own ship's course at now: tenths of a degree, below 3600.
+    /// Returns the course that a plan orders in a leg, for own ship's course at now: tenths of a degree, below 3600.
     pub fn course(&self, plan: &Plan, leg: u8, course: u16) -> u16
         requires plan { IsPlan (choices_of self.now) self.now.legs plan.now }
         requires leg { leg < self.now.legs }
@@ -127,7 +127,7 @@ impl Lattice {
         self.ordered_course(plan.choices()[usize::from(leg)], course)
     }
 
-    /// The speed that a plan orders in a leg, for own ship's speed at now: tenths of a knot, at most 1022.
+    /// Returns the speed that a plan orders in a leg, for own ship's speed at now: tenths of a knot, at most 1022.
     pub fn speed(&self, plan: &Plan, leg: u8, speed: u16) -> u16
         requires plan { IsPlan (choices_of self.now) self.now.legs plan.now }
         requires leg { leg < self.now.legs }
@@ -138,7 +138,7 @@ impl Lattice {
         self.ordered_speed(plan.choices()[usize::from(leg)], speed)
     }
 
-    /// The step with which the leg after the one in force begins.
+    /// Returns the step at which the next leg begins.
     pub(crate) fn next_leg(&self, step: u32) -> u32
         requires { step ≤ positions_of self.now }
         ensures value { result ≡ (step / self.now.leg_ticks + 1) * self.now.leg_ticks }
@@ -148,7 +148,7 @@ impl Lattice {
         (step / self.leg_ticks + 1) * self.leg_ticks
     }
 
-    /// The leg in force in a planned step.
+    /// Returns the leg in force in a planned step.
     pub(crate) fn leg_in_force(&self, step: u32) -> u8
         ensures value { result ≡ leg_in_force self.now step }
         ensures within { result < self.now.legs }

@@ -20,7 +20,7 @@ use crate::under_way::UnderWay;
 use motion::TickState;
 
 impl Lattice {
-    /// Where she is and how she heads and moves `steps` steps after now.
+    /// Returns her place, heading and speed `steps` steps after now.
     fn advanced(&self, plan: &Plan, start: UnderWay, tick: u32, steps: u32) -> UnderWay
         requires plan { IsPlan (choices_of self.now) self.now.legs plan.now }
         requires planned { steps ≤ positions_of self.now }
@@ -45,7 +45,7 @@ impl Lattice {
         passage.vessel
     }
 
-    /// Her state at a tick, and her passage once its step is over: at the last planned tick no more steps begin.
+    /// Returns her state at a tick, and her passage after its step; at the last planned tick no step begins.
     #[inline(always)]
     fn tick_on(
         &self,
@@ -91,7 +91,7 @@ impl Lattice {
         (state, next)
     }
 
-    /// Her state `k` ticks after now.
+    /// Returns her state `k` ticks after now.
     fn state_at(&self, plan: &Plan, start: UnderWay, tick: u32, k: u32) -> TickState
         requires plan { IsPlan (choices_of self.now) self.now.legs plan.now }
         requires planned { k ≤ positions_of self.now }
@@ -112,7 +112,7 @@ impl Lattice {
         self.tick_on(plan, start, passage, tick, k).0
     }
 
-    /// Where she is and how she heads and moves after `steps` planned steps.
+    /// Returns her place, heading and speed after `steps` planned steps.
     fn reached_by(&self, plan: &Plan, start: UnderWay, tick: u32, steps: u32) -> UnderWay
         requires plan { IsPlan (choices_of self.now) self.now.legs plan.now }
         requires planned { steps ≤ positions_of self.now }
@@ -125,7 +125,7 @@ impl Lattice {
         self.advanced(plan, start, tick, steps)
     }
 
-    /// The same at each tick from this one on, if she has got so far.
+    /// Fills in her states from tick `first`, given her place then.
     #[inline(always)]
     fn fill(
         &self,
@@ -162,7 +162,7 @@ impl Lattice {
         }
     }
 
-    /// Where own ship is, and how she heads and moves, after this many planned steps. `start` is as for `own_motion`.
+    /// Returns own ship's place, heading and speed after this many planned steps. `start` is as for `own_motion`.
     pub fn motion_after(&self, start: &TickState, plan: &Plan, tick: u32, steps: u32) -> UnderWay
         requires plan { IsPlan (choices_of self.now) self.now.legs plan.now }
         requires course { IsSome start.now.direction }
@@ -184,8 +184,8 @@ impl Lattice {
         self.reached_by(plan, start, tick, steps)
     }
 
-    /// Own ship's states at the ticks from `first` on, as many as the path holds, each as `own_motion` gives it: each is found from
-    /// the one before. `reached` is as `motion_after` gives it for `first` steps.
+    /// Fills the path with own ship's states at the ticks from `first`, each equal to that of `own_motion` but computed
+    /// from the previous one. `reached` is the result of `motion_after` for `first` steps.
     #[inline(always)]
     pub fn fill_motion(
         &self,
@@ -229,11 +229,12 @@ impl Lattice {
         self.fill(plan, start, tick, first, reached, path);
     }
 
-    /// Own ship's state `k` ticks of `tick` seconds after now, under a plan of this lattice. `start` has her point, her course
-    /// as direction and her speed at now.
+    /// Returns own ship's state `k` ticks of `tick` seconds after now, under a plan of this lattice. `start` has her
+    /// point, her course as direction and her speed at now.
     ///
-    /// Each component of that point may be at most `FARTHEST` in size less `GREATEST_VELOCITY` for each planned second, so that
-    /// she stays within `FARTHEST`. From tick to tick she moves by at most `tick * GREATEST_VELOCITY` in each component.
+    /// Each component of that point is at most `FARTHEST` minus `GREATEST_VELOCITY` per planned second in size, so that
+    /// she stays within `FARTHEST`. From tick to tick she moves by at most `tick * GREATEST_VELOCITY` in each
+    /// component.
     pub fn own_motion(&self, start: &TickState, plan: &Plan, tick: u32, k: u32) -> TickState
         requires plan { IsPlan (choices_of self.now) self.now.legs plan.now }
         requires course { IsSome start.now.direction }

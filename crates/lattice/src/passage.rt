@@ -1,4 +1,4 @@
-//! Own ship's passage under a plan, one step after the other.
+//! Own ship's passage under a plan, step by step.
 ghost use Rattle.std.specs.Prelude.{◌≡◌, ◌+◌, ◌*◌, ◌<◌, ◌≤◌, ◌+ℤ◌, ◌-ℤ◌, ◌*ℤ◌, pos, unsigned_abs};
 ghost use Rattle.fixed_geometry.specs.Displacement.{displacement};
 ghost use Rattle.fixed_geometry.specs.Sizes.{IsWithin};
@@ -16,26 +16,26 @@ use crate::plan::Plan;
 use crate::under_way::UnderWay;
 use fixed_geometry::{Point, velocity};
 
-/// The longest tick, in seconds, in which the greatest velocity leads no farther than `FARTHEST`.
+/// The longest tick, in seconds, in which the greatest velocity stays within `FARTHEST`.
 pub(crate) const LONGEST_TICK: u32 = 15_026;
 
-/// What a plan orders in the leg in force.
+/// The orders of a plan in the current leg.
 #[derive(Clone, Copy)]
 pub(crate) struct Orders {
     /// Tenths of a degree, below 3600.
     course: u16,
     /// Tenths of a knot, at most 1022.
     speed: u16,
-    /// The step with which the next leg begins.
+    /// The step at which the next leg begins.
     until: u32,
 }
 
-/// Own ship under way by a plan, as a step begins. Orders are found once a leg, and her way once while she heads and moves as
-/// before.
+/// Own ship under a plan at the start of a step. It computes the orders once per leg, and the displacement again only
+/// if heading or speed changed.
 #[derive(Clone, Copy)]
 pub(crate) struct Passage {
     pub(crate) vessel: UnderWay,
-    /// Where a tick leads her while she heads and moves as she does.
+    /// Her displacement per tick at the present heading and speed.
     way: Point,
     orders: Orders,
 }
@@ -48,7 +48,7 @@ fn product(tick: u32, velocity: i64) -> i64
     i64::from(tick) * velocity
 }
 
-/// One component of the way that a velocity leads in a tick of this many seconds.
+/// Returns one component of the displacement of a velocity in a tick of this many seconds.
 fn scale(velocity: i64, tick: u32) -> i64
     requires velocity { unsigned_abs velocity ≤ GREATEST_VELOCITY }
     requires tick { tick ≤ LONGEST_TICK }
@@ -58,7 +58,7 @@ fn scale(velocity: i64, tick: u32) -> i64
     product(tick, velocity)
 }
 
-/// The way of a direction and a speed in a tick of this many seconds.
+/// Returns the displacement of a direction and a speed in a tick of this many seconds.
 fn way_of(direction: u16, speed: u16, tick: u32) -> Point
     requires direction { direction < 3600 }
     requires speed { speed ≤ 1022 }
@@ -73,7 +73,7 @@ fn way_of(direction: u16, speed: u16, tick: u32) -> Point
     }
 }
 
-/// One component of a point that has moved.
+/// Returns one component of a moved point.
 fn moved(from: i64, way: i64) -> i64
     requires from { unsigned_abs from ≤ FARTHEST }
     requires way { unsigned_abs way ≤ FARTHEST }
@@ -84,7 +84,7 @@ fn moved(from: i64, way: i64) -> i64
     from + way
 }
 
-/// Where a way leads from a point.
+/// Returns a point after a displacement.
 fn moved_by(point: Point, way: Point) -> Point
     requires point { IsWithin FARTHEST point }
     requires way { IsWithin FARTHEST way }
@@ -100,7 +100,7 @@ fn moved_by(point: Point, way: Point) -> Point
 }
 
 impl Lattice {
-    /// What is ordered in a step.
+    /// Returns the orders in a step.
     fn orders(&self, plan: &Plan, start: UnderWay, step: u32) -> Orders
         requires plan { IsPlan (choices_of self.now) self.now.legs plan.now }
         requires planned { step ≤ positions_of self.now }
@@ -116,7 +116,7 @@ impl Lattice {
         }
     }
 
-    /// The same in the step after the one with these orders.
+    /// Returns the orders in the step after the one with these orders.
     fn next_orders(&self, plan: &Plan, start: UnderWay, orders: Orders, step: u32) -> Orders
         requires plan { IsPlan (choices_of self.now) self.now.legs plan.now }
         requires planned { step < positions_of self.now }
@@ -133,7 +133,7 @@ impl Lattice {
         }
     }
 
-    /// The passage of a vessel that has reached a place after this many steps.
+    /// Returns the passage of a vessel at the place that she reached after this many steps.
     pub(crate) fn passage(
         &self,
         plan: &Plan,
@@ -159,7 +159,7 @@ impl Lattice {
         }
     }
 
-    /// The passage once she has turned and changed speed towards the orders.
+    /// Returns the passage after she has turned and changed speed towards the orders.
     fn steered(&self, passage: Passage, tick: u32) -> Passage
         requires tick { tick ≤ LONGEST_TICK }
         requires on_her_way { IsOnHerWay tick passage }
@@ -195,7 +195,7 @@ impl Lattice {
         }
     }
 
-    /// The passage after one more step.
+    /// Returns the passage after one more step.
     #[inline(always)]
     pub(crate) fn stepped(
         &self,

@@ -5,7 +5,8 @@ use smallvec::SmallVec;
 use std::alloc::Global;
 use std::marker::Model;
 
-/// One choice for each leg, the first leg's first: a number below `Lattice::choices`. It lies inline and takes no memory.
+/// One choice per leg, the first leg's first: a number below `Lattice::choices`. It is stored inline and takes no
+/// memory.
 #[derive(Drop)]
 pub struct Plan {
     choices: SmallVec<u16, 8>,
@@ -22,7 +23,7 @@ impl Model for Plan {
 }
 
 impl Plan {
-    /// A plan with no legs yet.
+    /// Returns a plan with no legs yet.
     pub(crate) fn new(alloc: Global) -> Plan
         ensures { result ≡ [] }
     {
@@ -39,7 +40,7 @@ impl Plan {
         self.choices.push_reserved(choice);
     }
 
-    /// The choices, the first leg's first.
+    /// Returns the choices, the first leg's first.
     pub fn choices(&self) -> &[u16]
         ensures { result.now ≡ self.now }
     {

@@ -1,7 +1,7 @@
 //! A vessel under way.
 use fixed_geometry::Point;
 
-/// Where a vessel is, her direction in tenths of a degree and her speed in tenths of a knot.
+/// A vessel's point, her direction in tenths of a degree, and her speed in tenths of a knot.
 #[derive(Clone, Copy)]
 pub struct UnderWay {
     pub point: Point,

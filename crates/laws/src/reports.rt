@@ -37,7 +37,7 @@ pub fn one_ending()
         IsEnding task scenario log text → IsEnding task scenario log other → text ≡ other }
 {}
 
-/// A log comes to something: that it comes to nothing is refuted.
+/// A log has an outcome: that it has none is refuted.
 pub fn some_answer()
     ensures { (task : Task) (scenario : Scenario) (log : List ℕ)
         → ¬ ((came : Came) → ¬ IsMet task scenario log came) }

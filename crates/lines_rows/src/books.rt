@@ -1,4 +1,4 @@
-//! What reports result in within a book of vessels.
+//! The results of reports in a book of vessels.
 ghost use Rattle.std.specs.Prelude.{◌≡◌, ◌≤◌, ◌<◌, IfOk, IfSome, unsigned_abs};
 ghost use Rattle.ais_messages.specs.MessageFields.{IsMessage, IsReport, IsStatic};
 ghost use Rattle.tracks.specs.declared.keeping.Keeping.TheVariants.{Tracks};
@@ -15,7 +15,7 @@ use tracks::{
     Book, BookFault, Counts, Entry, HeldVessel, Keeping, ReportCause, laws, reported_direction,
 };
 
-/// A report of a vessel from a latitude on the meridian of Greenwich, in 1/10000 minute.
+/// Returns a report of a vessel at a latitude in 1/10000 minute, on the meridian of Greenwich.
 fn report(mmsi: u32, latitude: i32) -> PositionReport
     requires low { 200000000 ≤ mmsi }
     requires high { mmsi ≤ 799999999 }
@@ -34,7 +34,7 @@ fn report(mmsi: u32, latitude: i32) -> PositionReport
     }
 }
 
-/// The ship's data of a report of a vessel.
+/// Returns a static report with a vessel's ship data.
 fn hull(mmsi: u32, bow: u16) -> StaticReport
     requires low { 200000000 ≤ mmsi }
     requires high { mmsi ≤ 799999999 }
@@ -54,7 +54,7 @@ fn hull(mmsi: u32, bow: u16) -> StaticReport
     }
 }
 
-/// A book about the place at 0 north and 0 east, with a gap of 900 seconds.
+/// Returns a book about the place at 0 north and 0 east, with a gap of 900 seconds.
 fn book_of(alloc: Global, keeping: Keeping, max_speed: u16) -> Result<Book, Fail>
     requires some_speed { 1 ≤ max_speed }
     requires max_speed { max_speed ≤ 1022 }
@@ -64,7 +64,7 @@ fn book_of(alloc: Global, keeping: Keeping, max_speed: u16) -> Result<Book, Fail
     Ok(Book::with_keeping(alloc, keeping, reference, 900, max_speed))
 }
 
-/// Such a book that keeps all accepted reports, and the legs between them.
+/// Returns such a book that stores all accepted reports and the legs between them.
 fn book(alloc: Global, max_speed: u16) -> Result<Book, Fail>
     requires some_speed { 1 ≤ max_speed }
     requires max_speed { max_speed ≤ 1022 }
@@ -77,15 +77,15 @@ const OWN: u32 = 369190000;
 
 const OTHER: u32 = 477553000;
 
-/// A position report of a ship: her identity, her latitude, when it comes, and what it results in.
+/// A position report of a ship: her MMSI, her latitude, its time, and its result.
 type Reported = (u32, i32, u64, Entry);
 
-/// The point on the meridian this many millimetres north.
+/// Returns the point on the meridian this many millimetres north.
 fn at(y: i64) -> Entry {
     Entry::Point(Point { x: 0, y })
 }
 
-/// What a position report results in, if it is of a ship and of a place on the Earth.
+/// Returns the result of a position report, if it has a ship and a place on the Earth.
 fn entry(book: &mut Book, mmsi: u32, latitude: i32, time: u64) -> Option<Result<Entry, BookFault>> {
     if mmsi < 200000000 || 799999999 < mmsi || 54000000 < latitude.unsigned_abs() {
         return None;
@@ -93,7 +93,7 @@ fn entry(book: &mut Book, mmsi: u32, latitude: i32, time: u64) -> Option<Result<
     Some(book.take(&Message::Position(report(mmsi, latitude)), time))
 }
 
-/// Compares what position reports result in, each with its time.
+/// Compares the results of position reports, each with its time.
 fn are_entered(rt: &impl Abort, book: &mut Book, reports: &[Reported]) {
     for (mmsi, latitude, time, wanted) in reports {
         let found = entry(book, *mmsi, *latitude, *time);
@@ -101,7 +101,7 @@ fn are_entered(rt: &impl Abort, book: &mut Book, reports: &[Reported]) {
     }
 }
 
-/// How many reports of a ship are kept, and how many legs, if she is held.
+/// Returns the number of stored reports and legs of a ship, if the book has her.
 fn kept(book: &Book, mmsi: u32) -> Option<(usize, usize)> {
     let legs = book.legs(mmsi)?;
     Some((book.points(mmsi).len(), legs.len()))
@@ -186,7 +186,7 @@ fn a_dropped_position_leaves_its_static_part(rt: HostRuntime) -> Result<(), Fail
     Ok(())
 }
 
-/// All that is kept of the vessel at an index.
+/// Returns all stored data of the vessel at an index.
 fn held(book: &Book, k: usize) -> Option<HeldVessel<'_>> {
     if k < book.vessels() {
         return Some(book.held(k));
@@ -194,7 +194,7 @@ fn held(book: &Book, k: usize) -> Option<HeldVessel<'_>> {
     None
 }
 
-/// Who she is, how many reports and legs are kept of her, and her length.
+/// Returns her MMSI, the numbers of her stored reports and legs, and her length.
 fn numbers(vessel: &HeldVessel<'_>) -> (u32, usize, usize, u32) {
     let (points, legs) = (vessel.points.len(), vessel.legs.len());
     (vessel.mmsi, points, legs, vessel.statics.length())
@@ -222,7 +222,7 @@ fn all_that_is_kept_of_a_vessel(rt: HostRuntime) -> Result<(), Fail> {
     Ok(())
 }
 
-// The heading comes before the course, and is in whole degrees.
+// The heading takes precedence over the course, and is in whole degrees.
 #[test]
 fn directions_by_heading_or_course(rt: HostRuntime) {
     for (heading, cog, direction) in [
@@ -240,7 +240,7 @@ fn directions_by_heading_or_course(rt: HostRuntime) {
     }
 }
 
-/// What a line completes, if it is a sentence.
+/// Returns what a line completes, if it is a sentence.
 fn joined(joiner: &mut Joiner, line: &[u8]) -> Option<Joined> {
     match read_line(line).body {
         Body::Sentence(sentence) => joiner.take(&sentence, 0).ok(),
@@ -248,7 +248,7 @@ fn joined(joiner: &mut Joiner, line: &[u8]) -> Option<Joined> {
     }
 }
 
-/// The message of a line that has one.
+/// Returns the message of a line that has one.
 fn message_of(alloc: Global, line: &[u8]) -> Option<Message>
     ensures { IfSome result IsMessage }
 {
@@ -281,7 +281,7 @@ fn a_name_stays_when_ship_data_comes(rt: HostRuntime) -> Result<(), Fail> {
     Ok(())
 }
 
-/// The identity of the vessel at an index.
+/// Returns the MMSI of the vessel at an index.
 fn vessel(book: &Book, k: usize) -> Option<u32> {
     if k < book.vessels() {
         return Some(book.vessel(k));
@@ -302,7 +302,7 @@ fn vessels_in_ascending_order(rt: HostRuntime) -> Result<(), Fail> {
     Ok(())
 }
 
-/// Where a vessel is by her reports on the meridian, so far north.
+/// Returns the state of a vessel by her reports on the meridian, this far north.
 fn state(north: i64) -> TickState {
     TickState {
         point: Point { x: 0, y: north },
@@ -311,7 +311,7 @@ fn state(north: i64) -> TickState {
     }
 }
 
-/// Compares who is seen at a time, and where.
+/// Compares the vessels seen at a time, and their places.
 fn are_seen(
     rt: &impl Abort,
     book: &Book,
@@ -342,7 +342,7 @@ fn vessels_seen_in_ascending_order(rt: HostRuntime) -> Result<(), Fail> {
     Ok(())
 }
 
-/// How many reports and legs of a ship are kept, and how many there were.
+/// Returns the numbers of stored reports and legs of a ship, and her total counts.
 fn counted(book: &Book, mmsi: u32) -> Option<(usize, usize, Counts)> {
     let vessel = book.find(mmsi)?;
     Some((vessel.points.len(), vessel.legs.len(), vessel.counts))
@@ -370,7 +370,7 @@ fn what_lies_before_a_time_is_forgotten_but_counted(rt: HostRuntime) -> Result<(
     Ok(())
 }
 
-/// Gives two books position reports of own ship, and compares what they result in, each with its time.
+/// Passes position reports of own ship to two books, and compares the results, each with its time.
 fn take_in_both(rt: &impl Abort, latest: &mut Book, tracks: &mut Book, reports: &[(i32, u64)]) {
     for (latitude, time) in reports {
         let found = entry(latest, OWN, *latitude, *time);
@@ -379,7 +379,7 @@ fn take_in_both(rt: &impl Abort, latest: &mut Book, tracks: &mut Book, reports: 
     }
 }
 
-/// Compares what a book of the latest reports and one of all of them keep of own ship.
+/// Compares the stored data of own ship in a book of the latest reports and in one of all reports.
 fn keep_as_told(rt: &impl Abort, latest: &Book, tracks: &Book) {
     is(rt, latest.vessels(), 1);
     is(rt, kept(tracks, OWN), Some((5, 2)));
@@ -420,7 +420,7 @@ fn the_latest_report_alone_serves_to_judge(rt: HostRuntime) -> Result<(), Fail> 
     Ok(())
 }
 
-/// Takes a report of this many vessels, and counts the refusals.
+/// Passes a report of each of this many vessels to the book; returns the number of refusals.
 fn take_many(rt: &impl Abort, book: &mut Book, count: u32) -> u32
     requires { count ≤ 10000 }
 {

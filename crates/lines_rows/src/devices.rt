@@ -1,4 +1,4 @@
-//! One happy path of each kind, its failing call, and pieces of one byte.
+//! One successful path of each kind, its failing call, and chunks of one byte.
 use crate::compared::{is, is_true};
 use out_of_memory::Memory;
 use outside::{
@@ -20,14 +20,14 @@ fn a_word_is_its_text(rt: HostRuntime) -> Result<(), Memory> {
     Ok(())
 }
 
-/// What a read gives, and the first byte of the room, which is 0 if nothing is put there.
+/// Returns the result of a read, and the first byte of the room, which is 0 if the read wrote nothing.
 fn read(source: &mut impl Source) -> (Taken, u8) {
     let mut room = [0u8; 8];
     let taken = source.read(&mut room);
     (taken, room[0])
 }
 
-/// Compares what each read of a source gives.
+/// Compares the result of each read of a source.
 fn are_read(rt: &impl Abort, source: &mut impl Source, reads: &[(Taken, u8)]) {
     for wanted in reads {
         is(rt, read(source), *wanted);
@@ -80,7 +80,7 @@ fn a_listed_write_leaves_a_front(rt: HostRuntime) -> Result<(), Memory> {
     Ok(())
 }
 
-/// The bytes that were fetched, or why there are none.
+/// Returns the fetched bytes, or why there are none.
 fn found(fetched: &Fetched) -> Result<&[u8], &'static str> {
     match fetched {
         Fetched::Bytes(bytes) => Ok(bytes.as_slice()),
@@ -90,7 +90,7 @@ fn found(fetched: &Fetched) -> Result<&[u8], &'static str> {
     }
 }
 
-/// What a shelf gives under a name.
+/// Fetches a name from a shelf.
 fn fetched(shelf: &mut impl Shelf, alloc: Global, name: &str, limit: u64) -> Fetched {
     match Word::new(alloc, name) {
         Ok(name) => shelf.fetch(alloc, &name, limit),
@@ -98,7 +98,7 @@ fn fetched(shelf: &mut impl Shelf, alloc: Global, name: &str, limit: u64) -> Fet
     }
 }
 
-/// Compares what a shelf gives under a name.
+/// Compares the result of fetching a name from a shelf.
 fn is_given(
     rt: &impl Abort,
     alloc: Global,
@@ -110,10 +110,10 @@ fn is_given(
     is(rt, found(&fetched(shelf, alloc, name, limit)), wanted);
 }
 
-/// A name and a limit, and what is fetched, or why there is nothing.
+/// A name and a limit, and the fetched bytes, or why there are none.
 type Fetch = (&'static str, u64, Result<&'static [u8], &'static str>);
 
-/// Compares what a shelf gives.
+/// Compares the results of fetches from a shelf.
 fn gives(rt: &impl Abort, alloc: Global, shelf: &mut impl Shelf, fetches: &[Fetch]) {
     for (name, limit, wanted) in fetches {
         is_given(rt, alloc, shelf, name, *limit, *wanted);
@@ -162,7 +162,7 @@ fn a_writer_of_std_is_a_sink(rt: HostRuntime) {
     is(&rt, written.as_slice(), b"red".as_slice());
 }
 
-/// Takes all bytes, and counts how often it is flushed.
+/// A writer that takes all bytes and counts its flushes.
 #[derive(Drop)]
 struct Flushes {
     count: u32,
@@ -189,7 +189,7 @@ fn each_write_is_flushed(rt: HostRuntime) {
     is(&rt, writer.count, 2);
 }
 
-/// Compares what is read of the rest of a source, up to a limit.
+/// Compares the rest of a source, read up to a limit.
 fn is_whole(
     rt: &impl Abort,
     alloc: Global,
@@ -203,7 +203,7 @@ fn is_whole(
     }
 }
 
-// One byte after the limit is read, and no more.
+// It reads one byte after the limit, and no more.
 #[test]
 fn what_is_too_long_is_read_up_to_the_byte_behind_the_limit(rt: HostRuntime) -> Result<(), Memory> {
     let mut source = PlainSource::new(b"abcdef".to_vec(rt.alloc())?, 3);
@@ -212,14 +212,14 @@ fn what_is_too_long_is_read_up_to_the_byte_behind_the_limit(rt: HostRuntime) -> 
     Ok(())
 }
 
-/// The path of a file of this process in the folder for such files.
+/// Returns the path of a file of this process in the folder for such files.
 fn path_of(rt: &HostRuntime, name: &str) -> Result<String, Fail> {
     let folder = env::temp_dir(rt)?;
     let process = process::id(rt.process());
     Ok(format!(in rt.alloc(); "{}/{name}_{process}", folder.as_str())?)
 }
 
-// A folder can be opened and cannot be read.
+// Opening a folder succeeds, but reading it fails.
 #[test]
 fn a_folder_is_a_fault_and_no_file(rt: HostRuntime) -> Result<(), Fail> {
     let folder = env::temp_dir(&rt)?;
@@ -235,7 +235,7 @@ fn a_folder_is_a_fault_and_no_file(rt: HostRuntime) -> Result<(), Fail> {
     Ok(())
 }
 
-/// The second of two files, which hold "red" and "green", is fetched.
+/// Checks that a fetch returns the second of two files with the contents "red" and "green".
 fn is_fetched_of_two<R: Abort + Files>(
     rt: &R,
     alloc: Global,
@@ -259,7 +259,7 @@ fn of_two_files_the_named_one_is_fetched(rt: HostRuntime) -> Result<(), Fail> {
     Ok(())
 }
 
-/// A file of these bytes is fetched whole while it is there.
+/// Checks that a fetch returns all of a file with these bytes while it exists.
 fn is_fetched_whole<R: Abort + Files>(
     rt: &R,
     alloc: Global,
@@ -275,7 +275,7 @@ fn is_fetched_whole<R: Abort + Files>(
     Ok(())
 }
 
-// The file has more than one block, so that its end is met in a later read.
+// The file has more than one block, so a later read reaches its end.
 #[test]
 fn a_file_is_fetched_whole(rt: HostRuntime) -> Result<(), Fail> {
     let path = path_of(&rt, "fetched_whole")?;

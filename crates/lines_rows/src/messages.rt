@@ -10,7 +10,7 @@ use out_of_memory::Memory;
 use std::alloc::Global;
 use std::process::Abort;
 
-/// What a static report says: the ship's identity, her name, and her type and size.
+/// The content of a static report: the ship's MMSI, her name, and her type and size.
 type Told<'a> = (u32, Option<&'a [u8]>, Option<ShipData>);
 
 fn told(report: &StaticReport) -> Told<'_> {
@@ -20,10 +20,10 @@ fn told(report: &StaticReport) -> Told<'_> {
     }
 }
 
-/// What a message says: its position report, and its static report.
+/// The content of a message: its position report, and its static report.
 type Said<'a> = (Option<PositionReport>, Option<Told<'a>>);
 
-/// What a message says, or why it is not read.
+/// Returns the content of a message, or why it was not read.
 fn said(decoded: &Decoded) -> Result<Said<'_>, MessageCause> {
     match decoded {
         Decoded::Message(Message::Position(position)) => Ok((Some(*position), None)),
@@ -35,7 +35,7 @@ fn said(decoded: &Decoded) -> Result<Said<'_>, MessageCause> {
     }
 }
 
-/// The lines of one message, those before the last and the last, and what it says.
+/// The lines of one message, those before the last one and the last one, and its content.
 struct Row {
     shows: &'static str,
     first: &'static [&'static [u8]],
@@ -55,7 +55,7 @@ const UNDER_WAY: PositionReport = PositionReport {
     second: 0,
 };
 
-/// A report that says neither place nor speed nor direction.
+/// A report without place, speed and direction.
 const UNKNOWN: PositionReport = PositionReport {
     kind: 1,
     mmsi: 200000000,
@@ -123,7 +123,7 @@ static ROWS: [&Row; 13] = [
             None,
         )),
     },
-    // The payloads of the next four are those of an encoder in Python.
+    // The payloads of the next four come from an encoder in Python.
     &Row {
         shows: "the greatest values that say something",
         first: &[],
@@ -240,12 +240,12 @@ static ROWS: [&Row; 13] = [
     },
 ];
 
-/// Compares what a message says.
+/// Compares the content of a message.
 fn is_said(rt: &impl Abort, row: &Row, decoded: &Decoded) {
     is(rt, (row.shows, said(decoded)), (row.shows, row.says));
 }
 
-/// Compares what the last of some lines completes.
+/// Compares the result of the last of some lines.
 fn is_completed(rt: &impl Abort, row: &Row, joined: Option<Joined>) {
     match joined {
         Some(Joined::Message(bits)) => is_said(rt, row, &decode(&bits)),
@@ -253,7 +253,7 @@ fn is_completed(rt: &impl Abort, row: &Row, joined: Option<Joined>) {
     }
 }
 
-/// Gives the lines of a row to a joiner.
+/// Passes the lines of a row to a joiner.
 fn are_received(rt: &impl Abort, joiner: &mut Joiner, row: &Row) {
     for first in row.first {
         drop(joined(joiner, first, 0));
@@ -261,7 +261,7 @@ fn are_received(rt: &impl Abort, joiner: &mut Joiner, row: &Row) {
     is_completed(rt, row, joined(joiner, row.last, 0));
 }
 
-/// Compares what the lines of each row say.
+/// Compares the content of the lines of each row.
 fn say(rt: &impl Abort, alloc: Global, rows: &[&Row]) {
     for row in rows {
         are_received(rt, &mut Joiner::new(alloc), row);
@@ -273,7 +273,7 @@ fn what_messages_say(rt: HostRuntime) {
     say(&rt, rt.alloc(), &ROWS);
 }
 
-/// Compares what is read of the bits of a report.
+/// Compares the report that is read from bits.
 fn is_read_again(rt: &impl Abort, bits: &Bits, report: &PositionReport) {
     is(rt, bits.len(), 168);
     let wanted = Decoded::Message(Message::Position(*report));
@@ -298,7 +298,7 @@ static ABSENT: PositionReport = PositionReport {
     ..UNKNOWN
 };
 
-// A report without a place, speed, course and heading is written and read again.
+// Writes and reads a report without place, speed, course and heading.
 #[test]
 fn absent_fields_are_read_as_absent(rt: HostRuntime) -> Result<(), Memory> {
     let bits = encode_position(rt.alloc(), &ABSENT)?;
@@ -306,7 +306,7 @@ fn absent_fields_are_read_as_absent(rt: HostRuntime) -> Result<(), Memory> {
     Ok(())
 }
 
-/// Identities, and whether they are those of ships.
+/// MMSIs, and whether they belong to ships.
 static IDENTITIES: [(u32, bool); 6] = [
     (2006, false),
     (199999999, false),
@@ -316,7 +316,7 @@ static IDENTITIES: [(u32, bool); 6] = [
     (800000000, false),
 ];
 
-// The first three digits of a ship's identity are a country's, from 200 to 799.
+// The first three digits of a ship's MMSI are a country code, from 200 to 799.
 #[test]
 fn identities_of_ships(rt: HostRuntime) {
     for (mmsi, ship) in &IDENTITIES {

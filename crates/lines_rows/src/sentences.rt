@@ -5,7 +5,7 @@ use out_of_memory::Memory;
 use std::alloc::Global;
 use std::process::Abort;
 
-/// What a line completes, received at a time.
+/// Returns what a line received at a time completes.
 pub(crate) fn joined(joiner: &mut Joiner, line: &[u8], time: u64) -> Option<Joined> {
     match read_line(line).body {
         Body::Sentence(sentence) => joiner.take(&sentence, time).ok(),
@@ -16,7 +16,7 @@ pub(crate) fn joined(joiner: &mut Joiner, line: &[u8], time: u64) -> Option<Join
 /// A message of this many bits, or why a line completes none.
 type Completes = Result<usize, &'static str>;
 
-/// What a line completes.
+/// Returns the bits of the message that a line completes, or why it completes none.
 fn completion_of(joined: &Option<Joined>) -> Completes {
     match joined {
         Some(Joined::Message(bits)) => Ok(bits.len()),
@@ -30,17 +30,17 @@ const NOTHING_YET: Completes = Err("nothing yet");
 
 const NOTHING: Completes = Err("nothing");
 
-/// How a number is written in bits.
+/// The form of a number in bits.
 #[derive(Clone, Copy)]
 enum Form {
     Unsigned,
     Signed,
 }
 
-/// A number in some bits: the first of them, how many they are, its form, and the number.
+/// A number in some bits: the first bit, the number of bits, its form, and the number.
 type Field = (usize, u32, Form, i64);
 
-/// The number that stands in some bits, if there are this many.
+/// Returns the number in some bits, if there are that many bits.
 fn number(bits: &Bits, first: usize, width: u32, form: Form) -> Option<i64> {
     let short = bits.len() < first || bits.len() - first < width as usize;
     if width == 0 || 32 < width || short {
@@ -52,7 +52,7 @@ fn number(bits: &Bits, first: usize, width: u32, form: Form) -> Option<i64> {
     })
 }
 
-/// Compares the numbers that stand in a message, each with its first bit.
+/// Compares the numbers in a message, each with its first bit.
 fn hold(rt: &impl Abort, shows: &str, bits: &Bits, fields: &[Field]) {
     for (first, width, form, wanted) in fields {
         let found = number(bits, *first, *width, *form);
@@ -60,10 +60,10 @@ fn hold(rt: &impl Abort, shows: &str, bits: &Bits, fields: &[Field]) {
     }
 }
 
-/// A line, the second in which it is received, what it completes, and numbers in the message.
+/// A line, the second of its reception, what it completes, and numbers in the message.
 type Received = (&'static [u8], u64, Completes, &'static [Field]);
 
-/// Lines that one joiner takes, and what they show.
+/// Lines for one joiner, with a title.
 struct Row {
     shows: &'static str,
     lines: &'static [Received],
@@ -166,7 +166,7 @@ static ROWS: [Row; 5] = [
     },
 ];
 
-/// Compares what a line completes.
+/// Compares the result of a line.
 fn is_completed(rt: &impl Abort, shows: &str, joined: &Option<Joined>, received: &Received) {
     let (_, time, completes, fields) = received;
     let found = (shows, *time, completion_of(joined));
@@ -176,7 +176,7 @@ fn is_completed(rt: &impl Abort, shows: &str, joined: &Option<Joined>, received:
     }
 }
 
-/// Gives a joiner the lines of a row.
+/// Passes the lines of a row to a joiner.
 fn are_received(rt: &impl Abort, joiner: &mut Joiner, row: &Row) {
     for received in row.lines {
         let joined = joined(joiner, received.0, received.1);
@@ -184,7 +184,7 @@ fn are_received(rt: &impl Abort, joiner: &mut Joiner, row: &Row) {
     }
 }
 
-/// Gives the lines of each row to a joiner of its own.
+/// Passes the lines of each row to a new joiner.
 fn complete(rt: &impl Abort, alloc: Global, rows: &[Row]) {
     for row in rows {
         are_received(rt, &mut Joiner::new(alloc), row);
@@ -196,7 +196,7 @@ fn what_sentences_complete(rt: HostRuntime) {
     complete(&rt, rt.alloc(), &ROWS);
 }
 
-/// Why a line is no sentence.
+/// Returns why a line is not a sentence.
 fn cause_of(body: &Body<'_>) -> Option<LineCause> {
     match body {
         Body::Sentence(_) => None,
@@ -204,7 +204,7 @@ fn cause_of(body: &Body<'_>) -> Option<LineCause> {
     }
 }
 
-/// Lines that are no sentences, their stamps, and the causes.
+/// Lines that are not sentences, their stamps, and the causes.
 static DROPPED: [(&str, &[u8], Option<u64>, LineCause); 5] = [
     (
         "a stamp among other fields",
@@ -238,7 +238,7 @@ static DROPPED: [(&str, &[u8], Option<u64>, LineCause); 5] = [
     ),
 ];
 
-/// Compares the stamp of a line that is no sentence, and the cause.
+/// Compares the stamp of a line that is not a sentence, and the cause.
 fn is_dropped(rt: &impl Abort, shows: &str, line: &[u8], stamp: Option<u64>, cause: LineCause) {
     let reading = read_line(line);
     is(rt, (shows, reading.stamp), (shows, stamp));
@@ -252,7 +252,7 @@ fn stamps_of_lines_that_are_no_sentences(rt: HostRuntime) {
     }
 }
 
-/// Compares a line that was written.
+/// Compares a written line.
 fn is_line(rt: &impl Abort, written: &Result<Vec<u8>, Memory>, wanted: &[u8]) {
     match written {
         Ok(line) => is(rt, line.as_slice(), wanted),
@@ -260,10 +260,10 @@ fn is_line(rt: &impl Abort, written: &Result<Vec<u8>, Memory>, wanted: &[u8]) {
     }
 }
 
-/// The sentence of a report that the worked rows of the documents give.
+/// The sentence of a report in the worked rows of the documents.
 const PLAIN: &[u8] = b"!AIVDM,1,1,,A,15P5TL0P2l00001wwHt000000000,0*5C";
 
-/// The same with a time.
+/// The same sentence with a time.
 const STAMPED: &[u8] = b"\\c:1700000000*5F\\!AIVDM,1,1,,A,15P5TL0P2l00001wwHt000000000,0*5C";
 
 /// Writes a message as these two sentences.

@@ -1,4 +1,4 @@
-//! The ranks of vessels by what they reported and by the ship types that were noted.
+//! The ranks of vessels by their reports and by the ship types that were noted.
 ghost use Rattle.std.specs.Prelude.{◌≡◌, ◌≤◌};
 
 use crate::compared::is;
@@ -13,7 +13,7 @@ const OWN: u32 = 369190000;
 
 const OTHER: u32 = 477553000;
 
-/// An accepted report with a status.
+/// Returns an accepted report with a status.
 fn accepted(time: u64, status: u8) -> Accepted
     ensures { result.time ≡ time }
 {
@@ -33,7 +33,7 @@ fn accepted(time: u64, status: u8) -> Accepted
     }
 }
 
-/// The rank of a vessel whose one report came at second 1000, with this status.
+/// Returns the rank of a vessel with one report at second 1000, with this status.
 fn rank(ranks: &Ranks, mmsi: u32, status: u8, time: u64) -> Rank
     requires { 1000 ≤ time }
 {
@@ -57,7 +57,7 @@ fn each_status(rt: HostRuntime) -> Result<(), Memory> {
     Ok(())
 }
 
-/// The rank at status 15 of a vessel whose type was noted.
+/// Returns the rank at status 15 of a vessel whose type was noted.
 fn rank_of_type(alloc: Global, kind: u8) -> Result<Rank, Memory> {
     let mut ranks = Ranks::new(alloc);
     ranks.note(OWN, 1000, kind)?;

@@ -21,7 +21,7 @@ abbrev pub outcome_of : Judged → LineOutcome
 outcome_of (judged.Accepted report) = outcome.Point
 outcome_of (judged.Without came) = came
 
--- the numbers by which a scenario judges reports
+-- the numbers of a scenario for judging reports
 abbrev pub numbers_of : Scenario → JudgingNumbers
 numbers_of scenario = record { reference = scenario.reference; gap = scenario.log.gap; max_speed = scenario.log.max_speed }
 
@@ -49,18 +49,18 @@ judged_line scenario before line = judged_sent (numbers_of scenario) (sent scena
 unfoldable pub judged_lines : Scenario → List (List ℕ) → List Judged
 judged_lines scenario lines = each_line (judged_line scenario) lines
 
--- how many lines have an outcome
+-- the number of lines with an outcome
 abbrev pub count_of : LineOutcome → List Judged → ℕ
 count_of outcome lines = count_by (λ line. outcome_index (outcome_of line) == outcome_index outcome) lines
 
--- how many vessels are held after a line and the lines before it
+-- the number of vessels after a line and the lines before it
 unfoldable pub held_behind : Scenario → List (List ℕ) → List ℕ → ℕ
 held_behind scenario before line = length (held_of (numbers_of scenario) (sent scenario (before ++ line ∷ [])))
 
--- the greatest number of vessels that are held
+-- the greatest number of vessels in a book
 abbrev pub greatest_held : ℕ
 greatest_held = MOST_VESSELS
 
--- Some line makes more vessels held.
+-- Some line adds more vessels than that.
 unfoldable pub is_crowded : Scenario → List (List ℕ) → Bool
 is_crowded scenario lines = list_any (λ held. nat_lt greatest_held held) (each_line (held_behind scenario) lines)

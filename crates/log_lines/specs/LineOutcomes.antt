@@ -1,4 +1,4 @@
--- What becomes of the lines of a log.
+-- The outcomes of a log's lines.
 use Rattle.std.specs.Prelude.{ℕ, codes, List, [], ◌∷◌}
 use Rattle.aivdm.specs.declared.sentence.LineCause.{LineCause}
 use Rattle.aivdm.specs.declared.sentence.LineCause.TheVariants as line_cause
@@ -32,7 +32,7 @@ outcome_name outcome.Jump = codes "jump"
 outcome_name outcome.Static = codes "static"
 outcome_name outcome.Point = codes "point"
 
--- the place in the report, counted from 0
+-- the index in the report, counted from 0
 abbrev pub outcome_index : LineOutcome → ℕ
 outcome_index outcome.Empty = 0
 outcome_index outcome.Long = 1

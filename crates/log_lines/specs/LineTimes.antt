@@ -17,7 +17,8 @@ stamps_of lines = filter_map stamp_of lines
 unfoldable pub time_of : Scenario → List (List ℕ) → ℕ
 time_of scenario lines = unwrap_or (last_or None (stamps_of lines)) scenario.window.start
 
--- how long the window of lines lasts after the last tick: a gap, or 0 if own ship is planned for, because that tick is her now
+-- the seconds that the window of lines lasts after the last tick: a gap, or 0 for a plan of own ship, because that tick
+-- is now
 abbrev pub reach_behind : Option OwnPart → ℕ → ℕ
 reach_behind None gap = gap
 reach_behind (Some own) gap = 0

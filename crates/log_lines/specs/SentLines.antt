@@ -1,4 +1,4 @@
--- What the lines of a log send: the sentences that are in time, and the messages that they complete.
+-- The sentences of a log's lines that are in time, and the messages that they complete.
 use Rattle.std.specs.Prelude.{ℕ, List, [], ◌∷◌, ◌++◌, Option, Some, None, Result, Ok, Err, if◌then◌else◌}
 use Rattle.std.specs.List.{filter_map}
 use Rattle.aivdm.specs.FragmentJoining.{Taken, joined_of}
@@ -34,7 +34,7 @@ abbrev pub heard_in : Scenario → Option ℕ → ℕ → Result SentenceFields 
 heard_in scenario clock time (Ok sentence) = heard_unless (untimely scenario clock time) time sentence
 heard_in scenario clock time (Err cause) = Err (line_outcome cause)
 
--- the sentence of a line that is in time, or what the line came to without one
+-- the sentence of a line that is in time, or the outcome of a line without one
 unfoldable pub heard_of : Scenario → List (List ℕ) → List ℕ → Result Taken LineOutcome
 heard_of scenario before line =
     heard_in scenario (clock_of scenario before) (time_of scenario (before ++ line ∷ [])) (reading_of line).body
@@ -58,7 +58,7 @@ abbrev pub sent_heard : List Taken → Result Taken LineOutcome → Result Sent 
 sent_heard before (Ok taken) = sent_joined taken.time (joined_of before taken)
 sent_heard before (Err outcome) = Err outcome
 
--- the message that a line completes, or what the line came to without one
+-- the message that a line completes, or the outcome of a line without one
 unfoldable pub sent_of : Scenario → List (List ℕ) → List ℕ → Result Sent LineOutcome
 sent_of scenario before line = sent_heard (heard scenario before) (heard_of scenario before line)
 

@@ -29,7 +29,7 @@ abbrev pub counts_ranks : Keeping → Scenario → Bool
 counts_ranks Latest scenario = false
 counts_ranks _ scenario = scenario.ranks
 
--- If ranks count, what is stored stands for the ship types that these messages report. Otherwise nothing is stored.
+-- If ranks count, the stored state matches the ship types that these messages report. Otherwise nothing is stored.
 abbrev pub AreNoted : Bool → Option (List (ℕ × List Change)) → List Sent → Type 0
 AreNoted ranked None messages = ranked ≡ false
 AreNoted ranked (Some kept) messages = (ranked ≡ true) × RanksStandFor kept (noted messages)

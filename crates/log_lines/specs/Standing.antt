@@ -1,5 +1,5 @@
--- What a judge stands for: the lines of a log that it was given, and the result of each. What an open line and streamed lines
--- stand for: the bytes of a log so far.
+-- The model of a judge: the lines of a log so far, and the result of each. The model of an open line and of streamed
+-- lines: the bytes of a log so far.
 use Rattle.std.specs.Prelude.{ℕ, ◌≡◌, ◌≤◌, ◌<◌, ◌==◌, ◌^◌, Bool, false, count_by, length, slice_index, take, unwrap_or, List, MatchOption, Option, None}
 use Rattle.std.specs.List.{last_or}
 use Rattle.aivdm.specs.OpenMessages.{StandsFor as JoinerStandsFor}
@@ -21,7 +21,7 @@ use Rattle.log_lines.specs.declared.streamed.StreamedLines.{StreamedLines}
 use Rattle.log_lines.specs.declared.told_static.ToldStatic.{ToldStatic}
 use Rattle.tracks.specs.declared.keeping.Keeping.{Keeping}
 
--- how much of each vessel its book keeps
+-- the part of each vessel's reports that its book stores
 abbrev pub keeping_of : Judge → Keeping
 keeping_of judge = judge.book.keeping
 
@@ -34,11 +34,11 @@ pub record AreCounts (counts : List ℕ) (lines : List Judged) : Type 0 where
   pub many : length counts ≡ 21
   pub each : (place : ℕ) → place < 21 → slice_index counts place ≡ count_by (is_at_place place) lines
 
--- what the last of the lines reports of a vessel's static data
+-- a vessel's static data in the last of the lines
 abbrev pub last_told : Scenario → List (List ℕ) → Option ToldStatic
 last_told scenario lines = unwrap_or (last_or None (each_line (told_of scenario) lines)) None
 
--- The judge stands for these lines. They are no more than it can count, and no more vessels are held than it can hold.
+-- The judge's model is these lines. They are within its limit of lines, and their vessels within its limit of vessels.
 pub record StandsFor (judge : Judge) (scenario : Scenario) (lines : List (List ℕ)) : Type 0 where
   pub countable : length lines < 2 ^ 64
   pub times : KeepsTimes judge.times scenario lines
@@ -50,7 +50,8 @@ pub record StandsFor (judge : Judge) (scenario : Scenario) (lines : List (List �
   pub told : judge.told ≡ last_told scenario lines
   pub counts : AreCounts judge.counts (judged_lines scenario lines)
 
--- An open line stands for a log: it stores the first bytes after the last line feed, at most two more than a line may have.
+-- The model of an open line is a log: it stores the first bytes after the last line feed, at most two more than a line
+-- may have.
 abbrev pub OpenLineStandsFor : OpenLine → List ℕ → Type 0
 OpenLineStandsFor line log = line.bytes.items ≡ take 1026 (open_part log)
 
@@ -58,11 +59,11 @@ OpenLineStandsFor line log = line.bytes.items ≡ take 1026 (open_part log)
 abbrev pub IsKnownLine : Option (List ℕ) → List ℕ → Type 0
 IsKnownLine known line = MatchOption known (1024 < length line) (λ (bytes : List ℕ). bytes ≡ line)
 
--- how much streamed lines keep of each vessel
+-- the part of each vessel's reports that streamed lines store
 abbrev pub kept_of : StreamedLines → Keeping
 kept_of lines = keeping_of lines.judge
 
--- Streamed lines stand for the bytes of a log so far: its ended lines were judged, and the open one is stored.
+-- The model of streamed lines is the bytes of a log so far: the ended lines are judged, and the open one is stored.
 pub record LinesStandFor (lines : StreamedLines) (scenario : Scenario) (log : List ℕ) : Type 0 where
   pub judge : StandsFor lines.judge scenario (ended_lines log)
   pub line : OpenLineStandsFor lines.line log

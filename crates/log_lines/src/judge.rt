@@ -1,4 +1,4 @@
-//! Judging a log's lines one after the other.
+//! Judges a log's lines one after the other.
 ghost use Rattle.std.specs.Prelude.{◌≡◌, ◌≤◌, ◌<◌, ◌+◌, ◌^◌, ◌++◌, ◌∷◌, [], ◌↔◌, Bool, List, ℕ, IfOk, IfSome, None, OnOk, Ok, Err, length, slice_index};
 ghost use Rattle.std.specs.Option.{option_copied, option_to_list};
 ghost use Rattle.aivdm.specs.FragmentJoining.{Taken};
@@ -33,7 +33,7 @@ use scenario_values::Scenario;
 use std::alloc::Global;
 use tracks::{Accepted, Book, BookFault, Entry, Keeping};
 
-/// The position report of a message, if it has one.
+/// Returns the position report of a message, if it has one.
 fn position_report(message: &Message) -> Option<&PositionReport>
     ensures { option_copied result ≡ report_in message.now }
 {
@@ -43,7 +43,7 @@ fn position_report(message: &Message) -> Option<&PositionReport>
     }
 }
 
-/// The position report that a sentence consists of, if it is one alone.
+/// Returns the position report of a sentence that is a whole message with no other content.
 #[inline(always)]
 fn report_of(room: &mut SentenceRoom, sentence: &Sentence<'_>) -> Option<PositionReport>
     requires { IsSentence (fields_seen sentence.now) }
@@ -59,29 +59,29 @@ fn report_of(room: &mut SentenceRoom, sentence: &Sentence<'_>) -> Option<Positio
     position(&room.bits_of(sentence))
 }
 
-/// The result of a line, without an accepted report itself: the judge stores that. Calls pass this
-/// instead of the report.
+/// The result of a line without the accepted report itself, which the judge stores. Calls pass this instead of the
+/// report.
 #[derive(Clone, Copy)]
 pub(crate) enum Came {
-    /// Its report is accepted: it is the one that was accepted last.
+    /// Its report is accepted; it is the judge's latest report.
     Accepted,
     /// It has no accepted report.
     Without(LineOutcome),
 }
 
-/// What is stored of the lines of a log so far: it stands for the list of them.
+/// The state after the lines of a log so far. Its model is the list of these lines.
 #[derive(Drop)]
 pub struct Judge {
     times: LineTimes,
     joiner: Joiner,
     book: Book,
-    /// What the last line reports of a vessel's static data.
+    /// The static data of a vessel in the last line.
     told: Option<ToldStatic>,
     /// The ship types that vessels reported, if ranks count.
     ranks: Option<Ranks>,
-    /// The report that was accepted last.
+    /// The latest accepted report.
     latest: Option<Accepted>,
-    /// How many lines have each outcome, by its index.
+    /// The number of lines of each outcome, by its index.
     counts: [u64; 21],
 }
 
@@ -91,8 +91,8 @@ impl Judge {
     ghost use Rattle.log_lines.specs.Standing.{AreCounts, StandsFor, keeping_of};
     ghost use Rattle.log_lines.specs.Inner.JudgeState.{Enters, GoesOn, Keeps, heard_by, held_with, judged_by};
 
-    /// Returns a judge with the numbers of a scenario, before the first line. Its book keeps of
-    /// each vessel what `keeping` says. This takes no memory.
+    /// Returns a judge with the numbers of a scenario, before the first line. `keeping` says what its book stores of
+    /// each vessel. This takes no memory.
     pub fn new(alloc: Global, keeping: Keeping, scenario: &Scenario) -> Judge
         requires { IsInRange scenario.now }
         ensures keeping { keeping_of result ≡ keeping }
@@ -115,7 +115,7 @@ impl Judge {
         }
     }
 
-    /// Returns how many lines have each outcome, by its index in the order of the report.
+    /// Returns the number of lines of each outcome, by its index in the order of the report.
     pub fn counts(&self) -> &[u64; 21]
         ensures { (scenario : Scenario) (lines : List (List ℕ)) → StandsFor self.now scenario lines
             → AreCounts result.now (judged_lines scenario lines) }
@@ -133,7 +133,7 @@ impl Judge {
         &self.book
     }
 
-    /// Forgets where vessels were before a time, as [`Book::forget`] does.
+    /// Forgets the places of vessels before a time, like [`Book::forget`].
     pub fn forget(&mut self, time: u64)
         ensures stands { (scenario : Scenario) (lines : List (List ℕ))
             → StandsFor self.old scenario lines → StandsFor self.new scenario lines }
@@ -246,7 +246,7 @@ impl Judge {
         Ok(self.enter(position_report(message), time, entry))
     }
 
-    /// Judges what the bits of a message are read as.
+    /// Judges the result of reading a message's bits.
     fn judge_decoded(&mut self, decoded: &Decoded, time: u64) -> Result<Came, BookFault>
         requires message { IfMessage decoded.now IsMessage }
         requires untold { self.old.told ≡ None }
@@ -302,7 +302,7 @@ impl Judge {
         Ok(self.enter(Some(report), time, entry))
     }
 
-    /// Judges a sentence that is in time. Most are position reports by themselves, and are read in place.
+    /// Judges a sentence that is in time. Most sentences are whole position reports, which it reads in place.
     #[inline(always)]
     fn judge_sentence(
         &mut self,
@@ -340,7 +340,7 @@ impl Judge {
         }
     }
 
-    /// Judges a sentence that is in time, by way of the joiner.
+    /// Judges a sentence that is in time with the joiner.
     #[inline(never)]
     fn judge_part(&mut self, sentence: &Sentence<'_>, time: u64) -> Result<Came, BookFault>
         requires sentence { IsSentence (fields_seen sentence.now) }
@@ -373,7 +373,7 @@ impl Judge {
         }
     }
 
-    /// Judges what a line says.
+    /// Judges the content of a line.
     #[inline(always)]
     fn judge_body(
         &mut self,
@@ -413,8 +413,8 @@ impl Judge {
         }
     }
 
-    /// Takes the next line and returns its result. If it adds a 4097th vessel, or memory runs out,
-    /// the judge may only be dropped.
+    /// Takes the next line and returns its result. If it adds a 4097th vessel, or memory runs out, the caller may only
+    /// drop the judge.
     #[inline(always)]
     pub fn take(&mut self, room: &mut SentenceRoom, line: &[u8]) -> Result<Judged, BookFault>
         ensures judged { IfOk result
@@ -439,8 +439,8 @@ impl Judge {
         Ok(judged)
     }
 
-    /// Takes the next line, known only to be longer than a line may be, and returns its result.
-    /// Such a line is not read any further and has no stamp.
+    /// Takes the next line, known only to be longer than a line may be, and returns its result. It does not read such a
+    /// line any further, so the line has no stamp.
     pub fn take_long(&mut self) -> Judged
         ensures judged { (scenario : Scenario) (before : List (List ℕ)) (line : List ℕ)
             → 1024 < length line → StandsFor self.old scenario before

@@ -1,4 +1,4 @@
-//! Laws of a log's lines, which stand over the definitions alone.
+//! Laws of a log's lines, which follow from the definitions alone.
 ghost use Rattle.std.specs.Prelude.{◌≡◌, ◌++◌, ◌∷◌, [], ℕ, List, false, length, sum_by};
 ghost use Rattle.std.specs.List.{All};
 ghost use Rattle.log_lines.specs.GrowingLog.{ended_lines, open_lines, open_part};
@@ -14,12 +14,12 @@ pub fn each_line_has_one_outcome()
         ≡ length (lines_of log) }
 {}
 
-/// The lines of a log are those that are ended, and then the open part, where it has a byte.
+/// The lines of a log are the ended ones, and then the open part if it has a byte.
 pub fn lines_are_ended_or_open()
     ensures { (log : List ℕ) → lines_of log ≡ ended_lines log ++ open_lines (open_part log) }
 {}
 
-/// Bytes without a line feed go on with the open part.
+/// Bytes without a line feed continue the open part.
 pub fn a_part_goes_on()
     ensures ended { (log part : List ℕ) → All (λ byte. is_line_feed byte ≡ false) part
         → ended_lines (log ++ part) ≡ ended_lines log }
@@ -35,7 +35,7 @@ pub fn a_line_feed_ends()
     ensures open { (log : List ℕ) → open_part (log ++ 10 ∷ []) ≡ [] }
 {}
 
-/// What is ended stays, whatever follows.
+/// Ended lines stay, whatever follows.
 pub fn ended_lines_stay()
     ensures ended { (log more : List ℕ)
         → (lines : List (List ℕ)) × (ended_lines (log ++ more) ≡ ended_lines log ++ lines) }

@@ -1,9 +1,8 @@
 //! The lines of a log, and the outcome of each of them.
 //!
-//! A log is split into lines, and each line has exactly one outcome: it is dropped for a cause, it
-//! is a part of a message, or its message is judged by the messages before it. The judge takes the
-//! lines one after the other and stores what was heard: the times, the open messages, the book of
-//! vessels and, if ranks count, the ship types that vessels reported.
+//! A log is split into lines, and each line has exactly one outcome: it is dropped for a cause, it is a part of a
+//! message, or its message is judged by the messages before it. The judge takes the lines one after the other and
+//! stores the times, the open messages, the book of vessels and, if ranks count, the ship types that vessels reported.
 //!
 //! A log arrives in chunks, and a line may span any number of them. `StreamedLines` passes each
 //! line to the judge when its line feed arrives, and reports whether a line is still open. At the

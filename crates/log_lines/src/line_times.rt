@@ -5,8 +5,7 @@ ghost use Rattle.log_lines.specs.LineTimes.{is_late, reach_behind};
 use crate::outcome::LineOutcome;
 use scenario_values::{Scenario, Window};
 
-/// Returns how many seconds the window of lines lasts after the last tick: a gap, or 0 if own ship
-/// is planned for.
+/// Returns the seconds that the window of lines lasts after the last tick: a gap, or 0 for a plan of own ship.
 fn reach_behind(scenario: &Scenario) -> u32
     ensures { result ≡ reach_behind scenario.now.own scenario.now.log.gap }
 {
@@ -43,7 +42,7 @@ impl LineWindow {
         }
     }
 
-    /// Whether a time lies in the window of lines.
+    /// Returns whether a time is in the window of lines.
     #[inline(always)]
     fn contains(&self, time: u64) -> bool
         ensures { result ≡ is_between self.now time }
@@ -52,7 +51,7 @@ impl LineWindow {
     }
 }
 
-/// Whether the clock is past a time by more than the slack.
+/// Returns whether the clock is past a time by more than the slack.
 fn is_late(slack: u32, clock: Option<u64>, time: u64) -> bool
     ensures { result ≡ is_late slack clock time }
 {
@@ -68,11 +67,11 @@ pub(crate) struct LineTimes {
     window: LineWindow,
     /// The window's start: the time of a line before any stamp.
     start: u64,
-    /// By how much the clock may be past a time that is heard.
+    /// The most seconds by which the clock may be past the time of a sentence.
     slack: u32,
     /// The stamp of the last line that has one.
     nearest: Option<u64>,
-    /// The greatest stamp that lies in the window of lines.
+    /// The greatest stamp in the window of lines.
     clock: Option<u64>,
 }
 
@@ -80,7 +79,7 @@ impl LineTimes {
     ghost use Rattle.std.specs.Prelude.{[]};
     ghost use Rattle.log_lines.specs.Inner.Times.{KeepsTimes, clock_behind, is_between, nearest_of, times_behind, untimely_by};
 
-    /// No line came yet.
+    /// Returns the times before the first line.
     pub(crate) fn new(scenario: &Scenario) -> LineTimes
         ensures { KeepsTimes result scenario.now [] }
     {
@@ -104,7 +103,7 @@ impl LineTimes {
         }
     }
 
-    /// Why a sentence of this time is not heard.
+    /// Returns the outcome of a sentence of this time if it is outside or late.
     pub(crate) fn untimely(&self, time: u64) -> Option<LineOutcome>
         ensures { result ≡ untimely_by self.now time }
     {
@@ -117,7 +116,7 @@ impl LineTimes {
         None
     }
 
-    /// The clock: the greatest stamp so far that lies in the window of lines.
+    /// Returns the clock: the greatest stamp so far in the window of lines.
     pub(crate) fn clock(&self) -> Option<u64>
         ensures { result ≡ self.now.clock }
     {

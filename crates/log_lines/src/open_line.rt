@@ -22,7 +22,7 @@ pub struct OpenLine {
 }
 
 impl OpenLine {
-    /// The open line of no bytes. This takes no memory.
+    /// Returns an empty open line. This takes no memory.
     pub fn new(alloc: Global) -> OpenLine
         ensures { OpenLineStandsFor result [] }
     {
@@ -31,7 +31,7 @@ impl OpenLine {
         }
     }
 
-    /// Whether it has no byte.
+    /// Returns whether it has no byte.
     pub fn is_empty(&self) -> bool
         ensures { (log : List ℕ) → OpenLineStandsFor self.now log
             → result ≡ (length (open_part log) == 0) }
@@ -77,8 +77,8 @@ impl OpenLine {
         self.extend(part)
     }
 
-    /// Returns the line that a line feed after this part ends, once `extend_open` was called with
-    /// the part: the open line or, if that is empty, the part.
+    /// Returns the line that a line feed after this part ends, after a call of `extend_open` with the part: the open
+    /// line or, if that is empty, the part.
     pub(crate) fn ended_by<'line>(&'line self, part: &'line [u8]) -> Option<&'line [u8]>
         ensures { (log : List ℕ) → HasExtended self.now log part.now
             → IsKnownLine (option_copied result)

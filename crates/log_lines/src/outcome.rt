@@ -1,4 +1,4 @@
-//! What becomes of each line of a log.
+//! The outcomes of a log's lines.
 ghost use Rattle.std.specs.Prelude.{◌≡◌, ◌<◌};
 ghost use Rattle.log_lines.specs.LineOutcomes.{outcome_name, outcome_index};
 
@@ -6,36 +6,36 @@ use ais_messages::MessageCause;
 use aivdm::LineCause;
 use tracks::ReportCause;
 
-/// The one outcome of a line, in the order in which the report counts them.
+/// The outcome of a line, in the order of the report's counts.
 #[derive(Clone, Copy, Debug, PartialEq, Eq)]
 pub enum LineOutcome {
     /// The line has no byte.
     Empty,
     /// The line has more than 1024 bytes.
     Long,
-    /// Its tag block is not of the form, or has another sum.
+    /// Its tag block is malformed or has a wrong checksum.
     Tag,
-    /// It is no VDM or VDO sentence.
+    /// It is not a VDM or VDO sentence.
     Other,
-    /// It is not of a sentence's form.
+    /// Its sentence is malformed.
     Form,
-    /// The sum is another one.
+    /// The checksum is wrong.
     Sum,
-    /// A byte of the payload stands for no six bits.
+    /// A byte of the payload does not stand for six bits.
     Armour,
     /// Its time is not in the window.
     Outside,
-    /// It comes too late.
+    /// It is too late.
     Late,
-    /// It is a part of a message that is to be completed.
+    /// It is a part of a message that needs more parts.
     Part,
     /// It is a part of a message whose earlier parts are missing.
     Orphan,
     /// The message has too few bits.
     Short,
-    /// The message is of a type that is not read.
+    /// The program does not read this type of message.
     Kind,
-    /// The message is not of a ship.
+    /// The sender of the message is not a ship.
     NotShip,
     /// The report has no place.
     NoPos,
@@ -45,9 +45,9 @@ pub enum LineOutcome {
     Back,
     /// The report repeats the latest accepted one.
     Repeat,
-    /// The vessel cannot have come that far.
+    /// The vessel cannot have moved that far.
     Jump,
-    /// The message reports the vessel but not her place.
+    /// The message has data of the vessel but not her place.
     Static,
     /// The report is accepted.
     Point,
@@ -130,7 +130,7 @@ impl LineOutcome {
         LineOutcome::Point,
     ];
 
-    /// The name in the report.
+    /// Returns the name in the report.
     pub fn name(self) -> &'static str
         ensures { result.now ≡ outcome_name self }
     {
@@ -159,7 +159,7 @@ impl LineOutcome {
         }
     }
 
-    /// The place in that order, counted from 0.
+    /// Returns the index in that order, counted from 0.
     pub fn place(self) -> usize
         ensures place { result ≡ outcome_index self }
         ensures within { result < 21 }

@@ -1,4 +1,4 @@
-//! The ship types that vessels report, noted if ranks count.
+//! The ship types that vessels report, stored if ranks count.
 ghost use Rattle.std.specs.Prelude.{◌≡◌, ◌++◌, ◌∷◌, [], Bool, List, OnOk};
 ghost use Rattle.log_lines.specs.ShipTypes.{AreNoted, counts_ranks};
 ghost use Rattle.log_lines.specs.StaticReports.{static_told};
@@ -18,7 +18,7 @@ fn counts_ranks(keeping: Keeping, scenario: &Scenario) -> bool
     keeping != Keeping::Latest && scenario.ranks
 }
 
-/// Returns what is stored before the first message. This takes no memory.
+/// Returns the state before the first message. This takes no memory.
 pub(crate) fn no_ship_types(alloc: Global, keeping: Keeping, scenario: &Scenario) -> Option<Ranks>
     ensures { AreNoted (counts_ranks keeping scenario.now) result [] }
 {
@@ -29,7 +29,7 @@ pub(crate) fn no_ship_types(alloc: Global, keeping: Keeping, scenario: &Scenario
     }
 }
 
-/// Takes what the next message reports of its sender's static data.
+/// Takes the static data of the next message.
 pub(crate) fn note(ranks: &mut Option<Ranks>, told: Option<ToldStatic>) -> Result<(), Memory>
     ensures { OnOk result
         ((ranked : Bool) (messages : List Sent) (one : Sent) → told ≡ static_told one

@@ -1,4 +1,4 @@
-//! Lines that are judged as they end.
+//! Lines of a stream, each judged when it ends.
 ghost use Rattle.std.specs.Prelude.{◌≡◌, ◌+◌, ◌<◌, ◌^◌, ◌++◌, ◌∷◌, [], ℕ, List, IfOk, IsTrue, OnOk, Err, false, if◌then◌else◌, length};
 ghost use Rattle.std.specs.List.{All};
 ghost use Rattle.std.specs.Option.{option_copied};
@@ -47,7 +47,7 @@ fn judge_line(
     }
 }
 
-/// The lines of a log that arrives in chunks, each judged as it ends.
+/// The lines of a log that arrives in chunks, each judged when it ends.
 #[derive(Drop)]
 pub struct StreamedLines {
     judge: Judge,
@@ -78,7 +78,7 @@ impl StreamedLines {
         &self.judge
     }
 
-    /// Forgets where vessels were before a time, as [`Judge::forget`] does.
+    /// Forgets the places of vessels before a time, like [`Judge::forget`].
     pub fn forget(&mut self, time: u64)
         ensures stands { (scenario : Scenario) (log : List ℕ) → LinesStandFor self.old scenario log
             → LinesStandFor self.new scenario log }
@@ -87,8 +87,7 @@ impl StreamedLines {
         self.judge.forget(time);
     }
 
-    /// Takes bytes of a log that contain no line feed. After an `Err` the lines may only be
-    /// dropped.
+    /// Takes bytes of a log that contain no line feed. After an `Err` the caller may only drop the lines.
     pub fn extend(&mut self, part: &[u8]) -> Result<(), Memory>
         requires { All (λ byte. is_line_feed byte ≡ false) part.now }
         ensures stands { OnOk result
@@ -99,8 +98,8 @@ impl StreamedLines {
         self.line.extend(part)
     }
 
-    /// Takes bytes of a log that contain no line feed, and the line feed after them. Returns the
-    /// result of the line that it ends. After an `Err` the lines may only be dropped.
+    /// Takes bytes of a log that contain no line feed, and the line feed after them. Returns the result of the line
+    /// that it ends. After an `Err` the caller may only drop the lines.
     pub fn end_line(&mut self, part: &[u8]) -> Result<Judged, BookFault>
         requires { All (λ byte. is_line_feed byte ≡ false) part.now }
         ensures judged { IfOk result

@@ -1,13 +1,13 @@
-//! What a line reports of a vessel's static data.
+//! The static data of a vessel in a line.
 ghost use Rattle.std.specs.Prelude.{◌≡◌};
 ghost use Rattle.log_lines.specs.StaticReports.{static_told, type_told};
 
 use ais_messages::{Message, ShipData, StaticReport};
 
-/// What a static report says: which vessel, when, and which type of ship.
+/// The content of a static report: the vessel, the time, and the type of ship.
 #[derive(Clone, Copy, Debug, PartialEq, Eq)]
 pub struct ToldStatic {
-    /// The vessel's identity.
+    /// The vessel's MMSI.
     pub mmsi: u32,
     /// The time of the line that completes the report, in seconds since 1970.
     pub time: u64,
@@ -16,7 +16,7 @@ pub struct ToldStatic {
     pub kind: Option<u8>,
 }
 
-/// Returns the type of ship and cargo, if it is reported.
+/// Returns the type of ship and cargo, if the report has it.
 fn type_told(ship: Option<ShipData>) -> Option<u8>
     ensures { result ≡ type_told ship }
 {
@@ -26,8 +26,7 @@ fn type_told(ship: Option<ShipData>) -> Option<u8>
     }
 }
 
-/// Returns what a message of this time reports of its sender's static data, if it has a static
-/// report.
+/// Returns the static data in a message of this time, if it has a static report.
 pub(crate) fn static_told(message: &Message, time: u64) -> Option<ToldStatic>
     ensures { result ≡ static_told (record { message = message.now; time = time }) }
 {

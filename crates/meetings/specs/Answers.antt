@@ -1,4 +1,4 @@
--- What a row answers to each atom, by what it keeps.
+-- The values of the atoms by the state of a row.
 use Rattle.std.specs.Prelude.{ℕ, ◌≡◌, ⊤, Bool, ◌&&◌, Option, Some, None, is_some}
 use Rattle.motion.specs.Steps.{RelativeMove}
 use Rattle.sectors.specs.declared.class.Class.TheVariants as class
@@ -12,7 +12,7 @@ use Rattle.encounters.specs.declared.changes.Changes.{Changes}
 use Rattle.meetings.specs.declared.atom_row.Meeting.{Meeting}
 use Rattle.meetings.specs.declared.by_rank.ByRank.{ByRank}
 
--- what a row keeps: the step, if it is seen, the vessels' directions there, and the state of the engagement
+-- the state of a row: the step, if it is seen, the vessels' directions there, and the state of the engagement
 pub record Kept : Type 0 where
   pub step : Option RelativeMove
   pub direction : Option ℕ

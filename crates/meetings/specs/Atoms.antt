@@ -26,7 +26,7 @@ Tells Holds Yes = Holds
 Tells Holds Open = ⊥
 Tells Holds No = ¬ Holds
 
--- Open if it is not known, otherwise as it says
+-- Open if the value is unknown, otherwise the value
 abbrev pub WhereKnown : {A : Type 0} → Option A → (A → Verdict → Type 0) → Verdict → Type 0
 WhereKnown None Says verdict = verdict ≡ Open
 WhereKnown (Some x) Says verdict = Says x verdict
@@ -86,19 +86,19 @@ module _ (terms : Terms) (ranks : ByRank) (state : EngagementState) (seen : Opti
   abbrev pub AreAnswers : (Atom → Verdict) → Type 0
   AreAnswers answers = (atom : Atom) → IsAtomValue atom (answers atom)
 
--- The answers at step i of a list of steps are the values by the state there, and by the ranks at the step at which the
+-- The row at step i of a list of steps has the values by the state there, and by the ranks at the step at which the
 -- engagement there began.
 pub record IsRankedRow (terms : Terms) (ranks : ℕ → ByRank) (steps : List (Option PairStep)) (i : ℕ) (answers : Atom → Verdict) : Type 0 where
   pub state : EngagementState
   pub is_state : IsState terms.detect steps i state
   pub values : AreAnswers terms (ranks (beginning_at i state)) state (seen_at steps i) answers
 
--- One row a step.
+-- One row per step.
 pub record AreRankedRows (terms : Terms) (ranks : ℕ → ByRank) (steps : List (Option PairStep)) (rows : List (Atom → Verdict)) : Type 0 where
   pub count : length rows ≡ length steps
   pub each : (i : ℕ) → i < length steps → IsSomeAnd (slice_get rows i) (IsRankedRow terms ranks steps i)
 
--- the same of vessels whose ranks are not known
+-- the same for vessels of unknown ranks
 abbrev pub IsAtomRow : Terms → List (Option PairStep) → ℕ → (Atom → Verdict) → Type 0
 IsAtomRow terms = IsRankedRow terms all_power_driven
 

@@ -12,7 +12,7 @@ both_power_driven = record { gives = false; stands = false; both_power = true }
 abbrev pub all_power_driven : ℕ → ByRank
 all_power_driven i = both_power_driven
 
--- Any answer that may be given to what the ranks say is this one.
+-- Any possible result of the duties by rank is this one.
 abbrev pub SaysOnly : (ByRank → Type 0) → ByRank → Type 0
 SaysOnly MaySay by_rank = (said : ByRank) → MaySay said → said ≡ by_rank
 

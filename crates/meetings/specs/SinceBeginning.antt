@@ -1,4 +1,4 @@
--- What the state at a step says about the engagement there.
+-- The engagement at a step by the state there.
 use Rattle.std.specs.Prelude.{ℕ, Option, Some, None}
 use Rattle.mtl_formulas.specs.declared.verdict.Verdict.TheVariants.{No}
 use Rattle.sectors.specs.declared.class.Class.{Class}
@@ -14,7 +14,7 @@ abbrev pub kind_of : EngagementState → Option Class
 kind_of Apart = None
 kind_of (Engaged kind age a b) = Some kind
 
--- how many steps it has lasted, 0 at its beginning
+-- the number of steps since its beginning, 0 at the beginning itself
 abbrev pub age_of : EngagementState → Option ℕ
 age_of Apart = None
 age_of (Engaged kind age a b) = Some age

@@ -1,4 +1,4 @@
--- What a follower and a trace stand for: their numbers and the list of the steps so far.
+-- The models of a follower and of a trace: their numbers and the list of the steps so far.
 use Rattle.std.specs.Prelude.{ℕ, ◌≡◌, ◌-◌, List, length, map, Option, IsSome}
 use Rattle.encounters.specs.Standing as encounters
 use Rattle.encounters.specs.declared.act.Act.{Act}
@@ -11,26 +11,26 @@ use Rattle.meetings.specs.Terms.{Terms}
 use Rattle.meetings.specs.declared.by_rank.ByRank.{ByRank}
 use Rattle.meetings.specs.declared.pair.Pair.{Pair}
 
--- what a follower keeps: its numbers, the engagement, and what the ranks say when it began
+-- the state of a follower: its numbers, the engagement, and the duties by rank at its beginning
 pub record Following : Type 0 where
   pub act : Act
   pub tick : ℕ
   pub engagement : encounters.Kept
   pub by_rank : ByRank
 
--- A follower follows these steps, by these numbers and by what the ranks say at each step. Those
--- of the step at which the engagement began count.
+-- A follower follows these steps, by these numbers and by the duties by rank at each step. Those at the step at which
+-- the engagement began count.
 pub record FollowsRanked (following : Following) (terms : Terms) (ranks : ℕ → ByRank) (steps : List (Option PairStep)) : Type 0 where
   pub by_act : following.act ≡ terms.act
   pub by_tick : following.tick ≡ terms.tick
   pub engagement : encounters.StandsFor following.engagement terms.detect steps
   pub begun : IsSome (age_of following.engagement.latest) → following.by_rank ≡ ranks (beginning_at (length steps - 1) following.engagement.latest)
 
--- the same of vessels whose ranks are not known
+-- the same for vessels of unknown ranks
 abbrev pub Follows : Following → Terms → List (Option PairStep) → Type 0
 Follows following terms = FollowsRanked following terms all_power_driven
 
--- what a trace keeps: its pair, what follows the pair, and the rows so far
+-- the state of a trace: its pair, its follower, and the rows so far
 pub record Traced : Type 0 where
   pub pair : Pair
   pub following : Following

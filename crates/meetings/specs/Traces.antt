@@ -28,7 +28,7 @@ step_between _ _ _ _ = None
 abbrev pub IsPlaced : Option TickState → Type 0
 IsPlaced seen = IfSome seen (λ state. IsBelow (2 ^ 33) state.point)
 
--- If she is seen at two ticks, she moves no further than a step may say.
+-- If she is seen at two ticks, her move is within the limits of a step.
 abbrev pub IsShortMove : Option TickState → Option TickState → Type 0
 IsShortMove (Some before) (Some after) = IsBelow (2 ^ 25) (displacement before.point after.point)
 IsShortMove _ _ = ⊤
@@ -38,7 +38,7 @@ module _ (a b : ℕ → Option TickState) where
   abbrev pub step_at : ℕ → Option PairStep
   step_at i = step_between (a i) (b i) (a (i + 1)) (b (i + 1))
 
-  -- the steps from tick i on, this many of them
+  -- this many steps from tick i
   abbrev pub steps_from : ℕ → ℕ → List (Option PairStep)
   steps_from i zero = []
   steps_from i (suc count) = step_at i ∷ steps_from (i + 1) count
@@ -53,7 +53,7 @@ module _ (a b : ℕ → Option TickState) where
     pub contact : IsContactAt watch start
     pub least : (i : ℕ) → i < start → ¬ IsContactAt watch i
 
-  -- The steps of the trace are those from there on. A pair without such a tick has none.
+  -- The steps of the trace are those from there. A pair without such a tick has none.
   pub record IsTrace (watch end start : ℕ) (steps : List (Option PairStep)) : Type 0 where
     pub begins : BeginsTrace watch end start
     pub are_steps : steps ≡ steps_from start (end - start)

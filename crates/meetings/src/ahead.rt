@@ -20,7 +20,7 @@ fn has_sign_of(a: i128, b: i64) -> bool
     (0 < a && 0 < b) || (a < 0 && b < 0)
 }
 
-/// The same number, if it is known to be small.
+/// Returns the same number, which is known to be small.
 fn narrowed(n: i128) -> i64
     requires { unsigned_abs n ≤ 2 ^ 57 }
     ensures value { result ≡ n }
@@ -37,7 +37,7 @@ fn minus(a: i64, b: i64) -> i64
     a - b
 }
 
-/// Where a point lies as it is seen along a line: `x` to port of it, `y` ahead on it, in millionths.
+/// Returns a point relative to a line: `x` to port of it, `y` ahead along it, in millionths.
 fn along(u: Point, r: Point) -> Point
     requires u_small { IsWithin 1000000 u }
     requires r_small { IsBelow (2 ^ 35) r }
@@ -50,7 +50,7 @@ fn along(u: Point, r: Point) -> Point
     }
 }
 
-/// Whether a vessel crosses the line, from the first of these points along it to the second, strictly ahead.
+/// Returns whether a vessel crosses the line, from the first of these points along it to the second, strictly ahead.
 fn crosses_ahead_by(first: Point, second: Point) -> bool
     requires first_small { IsWithin (2 ^ 57) first }
     requires second_small { IsWithin (2 ^ 57) second }
@@ -67,7 +67,7 @@ fn opposite(r: Point) -> Point
     Point { x: -r.x, y: -r.y }
 }
 
-/// The displacement from A to B at the step's second tick.
+/// Returns the displacement from A to B at the step's second tick.
 fn end(step: &Step) -> Point
     ensures value { result ≡ end_point step.now }
     ensures small { IsBelow (2 ^ 35) result }
@@ -80,7 +80,7 @@ fn end(step: &Step) -> Point
     }
 }
 
-/// Whether A crosses ahead of B's bow within the step (Rule 15), if B has this direction, below 3600.
+/// Returns whether A crosses ahead of B's bow within the step (Rule 15), if B has this direction, below 3600.
 #[tactic(auto, unfolding(crate::specs::Ahead::crosses_ahead))]
 pub(crate) fn crosses_ahead(direction: u16, step: &Step) -> bool
     requires { direction < 3600 }

@@ -1,4 +1,4 @@
-//! What one step of an ordered pair answers to the atoms.
+//! The values of the atoms at one step of an ordered pair.
 ghost use Rattle.std.specs.Prelude.{◌≡◌, ◌*◌, ◌≤◌, nat_le};
 ghost use Rattle.meetings.specs.Atoms.{metres_in_tenths};
 ghost use Rattle.meetings.specs.Inner.Tests.{ahead, is_age, is_close, is_first, is_kind, is_opening, is_separated, on_port, rank_counts, seen_as, told};
@@ -18,16 +18,15 @@ use std::marker::Model;
 pub(crate) struct Meeting {
     /// The class at its beginning.
     pub(crate) kind: Class,
-    /// How many steps it has lasted, 0 at its beginning.
+    /// The number of steps since its beginning, 0 at the beginning itself.
     pub(crate) age: u32,
 }
 
-/// One step of an ordered pair (A, B), with its answers to all atoms. It keeps the state of the engagement, and the step
-/// for
-/// those atoms that are computed when they are asked for.
+/// One step of an ordered pair (A, B), with the values of all atoms. It stores the state of the engagement, and the
+/// step for the atoms that are computed on demand.
 #[derive(Clone, Copy)]
 pub struct AtomRow {
-    /// The step, if it is seen.
+    /// The step, if both vessels are seen.
     pub(crate) step: Option<Step>,
     /// A's direction at its first tick.
     pub(crate) direction: Option<u16>,
@@ -37,11 +36,11 @@ pub struct AtomRow {
     pub(crate) risk: bool,
     /// The engagement, if there is one.
     pub(crate) meeting: Option<Meeting>,
-    /// How many seconds a tick lasts.
+    /// The seconds of a tick.
     pub(crate) tick: u32,
-    /// How the vessels have altered since the engagement began.
+    /// The vessels' alterations since the engagement began.
     pub(crate) changes: Changes,
-    /// What the vessels' ranks say when the engagement begins.
+    /// The duties by rank at the start of the engagement.
     pub(crate) by_rank: ByRank,
 }
 
@@ -85,7 +84,7 @@ pub(crate) fn told(holds: bool) -> Verdict
     if holds { Verdict::Yes } else { Verdict::No }
 }
 
-/// A distance in metres, in tenths of a millimetre.
+/// Converts a distance from metres to tenths of a millimetre.
 fn tenths(m: u32) -> u64
     requires { m ≤ 100000 }
     ensures value { result ≡ metres_in_tenths m }
@@ -94,7 +93,7 @@ fn tenths(m: u32) -> u64
     10_000 * u64::from(m)
 }
 
-/// Whether this many steps, of this many seconds each, last this long.
+/// Returns whether `steps` steps of `tick` seconds each last at least `seconds`.
 fn lasts(steps: u32, tick: u32, seconds: u32) -> bool
     ensures { result ≡ nat_le seconds (steps * tick) }
 {
@@ -102,7 +101,7 @@ fn lasts(steps: u32, tick: u32, seconds: u32) -> bool
 }
 
 impl AtomRow {
-    /// Open if the step is not seen.
+    /// Returns Open if the step is not seen.
     #[inline(never)]
     fn clear(&self, m: u32) -> Verdict
         requires { m ≤ 100000 }
@@ -186,7 +185,7 @@ impl AtomRow {
         }
     }
 
-    /// Whether the vessels' ranks count: they do not if the one overtakes the other.
+    /// Returns whether the vessels' ranks count: they do not if one vessel overtakes the other.
     fn rank_counts(&self) -> bool
         ensures { result ≡ rank_counts self.now.meeting }
     {
@@ -196,8 +195,8 @@ impl AtomRow {
     }
 }
 
-// All atoms are asked for at each position. So the choice among them is inline, and those that compute more are calls of their
-// own.
+// Each position asks for all atoms. So the choice among them is inline, and the atoms that compute more are separate
+// calls.
 impl Atoms for AtomRow {
     ghost use Rattle.meetings.specs.Answers.{answer_of};
 

@@ -1,4 +1,4 @@
-//! The answers of a step by the state of the engagement there.
+//! The values of the atoms at a step by the state of the engagement.
 ghost use Rattle.std.specs.Prelude.{◌≡◌, ◌↔◌, ◌<◌, Option, IfSome, IsSomeAnd, IsTrue};
 ghost use Rattle.std.specs.Option.{option_copied};
 ghost use Rattle.encounters.specs.Directions.{HaveDirections, HaveDirectionsSince};
@@ -86,9 +86,8 @@ fn other_direction(seen: Option<&PairStep>) -> Option<u16>
     seen?.b.direction
 }
 
-/// What a row depends on besides its step: how vessels alter, how many seconds a tick lasts, and what the ranks were when the
-/// engagement
-/// began.
+/// The inputs of a row besides its step: the limits for alterations, the seconds of a tick, and the duties by rank at
+/// the start of the engagement.
 #[derive(Clone, Copy)]
 pub(crate) struct Telling {
     pub(crate) act: Act,
@@ -96,7 +95,7 @@ pub(crate) struct Telling {
     pub(crate) by_rank: ByRank,
 }
 
-/// The row of a step, if it is known whether there is risk, and what the ranks say when the engagement begins.
+/// Returns the row of a step, given whether there is risk, and the duties by rank at the start of the engagement.
 #[inline(always)]
 pub(crate) fn row_at(
     state: &EngagementState,
@@ -123,9 +122,9 @@ pub(crate) fn row_at(
     }
 }
 
-/// What a step of an ordered pair (A, B) answers to each atom with both power-driven, where `state` is that of their engagement
-/// at the step. A step of an engagement is seen; of one that is not seen the alterations are No. Risk and the alterations are
-/// found here, everything else when it is asked. A tick lasts this many seconds. Directions are below 3600.
+/// Returns the row of a step of an ordered pair (A, B), both power-driven; `state` is the state of their engagement at
+/// the step. A step of an engagement is seen; if the step is not seen, the alterations are No. This computes risk and
+/// the alterations; the row computes everything else on demand. A tick lasts `tick` seconds. Directions are below 3600.
 pub fn atoms_at(
     detect: &Detect,
     state: &EngagementState,
@@ -148,8 +147,8 @@ pub fn atoms_at(
     row_at(state, seen, has_risk(detect, seen), &telling)
 }
 
-/// The same row with these ranks when the engagement begins: whether A gives way to B by rank (Rule 18), whether B does to A,
-/// and whether both are power-driven.
+/// Returns the same row with these ranks at the start of the engagement: whether A gives way to B by rank (Rule 18),
+/// whether B gives way to A, and whether both are power-driven.
 pub fn with_ranks(row: &AtomRow, gives: bool, stands: bool, both_power: bool) -> AtomRow
     ensures { (terms : Terms) (before : ByRank) (state : EngagementState) (seen : Option PairStep)
         → AreAnswers terms before state seen (answer_of row.now)

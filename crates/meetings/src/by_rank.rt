@@ -1,6 +1,6 @@
-//! What two vessels owe one another by rank.
+//! The duties of two vessels by rank.
 
-/// What the ranks of the vessels of a pair (A, B) say by Rule 18, when their engagement begins.
+/// The duties of a pair (A, B) by the vessels' ranks (Rule 18) at the start of their engagement.
 #[derive(Clone, Copy, PartialEq, Eq)]
 pub struct ByRank {
     /// A gives way to B by rank.
@@ -11,7 +11,7 @@ pub struct ByRank {
     pub both_power: bool,
 }
 
-/// What they say of two power-driven vessels.
+/// The duties of two power-driven vessels.
 pub const BOTH_POWER_DRIVEN: ByRank = ByRank {
     gives: false,
     stands: false,

@@ -20,8 +20,8 @@ use crate::by_rank::{BOTH_POWER_DRIVEN, ByRank};
 use encounters::{Act, Detect, Engagement, EngagementState, PairStep};
 use std::marker::Model;
 
-/// Follows an ordered pair (A, B) step by step, and gives the row of each. It stands for its numbers and the list of the steps
-/// so far, with what the vessels' ranks say at each.
+/// Follows an ordered pair (A, B) step by step, and returns the row of each step. Its model is its numbers and the list
+/// of the steps so far, with the duties by rank at each.
 #[derive(Clone, Copy)]
 pub struct Follower {
     telling: Telling,
@@ -48,7 +48,8 @@ impl Model for Follower {
         } };
 }
 
-/// Keeps what the ranks say now, if an engagement begins. It is asked only there, since two vessels have to be found for it.
+/// Stores the duties by rank now, if an engagement begins. It asks for them only then, because this must find two
+/// vessels.
 #[inline(always)]
 fn keep_at_beginning<F: FnOnce() -> ByRank>(kept: &mut ByRank, state: &EngagementState, now: F)
     requires { age_of state.now ≡ Some 0 → F.pre now }
@@ -61,7 +62,7 @@ fn keep_at_beginning<F: FnOnce() -> ByRank>(kept: &mut ByRank, state: &Engagemen
 }
 
 impl Follower {
-    /// A pair of no steps yet. A tick lasts this many seconds.
+    /// Returns a pair before its first step. A tick lasts `tick` seconds.
     pub fn new(detect: Detect, act: Act, tick: u32) -> Follower
         requires { IsDetect detect }
         ensures { Follows result (record { detect = detect; act = act; tick = tick }) [] }
@@ -76,8 +77,9 @@ impl Follower {
         }
     }
 
-    /// The row of the next step, which is seen, or is not, of vessels whose ranks are not known. Over fewer than 2^31 steps its
-    /// answers are the atoms' values at that step, with both vessels power-driven. Directions are below 3600.
+    /// Takes the next step, at which both are seen or not, of vessels with unknown ranks; returns its row. Over fewer
+    /// than 2^31 steps the row has the atoms' values at that step, with both vessels power-driven. Directions are below
+    /// 3600.
     #[inline(always)]
     pub fn step(&mut self, seen: Option<&PairStep>) -> AtomRow
         requires { IfSome (option_copied seen) HaveDirections }
@@ -92,9 +94,9 @@ impl Follower {
         self.step_ranked(seen, || BOTH_POWER_DRIVEN)
     }
 
-    /// The row of the next step, which is seen, or is not. `by_rank` says what the vessels' ranks say at the step; it is asked only if
-    /// an engagement begins. Over fewer than 2^31 steps the row's answers are the atoms' values at that step, by the ranks at the step at
-    /// which the engagement began. Directions are below 3600.
+    /// Takes the next step, at which both are seen or not; returns its row. `by_rank` returns the duties by rank at the
+    /// step and is called only if an engagement begins. Over fewer than 2^31 steps the row has the atoms' values at
+    /// that step, by the ranks at the step at which the engagement began. Directions are below 3600.
     #[inline(always)]
     pub fn step_ranked<F: FnOnce() -> ByRank>(
         &mut self,
@@ -119,7 +121,7 @@ impl Follower {
         row_at(state, seen, risk, &self.telling)
     }
 
-    /// The state of the engagement at the latest step; apart before the first.
+    /// Returns the state of the engagement at the latest step; apart before the first.
     pub fn state(&self) -> EngagementState
         ensures { (terms : Terms) (ranks : ℕ → ByRank) (steps : List (Option PairStep)) →
             FollowsRanked self.now terms ranks steps → IsStateAfter terms.detect steps result }

@@ -17,7 +17,7 @@ pub fn at_most_one_value()
         → IsAtomValue terms ranks state seen atom other → verdict ≡ other }
 {}
 
-/// At each step there is at most one row of answers, and a list of steps has at most one list of rows.
+/// At each step there is at most one row of values, and a list of steps has at most one list of rows.
 pub fn at_most_one_row()
     ensures row { (terms : Terms) (ranks : ℕ → ByRank) (steps : List (Option PairStep)) (i : ℕ)
         (answers others : Atom → Verdict) → IsRankedRow terms ranks steps i answers
@@ -27,7 +27,7 @@ pub fn at_most_one_row()
         → AreRankedRows terms ranks steps others → rows ≡ others }
 {}
 
-/// Each step has a row of answers, and each list of steps a list of rows.
+/// Each step has a row of values, and each list of steps has a list of rows.
 pub fn there_are_rows()
     ensures row { (terms : Terms) (ranks : ℕ → ByRank) (steps : List (Option PairStep)) (i : ℕ) →
         (answers : Atom → Verdict) × IsRankedRow terms ranks steps i answers }
@@ -35,7 +35,7 @@ pub fn there_are_rows()
         (rows : List (Atom → Verdict)) × AreRankedRows terms ranks steps rows }
 {}
 
-/// The row of a step stays when further steps come: the rows of the first steps are the first rows of all.
+/// Further steps do not change the row of a step: the rows of the first steps are the first rows of all steps.
 pub fn the_past_stays()
     ensures row { (terms : Terms) (ranks : ℕ → ByRank) (steps more : List (Option PairStep)) (i : ℕ)
         (answers : Atom → Verdict) → i < length steps → IsRankedRow terms ranks steps i answers

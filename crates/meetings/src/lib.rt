@@ -1,12 +1,12 @@
-//! Meetings of two vessels: the trace of an ordered pair, from the first tick at which they are seen near each other, and what
-//! each of its steps answers to the atoms of a formula.
+//! Meetings of two vessels: the trace of an ordered pair, from the first tick at which they are in contact, and the
+//! values of a formula's atoms at each of its steps.
 //!
-//! Distances are tenths of a millimetre, angles tenths of a degree, speeds tenths of a knot. An atom's distance is in metres and
-//! its time in seconds, as a formula's text has them. Only `PairTrace::push` takes memory.
+//! Distances are tenths of a millimetre, angles tenths of a degree, speeds tenths of a knot. An atom's distance is in
+//! metres and its time in seconds, like in a formula's text. Only `PairTrace::push` takes memory.
 //!
-//! Two vessels meet head-on at 18 knots each, 18.52 metres aside of each other, at a tick of 10 seconds: `p` is
-//! `(-185200, 37040000 - 1852000 i)` at step `i`. With risk within 500 metres and 60 ticks there is risk at the steps 0 to 22,
-//! and they are engaged up to step 25; at step 26 they are opening and over 1000 metres apart.
+//! Two vessels meet head-on at 18 knots each, 18.52 metres abeam of each other, at a tick of 10 seconds: `p` is
+//! `(-185200, 37040000 - 1852000 i)` at step `i`. With risk within 500 metres and 60 ticks there is risk at the steps 0
+//! to 22, and they are engaged up to step 25; at step 26 they are opening and over 1000 metres apart.
 #![tactic(auto)]
 
 mod ahead;

@@ -17,8 +17,8 @@ use out_of_memory::Memory;
 use std::alloc::Global;
 use std::marker::Model;
 
-/// An ordered pair of vessels with the rows of its steps so far. It stands for its pair, its numbers and the list of these
-/// steps.
+/// An ordered pair of vessels with the rows of its steps so far. Its model is the pair, its numbers and the list of
+/// these steps.
 #[derive(Drop)]
 pub struct PairTrace {
     pair: Pair,
@@ -35,7 +35,7 @@ impl Model for PairTrace {
 }
 
 impl PairTrace {
-    /// A trace of no steps yet. A tick lasts this many seconds. This takes no memory.
+    /// Returns a trace before its first step. A tick lasts `tick` seconds. This takes no memory.
     pub fn new(alloc: Global, pair: Pair, detect: Detect, act: Act, tick: u32) -> PairTrace
         requires { IsDetect detect }
         ensures { StandsFor result pair (record { detect = detect; act = act; tick = tick }) [] }
@@ -47,8 +47,8 @@ impl PairTrace {
         }
     }
 
-    /// Puts a step after the others, fewer than 2^31, which is seen, or is not. Directions are below 3600. If there is no
-    /// memory for its row, the trace is as before.
+    /// Appends a step, at which both are seen or not, to fewer than 2^31 others. Directions are below 3600. If memory
+    /// runs out, the trace is unchanged.
     pub fn push(&mut self, seen: Option<PairStep>) -> Result<(), Memory>
         requires { IfSome seen HaveDirections }
         ensures ok { OnOk result
@@ -63,7 +63,7 @@ impl PairTrace {
         Ok(())
     }
 
-    /// The rows of the steps, one a step: each answers every atom by its value at that step.
+    /// Returns the rows of the steps, one per step: each has the values of all atoms at that step.
     pub fn rows(&self) -> &[AtomRow]
         ensures { (pair : Pair) (terms : Terms) (steps : List (Option PairStep))
             → StandsFor self.now pair terms steps
@@ -72,7 +72,7 @@ impl PairTrace {
         &self.rows
     }
 
-    /// The pair whose trace it is.
+    /// Returns the pair of the trace.
     pub fn pair(&self) -> Pair
         ensures { (pair : Pair) (terms : Terms) (steps : List (Option PairStep)) →
             StandsFor self.now pair terms steps → result ≡ pair }

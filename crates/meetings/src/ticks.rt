@@ -9,8 +9,8 @@ use encounters::PairStep;
 use fixed_geometry::within;
 use motion::{Step, TickState};
 
-/// Whether A and B are at most `watch` apart: tenths of a millimetre, at most 10^9. Components of their points are below 2^33
-/// in size. A pair's trace begins where they first are.
+/// Returns whether A and B are at most `watch` apart: tenths of a millimetre, at most 10^9. Components of their points
+/// are below 2^33 in size. A pair's trace begins at the first tick at which they are.
 pub fn contact(a: &TickState, b: &TickState, watch: u64) -> bool
     requires a { IsBelow (2 ^ 33) a.now.point }
     requires b { IsBelow (2 ^ 33) b.now.point }
@@ -20,8 +20,8 @@ pub fn contact(a: &TickState, b: &TickState, watch: u64) -> bool
     within(a.point, b.point, watch)
 }
 
-/// The step of A and B from one tick, where they are seen as `a0` and `b0`, to the next, where they are seen as `a1` and `b1`:
-/// `None` if either is not seen at either tick. Components of the points are below 2^33 in size, and each vessel moves by
+/// Returns the step of A and B from one tick with states `a0` and `b0` to the next with states `a1` and `b1`: `None` if
+/// either vessel is not seen at either tick. Components of the points are below 2^33 in size, and each vessel moves by
 /// less than 2^25 in each.
 pub fn step_between(
     a0: Option<&TickState>,

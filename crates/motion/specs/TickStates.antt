@@ -11,8 +11,8 @@ use Rattle.motion.specs.Between.{between}
 use Rattle.motion.specs.declared.leg.Leg.{Leg}
 use Rattle.motion.specs.declared.leg.TickState.{TickState}
 
--- A leg lasts at most an hour and lies in the region. The vessel moves at no more than 102.2 knots: a tenth of a knot is
--- 4630 / 9 tenths of a millimetre a second.
+-- A leg lasts at most an hour and is in the region. The vessel moves at no more than 102.2 knots: a tenth of a knot is
+-- 4630 / 9 tenths of a millimetre per second.
 pub record IsLeg (leg : Leg) : Type 0 where
   pub lasts : leg.t1 < leg.t2
   pub short : leg.t2 - leg.t1 ≤ 3600
@@ -22,11 +22,11 @@ pub record IsLeg (leg : Leg) : Type 0 where
   pub direction : IfSome leg.direction (λ d. d < 3600)
   pub speed : IfSome leg.speed (λ v. v ≤ 1022)
 
--- A leg holds its two ends and the times between them.
+-- A leg contains its two ends and the times between them.
 abbrev pub holds : ℕ → Leg → Bool
 holds t leg = nat_le leg.t1 t && nat_le t leg.t2
 
--- the state at a time that the leg holds
+-- the state at a time within the leg
 unfoldable pub state_on : ℕ → Leg → TickState
 state_on t leg = record {
   point = record {
@@ -37,12 +37,12 @@ state_on t leg = record {
   speed = leg.speed;
 }
 
--- the state at a time, on the last of the legs that hold it: if two legs meet, the later one counts
+-- the state at a time, on the last of the legs that contain it: if two legs meet, the later one counts
 unfoldable pub state_at : ℕ → List Leg → Option TickState
 state_at t legs = option_map (state_on t) (last_or None (filter (holds t) legs))
 
--- A vessel lies at most so far from the origin in each component, and heads and moves as a report can say. In the region
--- that is `REGION_SIZE`, and a predicted or planned one reaches `FARTHEST`.
+-- A vessel is at most this far from the origin in each component, and her direction and speed are in the range of a
+-- report. In the region the distance is `REGION_SIZE`; for a predicted or planned vessel it is `FARTHEST`.
 pub record IsTickState (size : ℕ) (state : TickState) : Type 0 where
   pub point : IsWithin size state.point
   pub direction : IfSome state.direction (λ d. d < 3600)
@@ -53,7 +53,7 @@ pub record Meets (earlier later : Leg) : Type 0 where
   pub time : earlier.t2 ≡ later.t1
   pub point : earlier.p2 ≡ later.p1
 
--- Consecutive legs meet, or lie more than `gap` seconds apart.
+-- Consecutive legs meet, or are more than `gap` seconds apart.
 abbrev pub AreJoined : ℕ → List Leg → Type 0
 AreJoined gap legs = AllAdjacentBelow (λ earlier later. Meets earlier later ⊎ (earlier.t2 + gap < later.t1)) legs (length legs)
 

@@ -6,15 +6,15 @@ ghost use Rattle.motion.specs.TickStates.{state_on, holds, IsLeg, IsTickState};
 
 use fixed_geometry::{Point, round_quotient};
 
-/// How far a predicted or planned vessel lies from the origin at most, in each component: the region, and three hours at the
-/// greatest velocity.
+/// The greatest distance of a predicted or planned vessel from the origin in each component: the region plus three
+/// hours at the greatest velocity.
 pub const FARTHEST: u64 = 7_900_640_400;
 
-/// Where a vessel is at a time, and how she was last reported to head and to move.
+/// A vessel's point at a time, and her last reported direction and speed.
 #[derive(Clone, Copy, Debug, PartialEq, Eq)]
 pub struct TickState {
-    /// In tenths of a millimetre. A vessel seen on her legs lies at most `REGION_SIZE` from the origin in each component, a
-    /// predicted or planned one at most `FARTHEST`.
+    /// In tenths of a millimetre. A vessel seen on her legs is at most `REGION_SIZE` from the origin in each component,
+    /// a predicted or planned one at most `FARTHEST`.
     pub point: Point,
     /// Tenths of a degree clockwise from north, below 3600.
     pub direction: Option<u16>,
@@ -26,10 +26,10 @@ pub struct TickState {
 /// Unix epoch, points in tenths of a millimetre, at most `REGION_SIZE` in each component.
 #[derive(Clone, Copy, PartialEq, Eq)]
 pub struct Leg {
-    /// When the leg begins, and where.
+    /// The time and the point at which the leg begins.
     pub t1: u64,
     pub p1: Point,
-    /// When it ends, and where.
+    /// The time and the point at which it ends.
     pub t2: u64,
     pub p2: Point,
     /// Her direction by the report at `t1`: tenths of a degree clockwise from north, below 3600.
@@ -47,7 +47,7 @@ fn scale(length: i64, factor: u64) -> i64
     length * factor as i64
 }
 
-/// One component of the point after `since` of the leg's `whole` seconds.
+/// Returns one component of the point after `since` of the leg's `whole` seconds.
 fn between(from: i64, to: i64, since: u64, whole: u64) -> i64
     requires from_small { unsigned_abs from ≤ REGION_SIZE }
     requires to_small { unsigned_abs to ≤ REGION_SIZE }
@@ -61,14 +61,14 @@ fn between(from: i64, to: i64, since: u64, whole: u64) -> i64
 }
 
 impl Leg {
-    /// Whether the leg holds the time; it holds its two ends.
+    /// Returns whether the leg contains the time, its two ends included.
     pub(crate) fn holds(&self, time: u64) -> bool
         ensures { result ≡ holds time self.now }
     {
         self.t1 <= time && time <= self.t2
     }
 
-    /// The vessel's state at a time that the leg holds.
+    /// Returns the vessel's state at a time within the leg.
     pub(crate) fn state(&self, time: u64) -> TickState
         requires leg { IsLeg self.now }
         requires begun { self.now.t1 ≤ time }

@@ -11,7 +11,7 @@ use out_of_memory::Memory;
 use std::alloc::Global;
 use std::marker::Model;
 
-/// How many legs have begun by the time: a search by halves.
+/// Returns the number of legs that have begun by the time, by bisection.
 fn begun(legs: &[Leg], time: u64) -> usize
     requires { AreLegs legs.now }
     ensures bound { result ≤ length legs.now }
@@ -40,7 +40,7 @@ impl Model for Legs {
 }
 
 impl Legs {
-    /// No legs yet. This takes no memory.
+    /// Returns no legs. This takes no memory.
     pub fn new(alloc: Global) -> Legs
         ensures { result ≡ [] }
     {
@@ -49,9 +49,8 @@ impl Legs {
         }
     }
 
-    /// Appends a leg: it lasts at most an hour, lies in the region, and is no faster than 102.2 knots, the
-    /// greatest speed that ITU-R M.1371-5, Annex 8, section 3.1 can encode. If memory runs out, the legs are
-    /// unchanged.
+    /// Appends a leg, which lasts at most an hour, is in the region, and is not faster than 102.2 knots, the greatest
+    /// speed that ITU-R M.1371-5, Annex 8, section 3.1 can encode. If memory runs out, the legs are unchanged.
     pub fn push(&mut self, leg: Leg) -> Result<(), Memory>
         requires leg { IsLeg leg }
         requires after { IfSome (last_or None self.old) (λ last. last.t2 ≤ leg.t1) }
@@ -70,8 +69,8 @@ impl Legs {
         let _ = self.legs.drain(..count);
     }
 
-    /// The vessel's state at a time, in seconds since the Unix epoch: on the last leg that holds it, or `None` if no leg
-    /// does.
+    /// Returns the vessel's state at a time, in seconds since the Unix epoch: on the last leg that contains it, or
+    /// `None` if no leg does.
     pub fn at(&self, time: u64) -> Option<TickState>
         ensures value { result ≡ state_at time self.now }
         ensures none { IsNone result ↔ All (λ leg. holds time leg ≡ false) self.now }
@@ -89,8 +88,9 @@ impl Legs {
         }
     }
 
-    /// A law of the legs, which does nothing: if they meet or lie more than `gap` seconds apart, the vessel moves from one
-    /// time to another, at most `gap` seconds later, by at most the greatest velocity in each component, and by 2 more.
+    /// A law of the legs, which does nothing at run time: if they meet or are more than `gap` seconds apart, the vessel
+    /// moves from one time to another, at most `gap` seconds later, by at most the greatest velocity in each component,
+    /// and by 2 more.
     pub fn moves_little(&self, gap: u64)
         requires { AreJoined gap self.now }
         ensures { MovesLittle gap self.now }
@@ -98,14 +98,14 @@ impl Legs {
         let _ = &self.legs;
     }
 
-    /// How many legs there are.
+    /// Returns the number of legs.
     pub fn len(&self) -> usize
         ensures { result ≡ length self.now }
     {
         self.legs.len()
     }
 
-    /// Whether there are none.
+    /// Returns whether there are no legs.
     pub fn is_empty(&self) -> bool
         ensures { IsTrue result ↔ (self.now ≡ []) }
     {

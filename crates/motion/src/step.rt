@@ -12,9 +12,9 @@ fn is_below(p: Point, size: u64) -> bool
     p.x.unsigned_abs() < size && p.y.unsigned_abs() < size
 }
 
-/// From one tick to the next: the displacement from vessel A to vessel B at the first, `p`, and by how much it changes to the
-/// second, `w`, in tenths of a millimetre. Between the ticks both move straight. A component of `p` is below 2^34 in size, one
-/// of `w` below 2^26.
+/// A step from one tick to the next: the displacement `p` from vessel A to vessel B at the first tick, and its change
+/// `w` to the second, in tenths of a millimetre. Between the ticks both move straight. Components of `p` are below 2^34
+/// in size, those of `w` below 2^26.
 #[derive(Clone, Copy, PartialEq, Eq)]
 pub struct Step {
     p: Point,
@@ -36,8 +36,8 @@ impl Model for Step {
 }
 
 impl Step {
-    /// The step with this displacement and this change, or `None` if a component is too large: 2^34 or more in size
-    /// for `p`, 2^26 or more for `w`.
+    /// Returns the step with this displacement and this change, or `None` if a component is too large: 2^34 or more in
+    /// size for `p`, 2^26 or more for `w`.
     pub fn new(p: Point, w: Point) -> Option<Step>
         ensures value { IfSome result (λ s. s ≡ record { p = p; w = w }) }
         ensures some { IsSome result ↔ (IsBelow (2 ^ 34) p × IsBelow (2 ^ 26) w) }
@@ -49,8 +49,8 @@ impl Step {
         }
     }
 
-    /// The step of vessel A, from `a0` to `a1`, and vessel B, from `b0` to `b1`. Components of the points are below 2^33 in
-    /// size, and each vessel moves by less than 2^25 in each.
+    /// Returns the step of vessel A, from `a0` to `a1`, and vessel B, from `b0` to `b1`. Components of the points are
+    /// below 2^33 in size, and each vessel moves by less than 2^25 in each.
     pub fn of(a0: Point, b0: Point, a1: Point, b1: Point) -> Step
         requires a0_small { IsBelow (2 ^ 33) a0 }
         requires b0_small { IsBelow (2 ^ 33) b0 }
@@ -69,7 +69,7 @@ impl Step {
         }
     }
 
-    /// The displacement from vessel A to vessel B at the first tick.
+    /// Returns the displacement from vessel A to vessel B at the first tick.
     pub fn p(&self) -> Point
         ensures value { result ≡ self.now.p }
         ensures small { IsBelow (2 ^ 34) result }
@@ -77,7 +77,7 @@ impl Step {
         self.p
     }
 
-    /// By how much the displacement changes to the second tick.
+    /// Returns the change of the displacement to the second tick.
     pub fn w(&self) -> Point
         ensures value { result ≡ self.now.w }
         ensures small { IsBelow (2 ^ 26) result }

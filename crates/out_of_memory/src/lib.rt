@@ -1,6 +1,6 @@
 //! Out of memory: the one error that no clause ties to a cause.
 //!
-//! What a call has read or changed by then is out of scope: each call states it.
+//! What a call has read or changed by then is out of scope here; each call states it.
 #![tactic(auto)]
 
 ghost use Rattle.std.specs.Prelude.{codes, Some};
@@ -9,7 +9,7 @@ use std::alloc::{AllocError, AllocFailed};
 use std::error::Error;
 use std::fmt;
 
-/// There was no memory for what a call had to keep.
+/// Memory ran out.
 #[derive(Clone, Copy, Debug, PartialEq, Eq)]
 pub struct Memory;
 

@@ -1,4 +1,4 @@
--- Calls that fail on purpose: which of them, and how many were made so far.
+-- Calls that fail on purpose: their numbers, and the number of calls so far.
 use Rattle.std.specs.Prelude.{ℕ, ◌+◌, ◌^◌, ◌==◌, ◌&&◌, if◌then◌else◌, nat_lt, Bool, true, IsTrue, List, [], ◌∷◌}
 use Rattle.std.specs.List.{list_any, list_all}
 use Rattle.outside.specs.Causes.{one_more}
@@ -8,15 +8,15 @@ pub record Calls : Type 0 where
   pub fails : List ℕ
   pub made : ℕ
 
--- whether the next call is among those that are to fail
+-- whether the next call is among those that fail
 abbrev pub is_next_listed : Calls → Bool
 is_next_listed calls = list_any (λ n. n == calls.made) calls.fails
 
--- One call more was made.
+-- One more call was made.
 abbrev pub with_one_more : Calls → Calls
 with_one_more calls = record { fails = calls.fails; made = one_more calls.made }
 
--- how many calls failed, after a call that may have been listed
+-- the number of failed calls, after a call that may have been listed
 abbrev pub faults_after : Calls → ℕ → ℕ
 faults_after calls faults = if is_next_listed calls then faults + 1 else faults
 

@@ -1,4 +1,4 @@
--- What a shelf gives under a name.
+-- The results of fetching a name from a shelf.
 use Rattle.std.specs.Prelude.{ℕ, ◌≡◌, ◌≤◌, ◌<◌, ◌⊎◌, ◌&&◌, Bool, true, not, IsTrue, List, [], ◌∷◌, length, map, None, Some, if◌then◌else◌, Vec}
 use Rattle.std.specs.List.{list_all}
 use Rattle.std.specs.Str.{bytes_eq}
@@ -12,16 +12,16 @@ use Rattle.outside.specs.Causes.{one_more}
 abbrev pub Files : Type 0
 Files = List (List ℕ × List ℕ)
 
--- files in memory, seen as names and bytes
+-- files in memory, with names and bytes as their model
 abbrev pub files_of : List (List ℕ × Vec ℕ Global) → Files
 files_of held = map (λ file. (file.0, file.1.items)) held
 
--- the bytes of a name, if it has any
+-- the bytes under a name, if any
 abbrev pub content_of : List ℕ → Files → Option (List ℕ)
 content_of name [] = None
 content_of name (file ∷ files) = if bytes_eq name file.0 then Some file.1 else content_of name files
 
--- whether no two files have one name
+-- whether no two files have the same name
 abbrev pub names_differ : Files → Bool
 names_differ [] = true
 names_differ (file ∷ files) =
@@ -30,8 +30,8 @@ names_differ (file ∷ files) =
 abbrev pub FilesHaveDifferentNames : Files → Type 0
 FilesHaveDifferentNames files = IsTrue (names_differ files)
 
--- A shelf gives no more bytes than the limit. If its files are known, it gives the whole content,
--- and answers that the content is too long only if it is longer.
+-- A shelf returns no more bytes than the limit. If its files are known, it returns the whole content, and reports that
+-- the content is too long only if it is longer.
 abbrev pub Fetches : Option Files → List ℕ → ℕ → Fetched → Type 0
 Fetches None name limit (fetched.Bytes v) = length v.items ≤ limit
 Fetches None name limit fetched.TooLong = Unit {0}
@@ -49,8 +49,8 @@ abbrev pub IsMissing : Option Files → List ℕ → Type 0
 IsMissing None name = ⊥
 IsMissing (Some files) name = content_of name files ≡ None
 
--- A fetch fails only if the count of faults rises by one, or if the name is known to be missing
--- and the count stays. The count stays at every other answer.
+-- A fetch fails only if the count of faults rises by one, or if the name is known to be missing and the count stays.
+-- The count stays with every other result.
 abbrev pub FetchCause : Option Files → List ℕ → ℕ → ℕ → Fetched → Type 0
 FetchCause files name before now fetched.Failed =
     (now ≡ one_more before) ⊎ (now ≡ before × IsMissing files name)

@@ -27,7 +27,7 @@ impl<R> Model for FileShelf<R> {
     ghost view = { λ s. record { faults = s.faults; fetches = s.fetches } };
 }
 
-/// All that the source has left, as what a fetch gives.
+/// Returns the rest of the source as the result of a fetch.
 fn fetch_all<S: Source>(alloc: Global, source: &mut S, limit: u64) -> Fetched
     ensures { FetchesAll (S.left source.old) (S.left source.new)
         (S.faults source.old) (S.faults source.new) limit result }
@@ -41,7 +41,7 @@ fn fetch_all<S: Source>(alloc: Global, source: &mut S, limit: u64) -> Fetched
 }
 
 impl<R: Files> FileShelf<R> {
-    /// Reads files through this runtime.
+    /// Returns a shelf that reads files through this runtime.
     pub fn new(rt: R) -> FileShelf<R>
         ensures { result ≡ record { faults = 0; fetches = 0 } }
     {

@@ -1,9 +1,6 @@
-//! What a program is handed from outside: sources and sinks of bytes, and shelves of files. Each
-//! trait states which bytes pass, if they are known, and when a call may fail. The bytes of the
-//! kinds
-//! in memory are known, and these can be made to fail; the adapters reach the system, whose bytes
-//! are
-//! unknown.
+//! The inputs and outputs of a program: sources and sinks of bytes, and shelves of files. Each trait states which bytes
+//! pass, if they are known, and when a call may fail. Contracts know the bytes of the kinds in memory, which tests can
+//! make fail. They do not know the bytes of the adapters, which reach the system.
 #![tactic(auto)]
 
 mod file_shelf;

@@ -11,7 +11,7 @@ use crate::word::Word;
 use std::alloc::Global;
 use std::marker::Model;
 
-/// The bytes under the name.
+/// Returns the bytes under the name.
 fn find<'a>(files: &'a [(Word, Vec<u8>)], name: &Word) -> Option<&'a [u8]>
     ensures { let content = content_of name.now (files_of files.now) in
         MatchOption result (content ≡ None) (λ bytes. content ≡ Some bytes.now) }
@@ -24,7 +24,7 @@ fn find<'a>(files: &'a [(Word, Vec<u8>)], name: &Word) -> Option<&'a [u8]>
     None
 }
 
-/// A copy of the bytes, if there are at most `limit` of them.
+/// Returns a copy of the bytes, if there are at most `limit` of them.
 fn copy_within(alloc: Global, bytes: &[u8], limit: u64) -> Fetched
     ensures { Answers (Some bytes.now) limit result }
 {
@@ -37,7 +37,8 @@ fn copy_within(alloc: Global, bytes: &[u8], limit: u64) -> Fetched
     }
 }
 
-/// Files in memory. A fetch fails only if the name is not held. Callers see the files and how many fetches were made.
+/// Files in memory. A fetch fails only if there is no file with the name. The model has the files and the number of
+/// fetches.
 #[derive(Drop)]
 pub struct PlainShelf {
     files: Vec<(Word, Vec<u8>)>,
@@ -54,7 +55,7 @@ impl Model for PlainShelf {
 }
 
 impl PlainShelf {
-    /// Holds these files, each under a name of its own.
+    /// Returns a shelf with these files, each under its own name.
     pub fn new(files: Vec<(Word, Vec<u8>)>) -> PlainShelf
         requires { FilesHaveDifferentNames (files_of files.items) }
         ensures files { result.files ≡ files_of files.items }
@@ -72,13 +73,13 @@ impl Shelf for PlainShelf {
     ghost fetches = { λ s. s.fetches };
 
     fn fetch(&mut self, alloc: Global, name: &Word, limit: u64) -> Fetched
-        // What a shelf does.
+        // The model of a shelf.
         ensures content { Fetches (Some self.old.files) name.now limit result }
         ensures same { Some self.new.files ≡ Some self.old.files }
         ensures cause { FetchCause (Some self.old.files) name.now 0 0 result }
         ensures counted { self.new.fetches ≡ one_more self.old.fetches }
 
-        // What this kind does.
+        // The model of this kind.
         ensures answer { Answers (content_of name.now self.old.files) limit result }
     {
         self.fetches = self.fetches.saturating_add(1);
@@ -89,8 +90,8 @@ impl Shelf for PlainShelf {
     }
 }
 
-/// Files in memory. The calls that are listed fail and are counted. A call for a name that is not
-/// held fails too, and is not.
+/// Files in memory. The listed calls fail and are counted. A call for a name without a file also fails, but is not
+/// counted.
 #[derive(Drop)]
 pub struct MemoryShelf {
     plain: PlainShelf,
@@ -110,9 +111,9 @@ impl Model for MemoryShelf {
 }
 
 impl MemoryShelf {
-    /// Holds these files, each under a name of its own.
+    /// Returns a shelf with these files, each under its own name.
     ///
-    /// `fails` are the numbers of the fetches that are to fail, from 0, in ascending order.
+    /// `fails` are the numbers of the fetches that fail, from 0, in ascending order.
     pub fn new(files: Vec<(Word, Vec<u8>)>, fails: Vec<u64>) -> MemoryShelf
         requires names { FilesHaveDifferentNames (files_of files.items) }
         requires fails { AreCallNumbers fails.items }
@@ -136,14 +137,14 @@ impl Shelf for MemoryShelf {
     ghost fetches = { λ s. s.calls.made };
 
     fn fetch(&mut self, alloc: Global, name: &Word, limit: u64) -> Fetched
-        // What a shelf does.
+        // The model of a shelf.
         ensures content { Fetches (Some self.old.files) name.now limit result }
         ensures same { Some self.new.files ≡ Some self.old.files }
         ensures cause { FetchCause (Some self.old.files) name.now
             self.old.faults self.new.faults result }
         ensures counted { self.new.calls.made ≡ one_more self.old.calls.made }
 
-        // What this kind does.
+        // The model of this kind.
         ensures listed { IsTrue (is_next_listed self.old.calls) → result ≡ Fetched.Failed }
         ensures not_listed { is_next_listed self.old.calls ≡ false
             → Answers (content_of name.now self.old.files) limit result }

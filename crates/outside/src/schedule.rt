@@ -1,10 +1,10 @@
-//! Which calls of a thing in memory are to fail.
+//! The calls of a device in memory that fail.
 ghost use Rattle.std.specs.Prelude.{◌≡◌, ◌<◌, ◌^◌, IsTrue};
 ghost use Rattle.outside.specs.Calls.{AreCallNumbers, is_next_listed, with_one_more};
 
 use std::marker::Model;
 
-/// Counts the calls and knows those that are to fail, by number from 0.
+/// Counts the calls, and has the numbers of those that fail, counted from 0.
 #[derive(Drop)]
 pub struct Schedule {
     fails: Vec<u64>,
@@ -30,7 +30,7 @@ impl Schedule {
         Schedule { fails, made: 0 }
     }
 
-    /// Counts one call, and returns whether it is to fail.
+    /// Counts one call; returns whether it must fail.
     pub fn is_next_failing(&mut self) -> bool
         ensures listed { result ≡ is_next_listed self.old }
         ensures early { IsTrue result → self.old.made < 2 ^ 32 }

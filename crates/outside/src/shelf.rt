@@ -7,16 +7,16 @@ ghost use Rattle.outside.specs.Shelves.{FetchCause, Fetches};
 use crate::word::Word;
 use std::alloc::Global;
 
-/// What a fetch gives.
+/// The result of a fetch.
 #[derive(Drop, PartialEq, Eq)]
 pub enum Fetched {
-    /// All the bytes under the name. They are no more than the limit.
+    /// All the bytes under the name, at most the limit.
     Bytes(Vec<u8>),
     /// There are more bytes under the name than the limit.
     TooLong,
     /// The shelf failed, or has nothing under the name.
     Failed,
-    /// There was no memory for the bytes.
+    /// Memory ran out.
     Memory,
 }
 
@@ -25,13 +25,13 @@ pub trait Shelf {
     /// The names with their contents, if they are known.
     ghost files: { Self → Option (List (List ℕ × List ℕ)) };
 
-    /// How often it has failed. The count stands still at the last value of 64 bits.
+    /// The number of failures; it saturates at the greatest value of 64 bits.
     ghost faults: { Self → ℕ };
 
-    /// How often it was asked. The count stands still at the last value of 64 bits.
+    /// The number of fetches; it saturates at the greatest value of 64 bits.
     ghost fetches: { Self → ℕ };
 
-    /// Gives all the bytes under the name, if there are at most `limit` of them.
+    /// Returns all the bytes under the name, if there are at most `limit` of them.
     fn fetch(&mut self, alloc: Global, name: &Word, limit: u64) -> Fetched
         ensures content { Fetches (files self.old) name.now limit result }
         ensures same { files self.new ≡ files self.old }

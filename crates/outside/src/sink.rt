@@ -12,10 +12,10 @@ use std::alloc::Global;
 use std::io::Write;
 use std::marker::Model;
 
-/// What one write did.
+/// The result of one write.
 #[derive(Clone, Copy, Debug, PartialEq, Eq)]
 pub enum Put {
-    /// It took this many bytes, at least one, from the front of the piece.
+    /// It took this many bytes, at least one, from the front of the chunk.
     Took(usize),
     /// It failed and took nothing.
     Failed,
@@ -23,21 +23,21 @@ pub enum Put {
 
 /// Where bytes go.
 pub trait Sink {
-    /// The bytes that it holds, if they are known.
+    /// The bytes written so far, if they are known.
     ghost contents: { Self → Option (List ℕ) };
 
-    /// How often it has failed. The count stands still at the last value of 64 bits.
+    /// The number of failures; it saturates at the greatest value of 64 bits.
     ghost faults: { Self → ℕ };
 
-    /// Takes bytes from the front of the piece, which must not be empty.
+    /// Takes bytes from the front of the chunk, which must not be empty.
     fn write(&mut self, piece: &[u8]) -> Put
         requires { 0 < length piece.now }
         ensures bytes { Takes (contents self.old) (contents self.new) piece.now result }
         ensures cause { WriteCause (faults self.old) (faults self.new) result };
 }
 
-/// Writes all the bytes, in as many pieces as the sink wants, and returns whether it could. At
-/// `false` the sink has failed and holds a proper prefix of them.
+/// Writes all the bytes, in as many chunks as the sink needs; returns whether it succeeded. If `false`, the sink has
+/// failed and has a proper prefix of them.
 pub fn put_all<K: Sink>(sink: &mut K, bytes: &[u8]) -> bool
     ensures all { IsTrue result → Appends (K.contents sink.old) (K.contents sink.new) bytes.now }
     ensures part { result ≡ false
@@ -55,7 +55,7 @@ pub fn put_all<K: Sink>(sink: &mut K, bytes: &[u8]) -> bool
     true
 }
 
-/// A sink in memory. The calls that are listed fail, and so does one that finds no room.
+/// A sink in memory. The listed calls fail, and so does a call if memory runs out.
 #[derive(Drop)]
 pub struct MemorySink {
     bytes: Vec<u8>,
@@ -82,9 +82,9 @@ impl Model for MemorySink {
 }
 
 impl MemorySink {
-    /// An empty sink that takes at most `piece` bytes at a time.
+    /// Returns an empty sink that takes at most `piece` bytes at a time.
     ///
-    /// `fails` are the numbers of the writes that are to fail, from 0, in ascending order.
+    /// `fails` are the numbers of the writes that fail, from 0, in ascending order.
     pub fn new(alloc: Global, piece: usize, fails: Vec<u64>) -> MemorySink
         requires piece { 1 ≤ piece }
         requires fails { AreCallNumbers fails.items }
@@ -101,7 +101,7 @@ impl MemorySink {
         }
     }
 
-    /// What was appended so far.
+    /// Returns the bytes appended so far.
     pub fn bytes(&self) -> &[u8]
         ensures { result.now ≡ self.now.bytes }
     {
@@ -117,11 +117,11 @@ impl Sink for MemorySink {
     fn write(&mut self, piece: &[u8]) -> Put
         requires { 0 < length piece.now }
 
-        // What a sink does.
+        // The model of a sink.
         ensures bytes { Takes (Some self.old.bytes) (Some self.new.bytes) piece.now result }
         ensures cause { WriteCause self.old.faults self.new.faults result }
 
-        // What this kind does.
+        // The model of this kind.
         ensures at_most { TakesAtMost self.old.piece result }
         ensures same { self.new.piece ≡ self.old.piece }
         ensures listed { IsTrue (is_next_listed self.old.calls) → result ≡ Put.Failed }
@@ -140,9 +140,9 @@ impl Sink for MemorySink {
     }
 }
 
-/// A writer of std, such as standard output or standard error, flushed after each write. A writer
-/// that takes nothing, an error and a flush that fails are faults. As a sink its bytes are unknown,
-/// since at a fault a part of the piece may already be written.
+/// A writer of std, such as standard output or standard error, flushed after each write. If the writer takes nothing,
+/// returns an error or fails to flush, that is a fault. As a sink, its bytes are unknown, because at a fault a part of
+/// the chunk may already be written.
 #[derive(Drop)]
 pub struct StdSink<W: Write> {
     inner: W,
@@ -158,7 +158,7 @@ impl<W: Write> Model for StdSink<W> {
 }
 
 impl<W: Write> StdSink<W> {
-    /// Writes to the writer.
+    /// Returns a sink that writes to the writer.
     pub fn new(inner: W) -> StdSink<W>
         ensures bytes { result.bytes ≡ W.contents inner }
         ensures faults { result.faults ≡ 0 }
@@ -175,11 +175,11 @@ impl<W: Write> Sink for StdSink<W> {
     fn write(&mut self, piece: &[u8]) -> Put
         requires { 0 < length piece.now }
 
-        // What a sink does.
+        // The model of a sink.
         ensures bytes { Takes None None piece.now result }
         ensures cause { WriteCause self.old.faults self.new.faults result }
 
-        // What this kind does.
+        // The model of this kind.
         ensures passed { PassesOn self.old.bytes self.new.bytes piece.now result }
     {
         match self.inner.write(piece) {

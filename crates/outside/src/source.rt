@@ -9,26 +9,26 @@ use crate::schedule::Schedule;
 use std::io::Read;
 use std::marker::Model;
 
-/// What one read gives.
+/// The result of one read.
 #[derive(Clone, Copy, Debug, PartialEq, Eq)]
 pub enum Taken {
-    /// So many bytes, at least one, stand at the front of the room.
+    /// This many bytes, at least one, are at the front of the room.
     Got(usize),
     /// Nothing is left.
     End,
-    /// The source failed, and keeps what it has left.
+    /// The source failed; its remaining bytes are unchanged.
     Failed,
 }
 
-/// Where bytes come from, in pieces of any length.
+/// A source of bytes, in chunks of any length.
 pub trait Source {
-    /// The bytes that are left, if they are known.
+    /// The remaining bytes, if they are known.
     ghost left: { Self → Option (List ℕ) };
 
-    /// How often it has failed. The count stands still at the last value of 64 bits.
+    /// The number of failures; it saturates at the greatest value of 64 bits.
     ghost faults: { Self → ℕ };
 
-    /// Puts the next bytes at the front of the room, which must not be empty.
+    /// Writes the next bytes to the front of the room, which must not be empty.
     fn read(&mut self, room: &mut [u8]) -> Taken
         requires { 0 < length room.old }
         ensures bytes { Gives (left self.old) (left self.new) room.new result }
@@ -55,7 +55,7 @@ impl Model for PlainSource {
 }
 
 impl PlainSource {
-    /// Gives these bytes, at most `piece` of them at a time.
+    /// Returns a source of these bytes, which returns at most `piece` of them at a time.
     pub fn new(bytes: Vec<u8>, piece: usize) -> PlainSource
         requires { 1 ≤ piece }
         ensures left { result.left ≡ bytes.items }
@@ -93,11 +93,11 @@ impl Source for PlainSource {
     fn read(&mut self, room: &mut [u8]) -> Taken
         requires { 0 < length room.old }
 
-        // What a source does.
+        // The model of a source.
         ensures bytes { Gives (Some self.old.left) (Some self.new.left) room.new result }
         ensures cause { ReadCause 0 0 result }
 
-        // What this kind does.
+        // The model of this kind.
         ensures at_most { GivesAtMost self.old.piece result }
         ensures same { self.new.piece ≡ self.old.piece }
         ensures never { result ≢ Taken.Failed }
@@ -112,7 +112,7 @@ impl Source for PlainSource {
     }
 }
 
-/// Bytes in memory. The calls that are listed fail.
+/// Bytes in memory. The listed calls fail.
 #[derive(Drop)]
 pub struct MemorySource {
     plain: PlainSource,
@@ -137,9 +137,9 @@ impl Model for MemorySource {
 }
 
 impl MemorySource {
-    /// Gives these bytes, at most `piece` of them at a time.
+    /// Returns a source of these bytes, which returns at most `piece` of them at a time.
     ///
-    /// `fails` are the numbers of the reads that are to fail, from 0, in ascending order.
+    /// `fails` are the numbers of the reads that fail, from 0, in ascending order.
     pub fn new(bytes: Vec<u8>, piece: usize, fails: Vec<u64>) -> MemorySource
         requires piece { 1 ≤ piece }
         requires fails { AreCallNumbers fails.items }
@@ -164,11 +164,11 @@ impl Source for MemorySource {
     fn read(&mut self, room: &mut [u8]) -> Taken
         requires { 0 < length room.old }
 
-        // What a source does.
+        // The model of a source.
         ensures bytes { Gives (Some self.old.left) (Some self.new.left) room.new result }
         ensures cause { ReadCause self.old.faults self.new.faults result }
 
-        // What this kind does.
+        // The model of this kind.
         ensures at_most { GivesAtMost self.old.piece result }
         ensures same { self.new.piece ≡ self.old.piece }
         ensures listed { (result ≡ Taken.Failed) ↔ IsTrue (is_next_listed self.old.calls) }
@@ -183,8 +183,8 @@ impl Source for MemorySource {
     }
 }
 
-/// A reader of std, such as standard input. Its bytes are known if its reader's are: those of
-/// standard input and of files are not. Each error of the reader is a fault.
+/// A reader of std, such as standard input. Its bytes are known if the reader's bytes are; those of standard input and
+/// of files are not. Each error of the reader is a fault.
 #[derive(Drop)]
 pub struct StdSource<R: Read> {
     inner: R,
@@ -200,7 +200,7 @@ impl<R: Read> Model for StdSource<R> {
 }
 
 impl<R: Read> StdSource<R> {
-    /// Reads what the reader gives.
+    /// Returns a source of the reader's bytes.
     pub fn new(inner: R) -> StdSource<R>
         ensures bytes { result.bytes ≡ R.remaining inner }
         ensures faults { result.faults ≡ 0 }

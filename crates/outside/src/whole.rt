@@ -9,14 +9,14 @@ use std::alloc::{AllocError, Global};
 use std::error::Error;
 use std::fmt;
 
-/// Why a source was not read whole.
+/// Why a source was not read to its end.
 #[derive(Clone, Copy, Debug, PartialEq, Eq)]
 pub enum ReadFault {
     /// A read failed.
     Failed,
     /// There are more bytes than the limit.
     TooLong,
-    /// There was no memory for them.
+    /// Memory ran out.
     Memory,
 }
 
@@ -48,17 +48,17 @@ impl From<AllocError> for ReadFault {
     }
 }
 
-/// How many bytes are read at a time.
+/// The most bytes of a read.
 const BLOCK: usize = 65536;
 
-/// A block of zeros. Its length is an argument, so that no proof lists its bytes.
+/// Returns a block of zeros. Its length is an argument, so that no proof lists its bytes.
 fn zeros(alloc: Global, count: usize) -> Result<Vec<u8>, AllocError>
     ensures { IfOk result (λ v. vec_len v ≡ count) }
 {
     vec![in alloc; 0u8; count]
 }
 
-/// Reads once, no more than the room holds, and returns whether there may be more.
+/// Reads once, at most the size of the room; returns whether there may be more.
 fn read_more<S: Source>(
     source: &mut S,
     room: &mut [u8],
@@ -92,7 +92,7 @@ fn read_more<S: Source>(
     }
 }
 
-/// Reads once, up to the byte after the limit, and returns whether there may be more.
+/// Reads once, up to the byte after the limit; returns whether there may be more.
 fn read_block<S: Source>(
     source: &mut S,
     block: &mut [u8],
@@ -117,8 +117,7 @@ fn read_block<S: Source>(
     read_more(source, &mut block[..room], bytes, limit)
 }
 
-/// All that the source has left, if that is no longer than the limit. What is longer is read up to the byte after
-/// the limit.
+/// Returns the rest of the source if it is within the limit. If it is longer, reads up to the byte after the limit.
 pub fn read_whole<S: Source>(
     alloc: Global,
     source: &mut S,

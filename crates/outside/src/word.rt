@@ -1,4 +1,4 @@
-//! A word of the command line, which is also the name of a file.
+//! A command-line argument, which is also the name of a file.
 ghost use Rattle.std.specs.Prelude.{◌≡◌, IfOk};
 ghost use Rattle.std.specs.Str.{IsUtf8};
 
@@ -6,7 +6,7 @@ use out_of_memory::Memory;
 use std::alloc::Global;
 use std::marker::Model;
 
-/// A text of its own, seen as its bytes, which are UTF-8.
+/// An owned text. Its model is its bytes, which are UTF-8.
 #[derive(Drop)]
 pub struct Word {
     text: String,
@@ -24,7 +24,7 @@ impl Model for Word {
 }
 
 impl Word {
-    /// A copy of the text.
+    /// Returns a copy of the text.
     pub fn new(alloc: Global, text: &str) -> Result<Word, Memory>
         ensures { IfOk result (λ word. word ≡ text.now) }
     {
@@ -32,7 +32,7 @@ impl Word {
         Ok(Word { text })
     }
 
-    /// The bytes of the text.
+    /// Returns the bytes of the text.
     pub fn bytes(&self) -> &[u8]
         ensures same { result.now ≡ self.now }
         ensures utf8 { IsUtf8 self.now }
@@ -40,7 +40,7 @@ impl Word {
         self.text.as_bytes()
     }
 
-    /// The text itself.
+    /// Returns the text itself.
     pub fn text(&self) -> &str
         ensures { result.now ≡ self.now }
     {

@@ -1,4 +1,4 @@
-//! Whether a situation is one that a search may be asked about: for tests, which make theirs by hand or draw them.
+//! Checks the preconditions of a search, for tests that make situations by hand or draw them.
 ghost use Rattle.std.specs.Prelude.{ℕ, ◌≡◌, ◌+◌, ◌≤◌, ◌<◌, ◌^◌, ◌*◌, ◌-◌, ◌-ℤ◌, All, IfSome, IsSome, IsTrue, length, unsigned_abs};
 ghost use Rattle.encounters.specs.Directions.{HasDirection};
 ghost use Rattle.encounters.specs.Risk.{IsDetect};
@@ -214,7 +214,7 @@ fn is_situation(situation: &Situation) -> bool
         && are_targets(situation, now, positions as usize)
 }
 
-/// The situation is one with at most one target that a search may be asked about.
+/// Checks that a search accepts the situation, which has at most one target.
 pub(crate) fn is_checked(rt: &impl Abort, situation: &Situation)
     ensures { IsSituation situation.now }
 {

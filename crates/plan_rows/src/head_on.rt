@@ -1,4 +1,4 @@
-//! The situation of two vessels head on, out of a scenario and a log.
+//! The situation of two vessels head-on, from a scenario and a log.
 ghost use Rattle.std.specs.Prelude.{IfOk, IfSome};
 ghost use Rattle.plan_situations.specs.Situations.{IsSituation};
 
@@ -11,8 +11,9 @@ use std::alloc::Global;
 use std::test::Fail;
 use tracks::Keeping;
 
-/// After the scenario of all worked rows: two rules of one's own, one that is named `domain` too, and one that is broken by now, at the
-/// step at which the meeting begins; and own ship with a tail of 10 ticks and a domain of 300 metres, without her legs and courses.
+/// The text after the scenario of all worked rows: two additional rules, one of them also named `domain`, and one that
+/// is already broken at now, at the step at which the meeting begins; and own ship with a tail of 10 ticks and a domain
+/// of 300 metres, without her legs and courses.
 const OWN_SHIP: &str = "[[formula]]
 name = \"domain\"
 text = \"!close(200)\"
@@ -40,7 +41,7 @@ pub const ONE_LEG: &str = "legs = 1
 leg_ticks = 30
 ";
 
-/// The situation at the log's end, tick 1 of ten seconds each, with these legs and this list of courses.
+/// Returns the situation at the log's end, tick 1 of ten seconds each, with these legs and this list of courses.
 pub fn situation_with(alloc: Global, legs: &str, courses: &str) -> Result<Option<Situation>, Fail>
     ensures { IfOk result (λ found. IfSome found IsSituation) }
 {

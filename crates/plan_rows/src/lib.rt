@@ -1,5 +1,5 @@
-//! Worked situations, and the pruned search against the flat list. And worked rows of why there is no plan: what is reported, and what a check of rows
-//! returns.
+//! Worked situations, and the pruned search against the flat list. Also worked rows of the reasons why there is no
+//! plan: the report, and the results of checks of rows.
 #![tactic(auto)]
 
 #[cfg(test)]

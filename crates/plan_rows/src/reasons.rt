@@ -1,4 +1,4 @@
-//! What no clause says: why worked plans fail.
+//! Beyond the contracts: why worked plans fail.
 ghost use Rattle.std.specs.Prelude.{◌≤◌};
 ghost use Rattle.lattice.specs.Grids.{choices_of};
 ghost use Rattle.lattice.specs.PlanNumbers.{IsPlan};
@@ -22,7 +22,7 @@ type Reasons = (Option<DomainEntry>, Option<BrokenRule>);
 /// A horizon, and why the first plan fails up to it.
 type Row = (u32, Option<DomainEntry>, Option<BrokenRule>);
 
-/// Why a plan fails towards a target, up to a horizon.
+/// Returns why a plan fails towards a target, up to a horizon.
 fn reasons(
     alloc: Global,
     situation: &Situation,
@@ -40,7 +40,7 @@ fn reasons(
     Ok((entry, situation.newly_broken(alloc, plan, target, until)?))
 }
 
-/// The first plan fails towards a target for the reasons of a row.
+/// Checks that the first plan fails towards a target for the reasons of a row.
 fn fails_by(
     rt: &impl Abort,
     alloc: Global,
@@ -60,7 +60,7 @@ fn fails_by(
     is_found(rt, found, (entry, broken))
 }
 
-/// The first plan fails towards a target for these reasons.
+/// Checks that the first plan fails towards a target for these reasons.
 fn fails_towards(
     rt: &impl Abort,
     alloc: Global,
@@ -77,7 +77,7 @@ fn fails_towards(
     Ok(())
 }
 
-/// The first plan fails towards the one target for these reasons.
+/// Checks that the first plan fails towards the only target for these reasons.
 fn fails(
     rt: &impl Abort,
     alloc: Global,
@@ -99,10 +99,11 @@ const ENTRY: Option<DomainEntry> = Some(DomainEntry {
     moment: Moment { a: 1, b: 1 },
 });
 
-/// Own ship keeps her course towards a vessel head-on, 3704 metres away at tick 0 and 185.2 metres less at each tick after it, and passes her
-/// 18.52 metres aside at tick 20. Now is tick 1, and the last planned tick is 41. She is nearer than 300 metres for the first time in the step
-/// from tick 18 on, nearest at its end. The engagement begins at tick 0, and the rule with index 3, `r14a`, asks for a turn to starboard within
-/// 60 seconds, at one of the steps 0 to 6.
+/// Own ship keeps her course towards a vessel head-on, 3704 metres away at tick 0 and 185.2 metres less at each tick
+/// after it, and passes her 18.52 metres abeam at tick 20. Now is tick 1, and the last planned tick is 41. She is
+/// nearer than 300 metres for the first time in the step from tick 18, nearest at its end. The engagement begins at
+/// tick 0, and the rule with index 3, `r14a`, requires a turn to starboard within 60 seconds, at one of the steps 0 to
+/// 6.
 static HORIZONS: [Row; 6] = [
     (1, None, None),
     (6, None, None),
@@ -112,7 +113,7 @@ static HORIZONS: [Row; 6] = [
     (41, ENTRY, BROKEN),
 ];
 
-/// The first plan fails for these reasons, if the target has no direction from a tick on.
+/// Checks that the first plan fails for these reasons, if the target has no direction from a tick.
 fn fails_head_on(
     rt: &impl Abort,
     alloc: Global,
@@ -149,14 +150,15 @@ const TURNED: Option<DomainEntry> = Some(DomainEntry {
     },
 });
 
-/// Domains are this shape. She enters it 272.22 metres ahead of the target in the step from tick 18 on, which begins 370.4 metres ahead of her
-/// and ends 185.2 ahead: she crosses the edge from the sixth vertex to the first at 9818 / 18520 of it. The rule is broken as before.
+/// Domains have this shape. She enters it 272.22 metres ahead of the target in the step from tick 18, which begins
+/// 370.4 metres ahead of her and ends 185.2 ahead: she crosses the edge from the sixth vertex to the first at 9818 /
+/// 18520 of it. The rule is broken as before.
 static SHAPED: [Row; 2] = [(18, None, BROKEN), (19, TURNED, BROKEN)];
 
-/// If the target has no direction at tick 18 she enters the circle instead, and is nearest at the end.
+/// If the target has no direction at tick 18, she enters the circle instead, and is nearest at the end.
 static CIRCLED: [Row; 2] = [(18, None, BROKEN), (19, ENTRY, BROKEN)];
 
-/// The same, if domains are a shape.
+/// Checks the same if domains are a shape.
 fn fails_in_shape(rt: &impl Abort, alloc: Global, lost: u32, rows: &[Row]) -> Result<(), Memory> {
     fails_head_on(rt, alloc, Shape::new(&EVEN), lost, rows)
 }

@@ -1,4 +1,4 @@
-//! What no clause says: worked situations, the pruned search against the flat list, and that each call can succeed.
+//! Beyond the contracts: worked situations, the pruned search against the flat list, and that each call can succeed.
 ghost use Rattle.std.specs.Prelude.{◌≤◌, ◌<◌, IfSome};
 ghost use Rattle.lattice.specs.Grids.{choices_of};
 ghost use Rattle.lattice.specs.PlanNumbers.{IsPlan};
@@ -64,9 +64,8 @@ static LONG_AHEAD: [(i32, i32); 6] = [
     (300, -150),
 ];
 
-/// A vessel that moves by this much from each tick to the next, at 18 knots as she reports. She has no direction from a tick on, and is not
-/// seen at
-/// each tick up to now whose bit is set.
+/// A vessel that moves by this much from each tick to the next and reports 18 knots. She has no direction from a tick,
+/// and is not seen at the ticks up to now whose bits are set.
 #[derive(Drop)]
 struct Line {
     from: Point,
@@ -93,7 +92,7 @@ impl Line {
         }
     }
 
-    /// How she is seen at a tick up to now.
+    /// Returns her state at a tick up to now, if she is seen.
     fn seen_at(&self, k: u32) -> Option<TickState>
         requires { k ≤ 20 }
     {
@@ -104,7 +103,7 @@ impl Line {
     }
 }
 
-/// Both, if memory was left for them.
+/// Returns both values, or the first out-of-memory error.
 fn both<A: Drop, B: Drop>(
     first: Result<A, Memory>,
     second: Result<B, Memory>,
@@ -112,7 +111,7 @@ fn both<A: Drop, B: Drop>(
     Ok((first?, second?))
 }
 
-/// How she is seen at the ticks up to now.
+/// Returns her states at the ticks up to now.
 fn past_on(alloc: Global, line: &Line, now: u32) -> Result<Past, Memory>
     requires { now ≤ 20 }
 {
@@ -123,7 +122,7 @@ fn past_on(alloc: Global, line: &Line, now: u32) -> Result<Past, Memory>
     Ok(Past::new(past))
 }
 
-/// How she is predicted from now on, up to this many ticks later.
+/// Returns her predicted states from now, up to this many ticks later.
 fn ahead_on(alloc: Global, line: &Line, now: u32, positions: u32) -> Result<Ahead, Memory>
     requires now { now ≤ 20 }
     requires positions { positions ≤ 7200 }
@@ -135,7 +134,7 @@ fn ahead_on(alloc: Global, line: &Line, now: u32, positions: u32) -> Result<Ahea
     Ok(Ahead::new(ahead))
 }
 
-/// A target on a line.
+/// Returns a target on a line.
 fn target_on(
     alloc: Global,
     line: &Line,
@@ -165,7 +164,7 @@ static NORTHWARD: Line = Line {
     missed: 0,
 };
 
-/// One target, which is on a line.
+/// Returns one target, which is on a line.
 fn targets_on(
     alloc: Global,
     line: &Line,
@@ -180,7 +179,7 @@ fn targets_on(
     Ok(Targets::new(vec![in alloc; target]?))
 }
 
-/// Own ship up to the tick of now, a target on a line, and the rules.
+/// Returns own ship up to the tick of now, a target on a line, and the rules.
 fn surroundings(
     alloc: Global,
     line: &Line,
@@ -196,7 +195,7 @@ fn surroundings(
     both(vessels, RuleSet::new(alloc, &NUMBERS, 10))
 }
 
-/// A situation with one target, on a line, if own ship has headed north up to the tick of now.
+/// Returns a situation with one target on a line; own ship has headed north up to the tick of now.
 fn towards(
     alloc: Global,
     line: &Line,
@@ -222,7 +221,8 @@ fn towards(
     })
 }
 
-/// Two vessels that meet head-on at 18 knots each, 18.52 metres aside of each other. Now is tick 1. The other has no direction from a tick on.
+/// Returns two vessels that meet head-on at 18 knots each, 18.52 metres abeam of each other. Now is tick 1. The other
+/// has no direction from a tick.
 pub(crate) fn head_on(
     alloc: Global,
     lattice: Lattice,
@@ -242,12 +242,13 @@ pub(crate) fn head_on(
     towards(alloc, &line, 3_000_000, 1, lattice, shape)
 }
 
-/// Own ship's one plan is to keep on.
+/// Returns a lattice with only the plan of keeping course and speed.
 pub(crate) fn keeping_on(alloc: Global) -> Lattice {
     Lattice::new(alloc, &[0], &[0], 1, 30, 10, 1800, 1022)
 }
 
-/// She keeps on, or turns to starboard by 30 or 60 degrees, by this much in a tick.
+/// Returns a lattice with three plans: she keeps her course, or turns to starboard by 30 or 60 degrees, by this much
+/// per tick.
 fn turning(alloc: Global, turn_rate: u16) -> Lattice
     requires some { 1 ≤ turn_rate }
     requires few { turn_rate ≤ 1800 }
@@ -264,7 +265,7 @@ fn number_in(lattice: &Lattice, plan: Option<Plan>) -> Option<u32>
     }
 }
 
-/// The number of the least plan that does not fail, as the flat list gives it.
+/// Returns the number of the least plan that does not fail, by the flat list.
 fn flat_answer(alloc: Global, situation: &Situation) -> Result<Option<u32>, Memory>
     requires { IsSituation situation.now }
 {
@@ -272,7 +273,7 @@ fn flat_answer(alloc: Global, situation: &Situation) -> Result<Option<u32>, Memo
     Ok(number_in(&situation.lattice, plan))
 }
 
-/// The number of the least plan that does not fail, as the pruned search gives it.
+/// Returns the number of the least plan that does not fail, by the pruned search.
 fn pruned_answer(search: &mut Search) -> Option<u32>
     requires { IsSound search.old }
     ensures { IsSound search.new }
@@ -281,7 +282,7 @@ fn pruned_answer(search: &mut Search) -> Option<u32>
     number_in(&search.situation().lattice, plan)
 }
 
-/// What a search answers, and what it answers when it is asked again.
+/// Returns the answer of a search, and its answer to a second call.
 fn answers_of(mut search: Search) -> [Option<u32>; 2]
     requires { IsSound search }
 {
@@ -291,14 +292,14 @@ fn answers_of(mut search: Search) -> [Option<u32>; 2]
     [first, second]
 }
 
-/// What the pruned search answers each time.
+/// Returns the answers of the pruned search to two calls.
 fn pruned_answers(alloc: Global, situation: Situation) -> Result<[Option<u32>; 2], Memory>
     requires { IsSituation situation }
 {
     Ok(answers_of(Search::new(alloc, situation)?))
 }
 
-/// The answer of the flat list, which the pruned search gives each time.
+/// Checks that the pruned search gives the answer of the flat list each time; returns it.
 fn agreed(
     rt: &impl Abort,
     flat: Result<Option<u32>, Memory>,
@@ -309,14 +310,15 @@ fn agreed(
     Ok(flat)
 }
 
-/// The number of the least plan that does not fail: the flat list gives it, and the pruned search each time that it is asked.
+/// Returns the number of the least plan that does not fail, on which the flat list and each call of the pruned search
+/// agree.
 fn least(rt: &impl Abort, alloc: Global, situation: Situation) -> Result<Option<u32>, Memory> {
     is_checked(rt, &situation);
     let flat = flat_answer(alloc, &situation);
     agreed(rt, flat, pruned_answers(alloc, situation))
 }
 
-/// The answer of the situation of two vessels head-on.
+/// Returns the answer for two vessels head-on.
 fn least_head_on(
     rt: &impl Abort,
     alloc: Global,
@@ -326,7 +328,7 @@ fn least_head_on(
     least(rt, alloc, head_on(alloc, lattice, shape, u32::MAX)?)
 }
 
-/// The same, if she may turn to starboard by this much in a tick.
+/// Returns the same if she may turn to starboard by this much per tick.
 fn least_turning(
     rt: &impl Abort,
     alloc: Global,
@@ -339,7 +341,7 @@ fn least_turning(
     least_head_on(rt, alloc, turning(alloc, turn_rate), shape)
 }
 
-/// She keeps on, or turns to starboard by 30 degrees, on each of two legs.
+/// Returns a lattice with two legs; on each she keeps her course or turns to starboard by 30 degrees.
 fn two_legs(alloc: Global) -> Lattice {
     Lattice::new(alloc, &[0, 300], &[0], 2, 15, 10, 1800, 1022)
 }
@@ -372,7 +374,7 @@ fn a_turn_at_a_rate_passes_or_comes_too_late(rt: HostRuntime) -> Result<(), Memo
     is_found(&rt, least_turning(&rt, rt.alloc(), 20, None), None)
 }
 
-/// What the pruned search answers of 2^30 plans, too many for the flat list.
+/// Returns the answers of the pruned search for 2^30 plans, too many for the flat list.
 fn answers_of_the_greatest_lattice(
     rt: &impl Abort,
     alloc: Global,
@@ -391,7 +393,7 @@ fn all_plans_of_the_greatest_lattice_fail_in_their_first_leg(
     is_found(&rt, answers, [None, None])
 }
 
-/// One of this many, at most 2^24.
+/// Returns a number below `many`, which is at most 2^24.
 fn below(source: &mut Pcg32, many: u32) -> u32
     requires { 0 < many }
     ensures { result < many }
@@ -399,7 +401,7 @@ fn below(source: &mut Pcg32, many: u32) -> u32
     (source.next_word() >> 8) % many
 }
 
-/// One of the numbers that are less than the size from nought.
+/// Returns a number whose distance from 0 is less than `size`.
 fn about(source: &mut Pcg32, size: u32) -> i64
     requires some { 0 < size }
     requires few { size < 8388608 }
@@ -432,7 +434,7 @@ fn random_line(source: &mut Pcg32) -> Line {
     }
 }
 
-/// About one of eight of the ticks up to now.
+/// Returns about one in eight of the ticks up to now.
 fn random_ticks(source: &mut Pcg32, now: u32) -> u32
     requires { now ≤ 20 }
 {
@@ -452,7 +454,8 @@ fn random_shape(source: &mut Pcg32) -> Option<Shape> {
     }
 }
 
-/// A target on a random line, which is not seen at some ticks, and a random lattice. In about one of two situations domains are shapes.
+/// Returns a target on a random line, which is not seen at some ticks, and a random lattice. In about half of the
+/// situations domains are shapes.
 fn random_situation(alloc: Global, source: &mut Pcg32) -> Result<Situation, Memory> {
     let lattice = random_lattice(alloc, source);
     let line = random_line(source);
@@ -471,7 +474,7 @@ fn least_of_random(
     least(rt, alloc, random_situation(alloc, source)?)
 }
 
-/// The first plan of all, a later one, or none.
+/// Returns the kind of an answer: the first plan, a later one, or none.
 fn kind_of(answer: Option<u32>) -> usize
     ensures { result < 3 }
 {
@@ -493,7 +496,7 @@ fn the_pruned_search_agrees_with_the_flat_list(rt: HostRuntime) -> Result<(), Me
     Ok(())
 }
 
-/// A vessel that heads north at 18 knots, and has reported it at second 1000 from the origin.
+/// A vessel that heads north at 18 knots, by her report at second 1000 at the origin.
 static REPORTED: Accepted = Accepted {
     time: 1000,
     point: Point { x: 0, y: 0 },
@@ -516,12 +519,12 @@ static EAST: [Change; 1] = [Change {
     speed: 90,
 }];
 
-/// What is predicted of her this many seconds after her report.
+/// Returns her predicted state this many seconds after her report.
 fn predicted_after(seconds: u8) -> TickState {
     predicted(&REPORTED, &EAST, 1000, 1000 + u64::from(seconds))
 }
 
-/// Seconds, and what is predicted after them.
+/// Seconds, and the predicted state after them.
 static ON_THE_WAY: [(u8, TickState); 3] = [
     (
         9,

@@ -1,4 +1,4 @@
-//! What is reported for two vessels head on, and what a check returns for rows about them.
+//! The report for two vessels head-on, and the results of checks of rows about them.
 ghost use Rattle.std.specs.Prelude.{◌<◌, ◌^◌, All, IfOk, IfSome, length};
 ghost use Rattle.plan_situations.specs.Situations.{IsSituation};
 ghost use Rattle.refutations.specs.RightLists.{IsEntry};
@@ -14,7 +14,7 @@ use std::alloc::Global;
 use std::process::Abort;
 use std::test::Fail;
 
-/// The entries in rows, four at most. `None` if one of the rows gives no entry.
+/// Returns the entries in rows, at most four. `None` if one of the rows has no entry.
 fn entries_in(
     alloc: Global,
     situation: &Situation,
@@ -42,7 +42,7 @@ fn entries_in(
     Ok(Some(list))
 }
 
-/// What a check returns for rows. `None` if one of them gives no entry.
+/// Returns the result of a check of rows. `None` if one of them has no entry.
 fn judged(alloc: Global, situation: &Situation, text: &[u8]) -> Result<Option<Checked>, Memory>
     requires { IsSituation situation.now }
 {
@@ -52,7 +52,7 @@ fn judged(alloc: Global, situation: &Situation, text: &[u8]) -> Result<Option<Ch
     }
 }
 
-/// The text of the rows of the canonical list, or nothing if some plan does not fail.
+/// Returns the text of the rows of the canonical list, or nothing if some plan does not fail.
 fn told(alloc: Global, situation: &Situation) -> Result<Vec<u8>, Memory>
     requires { IsSituation situation.now }
 {
@@ -67,7 +67,7 @@ fn told(alloc: Global, situation: &Situation) -> Result<Vec<u8>, Memory>
     Ok(text)
 }
 
-/// Whether these rows are reported, and right if there are any.
+/// Checks that the report has these rows, and that they are right if there are any.
 fn is_told(rt: &impl Abort, alloc: Global, situation: &Situation, rows: &[u8]) -> Result<(), Memory>
     requires { IsSituation situation.now }
 {
@@ -78,7 +78,7 @@ fn is_told(rt: &impl Abort, alloc: Global, situation: &Situation, rows: &[u8]) -
     Ok(())
 }
 
-/// Whether a check returns these for rows.
+/// Compares the results of checks of rows.
 fn are_judged(
     rt: &impl Abort,
     alloc: Global,
@@ -103,7 +103,8 @@ static CANONICAL: [(&str, &[u8]); 3] = [
     ("[0, 600]", b""),
 ];
 
-/// Own ship is nearer than 300 metres in the steps from tick 18 to tick 21, and the rule named `domain` is broken from 19 on.
+/// Own ship is nearer than 300 metres in the steps from tick 18 to tick 21, and the rule named `domain` is broken from
+/// step 19.
 #[test]
 fn the_canonical_list_is_told_and_right(rt: HostRuntime) -> Result<(), Fail> {
     let alloc = rt.alloc();
@@ -120,7 +121,7 @@ const RIGHT: Option<Checked> = Some(Checked::Right);
 
 const BAD: Option<Checked> = Some(Checked::Bad(0));
 
-/// Rows, and what a check returns for them.
+/// Rows, and the result of their check.
 static ABOUT_ONE_PLAN: [(&[u8], Option<Checked>); 21] = [
     (b"", BAD),
     (b"why,0,477553000,domain,17,1,1", BAD),
@@ -157,7 +158,7 @@ fn rows_about_one_plan(rt: HostRuntime) -> Result<(), Fail> {
     Ok(are_judged(&rt, alloc, &situation, &ABOUT_ONE_PLAN)?)
 }
 
-/// The same of rows about two plans.
+/// The same for rows about two plans.
 static ABOUT_TWO_PLANS: [(&[u8], Option<Checked>); 3] = [
     (
         b"why,1,477553000,domain,18,1,1\nwhy,0,477553000,domain,18,1,1\n",

@@ -1,9 +1,11 @@
-//! Texts about the four plans of two vessels head on.
+//! Texts about the four plans of two vessels head-on.
 //!
-//! Along their courses the vessels are 370.4 metres apart at tick 18, and 185.2 nearer in each step until they are abreast at tick 20. Aside they are
-//! 18.5 metres apart, and up to 53 where own ship turns by one degree. So she enters the domain of 300 metres in step 18 and leaves it in step 21: where
-//! she keeps her course, at 38.3/100 and at 61.7/100. They are nearer than 200 metres at the ticks 19 to 21. Nobody turns by 20 degrees, so Rule 14 (a) is
-//! newly broken at step 0, where the meeting begins, as soon as its time is up at tick 7. `begun` is broken there too, but at now already.
+//! Along their courses the vessels are 370.4 metres apart at tick 18, and 185.2 nearer in each step until they are
+//! abreast at tick 20. Abeam they are 18.5 metres apart, and up to 53 if own ship turns by one degree. So she enters
+//! the domain of 300 metres in step 18 and leaves it in step 21: if she keeps her course, at 38.3/100 and at 61.7/100.
+//! They are nearer than 200 metres at the ticks 19 to 21. Neither turns by 20 degrees, so Rule 14 (a) is newly broken
+//! at step 0, at which the meeting begins, as soon as its time is up at tick 7. `begun` is broken there too, but
+//! already at now.
 ghost use Rattle.plan_situations.specs.Situations.{IsSituation};
 
 use crate::compared::is;
@@ -21,7 +23,7 @@ const TWO_LEGS: &str = "legs = 2
 leg_ticks = 18
 ";
 
-/// The result of a check of a text that may be checked.
+/// Returns the result of a check of a text.
 fn checked(alloc: Global, situation: &Situation, text: &str) -> Result<Option<Checked>, Memory>
     requires { IsSituation situation.now }
 {
@@ -32,7 +34,7 @@ fn checked(alloc: Global, situation: &Situation, text: &str) -> Result<Option<Ch
     Ok(Some(recheck(alloc, situation, bytes)?))
 }
 
-/// The row of the entry that the first row of a text gives. Nothing if it gives none.
+/// Returns the row of the entry in the first row of a text, or nothing if it has none.
 fn told_anew(alloc: Global, situation: &Situation, text: &str) -> Result<Vec<u8>, Memory> {
     let mut reader = ReaderBuilder::new()
         .has_headers(false)
@@ -48,7 +50,7 @@ fn told_anew(alloc: Global, situation: &Situation, text: &str) -> Result<Vec<u8>
     }
 }
 
-/// What a row of the table shows, a text, and what a check of it results in.
+/// The title of a row of the table, a text, and the result of its check.
 static CHECKED: [(&str, &str, Checked); 25] = [
     (
         "a right list",
@@ -187,7 +189,7 @@ fn what_a_check_comes_to(rt: HostRuntime) -> Result<(), Fail> {
     Ok(())
 }
 
-/// What a row of the table shows, a text, and the row of the entry that its first row gives.
+/// The title of a row of the table, a text, and the row of the entry in its first row.
 static TOLD: [(&str, &str, &str); 21] = [
     (
         "a domain",

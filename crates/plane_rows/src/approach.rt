@@ -1,4 +1,4 @@
-//! How near two vessels come to each other in a step.
+//! The closest approach of two vessels in a step.
 use crate::compared::is;
 use closest_approach::{Moment, enters_within, entry, least, separated};
 use fixed_geometry::Point;

@@ -36,7 +36,7 @@ const HALF_WAY: Moment = Moment { a: 1, b: 2 };
 const ROWS: [Row; 6] = [
     // along an edge
     (EVEN, (-1_000_000, -2_000_000), (0, 4_000_000), 0, None),
-    // at rest 250 m ahead of her, and then the same place aft of her
+    // at rest 250 m ahead of her, and then the same distance aft of her
     (LONG_AHEAD, (0, -2_500_000), (0, 0), 0, Some(HALF_WAY)),
     (LONG_AHEAD, (0, -2_500_000), (0, 0), 1800, None),
     // at rest 250 m to the east of a vessel that heads north, and of one that heads east
@@ -77,7 +77,8 @@ fn vertices_in_the_contrary_order_are_no_shape(rt: HostRuntime) {
     is(&rt, Shape::new(&[f, e, d, c, b, a]), None);
 }
 
-/// On which side of an edge a place is, so far forward of the target and to starboard of her in units of 10^-10 m: below 0 inside.
+/// Returns the side of an edge on which a place is, given its distances forward and to starboard of the target in units
+/// of 10^-10 m: negative inside.
 fn side_of(from: (i32, i32), to: (i32, i32), forward: i128, starboard: i128) -> i128 {
     let along = (
         i128::from(to.0).wrapping_sub(i128::from(from.0)),
@@ -89,7 +90,7 @@ fn side_of(from: (i32, i32), to: (i32, i32), forward: i128, starboard: i128) -> 
     turned.wrapping_sub(along.0.wrapping_mul(aside))
 }
 
-/// Whether own ship is inside at a displacement to the target, edge by edge.
+/// Returns whether own ship is inside at a displacement to the target, edge by edge.
 fn is_inside_there(vertices: &[(i32, i32); 6], direction: u16, to_target: Point) -> bool
     requires { direction < 3600 }
 {
@@ -112,7 +113,8 @@ fn is_inside_there(vertices: &[(i32, i32); 6], direction: u16, to_target: Point)
     true
 }
 
-/// At how many of 41 instants, evenly over a step, own ship is inside; she moves by 40 times the second displacement.
+/// Returns the number of instants, of 41 evenly spaced over a step, at which own ship is inside; she moves by 40 times
+/// the second displacement.
 fn instants_inside(vertices: &[(i32, i32); 6], direction: u16, p: (i64, i64), w: (i64, i64)) -> u32
     requires { direction < 3600 }
 {
@@ -130,8 +132,8 @@ fn instants_inside(vertices: &[(i32, i32); 6], direction: u16, p: (i64, i64), w:
     many
 }
 
-/// Own ship goes 600 m to the north, 160 m to the west of a target at rest: a domain that is long ahead is in her way if it points to
-/// the west, and not if it points to the north.
+/// Own ship goes 600 m to the north, 160 m to the west of a target at rest: a domain that is long ahead blocks her if
+/// it points to the west, but not if it points to the north.
 #[test]
 fn each_direction_turns_a_domain(rt: HostRuntime) -> Result<(), Fail> {
     let shape = Shape::new(&LONG_AHEAD).ok_or("a shape")?;

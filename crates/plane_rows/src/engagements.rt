@@ -1,4 +1,4 @@
-//! Engagements, and alterations since their beginning.
+//! Engagements, and alterations since their start.
 ghost use Rattle.std.specs.Prelude.{◌<◌, IfSome};
 ghost use Rattle.encounters.specs.Directions.{HasDirection, HaveDirections};
 
@@ -24,7 +24,7 @@ fn state(direction: Option<u16>, speed: Option<u16>) -> TickState
     }
 }
 
-/// Both head north, A faster by 100 metres in a tick.
+/// Returns a step in which both head north, A faster by 100 metres per tick.
 fn northward(p: Point) -> Option<PairStep>
     ensures { IfSome result HaveDirections }
 {

@@ -43,7 +43,7 @@ fn the_later_of_two_legs_holds_the_time_at_which_they_meet(rt: HostRuntime) -> R
     Ok(())
 }
 
-/// A leg of ten seconds on which a vessel lies still.
+/// Returns a leg of ten seconds on which a vessel is stopped.
 fn still(t1: u64) -> Leg
     requires { t1 < 2 ^ 40 }
     ensures leg { IsLeg result }

@@ -15,7 +15,7 @@ pub const DETECT: Detect = Detect {
     },
 };
 
-/// A turn of 20 degrees or a change of 5 knots is readily apparent, and one of 5 degrees or 1 knot is none.
+/// A turn of 20 degrees or a change of 5 knots is readily apparent; one of 5 degrees or 1 knot is no alteration.
 pub const ACT: Act = Act {
     steady_turn: 50,
     apparent_turn: 200,

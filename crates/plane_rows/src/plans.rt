@@ -13,7 +13,7 @@ const NORTHWARD: TickState = TickState {
     speed: Some(180),
 };
 
-/// The plan of a number makes these choices, and has this number again.
+/// Checks that the plan of a number makes these choices, and has this number.
 fn is_plan(rt: &impl Abort, lattice: &Lattice, number: u32, choices: &[u16]) -> Result<(), Fail> {
     if number >= lattice.plans() {
         return Err("no such plan".into());
@@ -24,7 +24,7 @@ fn is_plan(rt: &impl Abort, lattice: &Lattice, number: u32, choices: &[u16]) -> 
     Ok(())
 }
 
-/// The course and the speed that the plan of a number orders in a leg, for these at now.
+/// Returns the course and the speed that the plan of a number orders in a leg, given those of now.
 fn ordered(lattice: &Lattice, number: u32, leg: u8, now: (u16, u16)) -> Option<(u16, u16)> {
     let (course, speed) = now;
     if number >= lattice.plans() || leg >= lattice.legs() || course >= 3600 || speed > 1022 {
@@ -50,7 +50,7 @@ fn numbers_of_plans(rt: HostRuntime) -> Result<(), Fail> {
     let counts = (lattice.choices(), lattice.plans(), lattice.positions());
     is(&rt, counts, (6, 36, 70));
     is(&rt, (lattice.legs(), lattice.leg_ticks()), (2, 30));
-    // The plans that begin with the choice 1 have the numbers 6 to 11.
+    // The plans whose first choice is 1 have the numbers 6 to 11.
     is(&rt, lattice.block(&[1]), (6, 12));
     numbers_and_plans_are_inverse(&lattice);
     is(&rt, ordered(&lattice, 11, 0, (500, 180)), Some((500, 130)));
@@ -59,7 +59,8 @@ fn numbers_of_plans(rt: HostRuntime) -> Result<(), Fail> {
     is_plan(&rt, &lattice, 11, &[1, 5])
 }
 
-/// Own ship's state this many ticks of 10 seconds after now, if the lattice has such a plan and this many ticks.
+/// Returns own ship's state this many ticks of 10 seconds after now, if the lattice has such a plan and this many
+/// ticks.
 fn state_after(lattice: &Lattice, number: u32, ticks: u32) -> Option<TickState> {
     let positions = lattice.positions();
     if number >= lattice.plans() || ticks > positions || positions > 100 {
@@ -95,7 +96,7 @@ fn a_turn_at_once(rt: HostRuntime) {
 #[test]
 fn the_last_leg_is_held(rt: HostRuntime) {
     let lattice = Lattice::new(rt.alloc(), &[0, 900], &[0, 22], 2, 2, 1, 1800, 11);
-    // Two ticks to the north at 18 knots, then three to the east at 19.1, 20.2 and 20.2: 98,259 and 103,918 a second.
+    // Two ticks to the north at 18 knots, then three to the east at 19.1, 20.2 and 20.2: 98,259 and 103,918 per second.
     for (ticks, after) in [
         (1, state(0, 926_000, 0, 180)),
         (2, state(0, 1_852_000, 900, 191)),

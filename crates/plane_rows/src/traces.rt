@@ -1,4 +1,4 @@
-//! The answers of two vessels' steps to the atoms.
+//! The values of the atoms at the steps of two vessels.
 ghost use Rattle.std.specs.Prelude.{◌≡◌, ◌<◌, IfSome};
 ghost use Rattle.mtl_formulas.specs.FormulaMeasures.{IsValidAtom};
 ghost use Rattle.encounters.specs.Directions.{HasDirection, HaveDirections};
@@ -32,7 +32,7 @@ fn state(x: i64, y: i64, direction: Option<u16>) -> TickState
     }
 }
 
-/// The step of two vessels that meet head-on, at 18 knots each.
+/// Returns the step of two vessels that meet head-on, at 18 knots each.
 fn head_on(i: u8) -> Option<PairStep>
     ensures { IfSome result HaveDirections }
 {
@@ -51,7 +51,7 @@ fn head_on(i: u8) -> Option<PairStep>
     })
 }
 
-/// A step with these numbers, and the directions of A and B at its first tick.
+/// Returns a step with these numbers, and the directions of A and B at its first tick.
 fn pair_step(p: (i64, i64), w: (i64, i64), a: Option<u16>, b: Option<u16>) -> Option<PairStep>
     requires a { IfSome a (λ d. d < 3600) }
     requires b { IfSome b (λ d. d < 3600) }
@@ -66,7 +66,7 @@ fn pair_step(p: (i64, i64), w: (i64, i64), a: Option<u16>, b: Option<u16>) -> Op
     })
 }
 
-/// What a step with these numbers answers if the vessels are apart.
+/// Returns the value of an atom at a step with these numbers if the vessels are apart.
 fn answer(
     atom: Atom,
     p: (i64, i64),
@@ -87,7 +87,7 @@ fn told(holds: bool) -> Verdict {
     if holds { Verdict::Yes } else { Verdict::No }
 }
 
-/// What step `i` of the two that meet head-on answers.
+/// Compares the values of the atoms at step `i` of the two that meet head-on.
 fn is_as_worked_out(rt: &impl Abort, row: &AtomRow, i: usize) {
     let answers = [
         (Atom::Risk, i <= 22),
@@ -106,7 +106,7 @@ fn is_as_worked_out(rt: &impl Abort, row: &AtomRow, i: usize) {
     }
 }
 
-/// The thirty steps of two that meet head-on.
+/// Returns the thirty steps of two that meet head-on.
 fn head_on_trace(alloc: Global) -> Result<PairTrace, Fail> {
     let mut trace = PairTrace::new(alloc, PAIR, DETECT, ACT, 10);
     for i in 0..30 {
@@ -168,7 +168,7 @@ fn a_step_that_is_not_seen(rt: HostRuntime) -> Result<(), Fail> {
     Ok(())
 }
 
-/// B heads north, and A moves along a line on which she is seen from B at `-p`, and then at `-(p + w)`.
+/// B heads north, and A moves along a line, at `-p` and then at `-(p + w)` relative to B.
 #[test]
 fn ahead_of_the_bow(rt: HostRuntime) {
     let cases = [
@@ -232,7 +232,7 @@ fn alterations_since_the_beginning(rt: HostRuntime) -> Result<(), Fail> {
     Ok(())
 }
 
-/// A sailing vessel and a power-driven one, which gives way to her (Rule 18 (a)), when their engagement begins.
+/// A sailing vessel and a power-driven one, which gives way to her (Rule 18 (a)), at the start of their engagement.
 #[test]
 fn ranks_where_an_engagement_begins(rt: HostRuntime) -> Result<(), Fail> {
     let begins = EngagementState::Engaged {

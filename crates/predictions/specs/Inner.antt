@@ -9,12 +9,12 @@ abbrev pub exceeds : Option ℤ → ℤ → Bool
 exceeds None number = true
 exceeds (Some before) number = int_lt before number
 
--- what is left of a list ascends, after its latest element
+-- the rest of a list ascends, after its latest element
 abbrev pub ascend_behind : Option ℤ → List ℤ → Bool
 ascend_behind None rest = ascend rest
 ascend_behind (Some before) rest = ascend_from before rest
 
--- Changes stand there that have no fault at some tick.
+-- The value has changes without a fault at some tick.
 abbrev pub AreReadable : Option Data → Type 0
 AreReadable found = (tick : ℕ) × (changes_cause tick found ≡ None)
 

@@ -22,7 +22,7 @@ predicted_mmsi found = natural_of (integer_found (member_at (codes "mmsi") found
 abbrev pub ships : Bounds
 ships = record { low = pos 200000000; high = pos 799999999; step = 1; otherwise = None }
 
--- whether own ship has the MMSI, or a table before
+-- whether own ship or an earlier table has the MMSI
 abbrev pub is_ship_taken : ℕ → List Data → ℕ → Bool
 is_ship_taken own before mmsi = list_any (λ taken. taken == mmsi) (own ∷ map predicted_mmsi before)
 
@@ -52,7 +52,7 @@ abbrev pub after_of : Option ChangeNumbers → ℤ
 after_of None = pos 0
 after_of (Some numbers) = numbers.after
 
--- each number exceeds the one before
+-- each number is greater than the previous one
 
 abbrev pub ascend_from : ℤ → List ℤ → Bool
 ascend_from least [] = true
@@ -62,8 +62,9 @@ abbrev pub ascend : List ℤ → Bool
 ascend [] = true
 ascend (first ∷ rest) = ascend_from first rest
 
--- The cause of a list of changes: an element that is no list of integers, then a wrong length of the list or of an element, a
--- number out of range or an `after` that does not exceed the one before, then an `after` that is no multiple of the tick.
+-- The cause of a list of changes: an element that is not a list of integers, then a wrong length of the list or of an
+-- element, a number out of range or an `after` that is not greater than the previous one, then an `after` that is not a
+-- multiple of the tick.
 
 abbrev pub change_numbers_at : Data → Option ChangeNumbers
 change_numbers_at found = change_numbers (integers_in found)
@@ -90,7 +91,7 @@ abbrev pub changes_cause : ℕ → Option Data → Option Cause
 changes_cause tick None = Some cause.Missing
 changes_cause tick (Some found) = array_cause tick (as_array found)
 
--- the fault of a table by those before it: that of its ship, otherwise that of its changes
+-- the fault of a table, given the earlier ones: that of its ship, otherwise that of its changes
 unfoldable pub table_fault : ℕ → ℕ → List Data × Data → Option (Key × Cause)
 table_fault tick own (before, here) =
     first_of (

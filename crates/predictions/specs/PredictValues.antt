@@ -1,4 +1,4 @@
--- What is predicted of other vessels: their changes, and the ranges of these.
+-- The predictions of other vessels: their changes, and the ranges of these.
 use Rattle.std.specs.Prelude.{◌≡◌, ◌≢◌, ℕ, ◌≤◌, ◌<◌, ◌%◌, codes, List, length, map, All, AllPairs, Option, Some, None}
 use Rattle.toml.specs.Data.{Data}
 use Rattle.scenario_keys.specs.KeyValues.{array_in, list_in, member_at, natural_of}
@@ -21,11 +21,11 @@ predicted_changes found = map (λ inner. change_of (change_numbers_at inner)) (l
 abbrev pub predict_of : Data → Predict
 predict_of here = record { mmsi = predicted_mmsi here; changes = predicted_changes (member_at (codes "changes") here) }
 
--- one of each table, in their order
+-- one per table, in order
 abbrev pub predictions_of : List Data → List Predict
 predictions_of tables = map predict_of tables
 
--- The times are multiples of the tick, and each change comes after the one before.
+-- The times are multiples of the tick, and each change is later than the previous one.
 pub record AreTimed (tick : ℕ) (changes : List Change) : Type 0 where
   pub some : 1 ≤ length changes
   pub few : length changes ≤ 16

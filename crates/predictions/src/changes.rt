@@ -13,18 +13,18 @@ use std::marker::Model;
 use toml::Value;
 use toml::value::Array;
 
-/// A change that is predicted of a vessel.
+/// A predicted change of a vessel.
 #[derive(Clone, Copy, Debug, PartialEq, Eq)]
 pub struct Change {
-    /// How long after now, in seconds, 0 to 7200, a multiple of the tick.
+    /// The seconds after now, 0 to 7200, a multiple of the tick.
     pub after: u32,
-    /// The course from then on, 0 to 3599 tenths of a degree.
+    /// The course after that, 0 to 3599 tenths of a degree.
     pub course: u16,
-    /// The speed from then on, 0 to 1022 tenths of a knot.
+    /// The speed after that, 0 to 1022 tenths of a knot.
     pub speed: u16,
 }
 
-/// The changes of a vessel, 1 to 16, in the order of their times. They are seen as a list.
+/// The changes of a vessel, 1 to 16, in the order of their times. Their model is a list.
 #[derive(Debug, Drop)]
 pub struct Changes {
     list: Vec<Change>,
@@ -42,7 +42,7 @@ impl Model for Changes {
 impl Changes {
     ghost use Rattle.std.specs.Prelude.{◌≡◌};
 
-    /// The changes of a list. This takes no memory.
+    /// Returns the changes of a list. This takes no memory.
     pub fn new(list: Vec<Change>) -> Changes
         ensures { result ≡ list.items }
     {
@@ -56,7 +56,7 @@ impl Changes {
     }
 }
 
-/// The three numbers of a change, whatever they are.
+/// The three numbers of a change, with any values.
 #[derive(Clone, Copy, PartialEq, Eq)]
 pub struct ChangeNumbers {
     pub after: i64,
@@ -70,7 +70,7 @@ fn are_integer_lists(list: &Array) -> bool
     list.iter().all(|found| is_integer_list(found))
 }
 
-/// The numbers of a list of three.
+/// Returns the numbers of a list of three.
 #[tactic(auto, using(crate::proofs::Lists::three_numbers, crate::proofs::Lists::other_numbers))]
 fn three_numbers(list: &Array) -> Option<ChangeNumbers>
     ensures { result ≡ change_numbers (map (λ v. integer_of (as_integer (view v))) list.now.items) }
@@ -85,7 +85,7 @@ fn three_numbers(list: &Array) -> Option<ChangeNumbers>
     })
 }
 
-/// The three numbers of a change, if there are three.
+/// Returns the three numbers of a change, if there are three.
 #[tactic(auto, using(crate::proofs::Lists::mapped_seen))]
 pub(crate) fn numbers_of(found: &Value) -> Option<ChangeNumbers>
     ensures { result ≡ change_numbers_at (view found.now) }
@@ -130,7 +130,7 @@ fn all_changes(list: &Array) -> bool
     list.iter().all(|found| is_change(found))
 }
 
-/// Whether a number exceeds the one before, if there is one.
+/// Returns whether a number is greater than the previous one, if there is one.
 fn exceeds(before: Option<i64>, number: i64) -> bool
     ensures { result ≡ exceeds before number }
 {
@@ -140,7 +140,7 @@ fn exceeds(before: Option<i64>, number: i64) -> bool
     }
 }
 
-/// Whether each change comes after the one before.
+/// Returns whether each change comes after the one before.
 fn ascend(list: &Array) -> bool
     ensures { result ≡ ascend (map (λ v. after_of (change_numbers_at (view v))) list.now.items) }
 {
@@ -195,7 +195,7 @@ fn list_cause(tick: u32, list: &Array) -> Option<Cause>
     None
 }
 
-/// The cause for which the changes of a vessel are refused, if there is one.
+/// Returns why the changes of a vessel are refused, if they are.
 pub(crate) fn changes_cause(tick: u32, found: Option<&Value>) -> Option<Cause>
     requires { 1 ≤ tick }
     ensures { result ≡ changes_cause tick (option_map (λ v. view v.now) found.entry) }

@@ -1,4 +1,4 @@
-//! The first fault of what is predicted.
+//! The first fault of the predictions.
 ghost use Rattle.std.specs.Prelude.{◌≡◌, ◌≤◌, ◌==◌, option_map, codes, map};
 ghost use Rattle.std.specs.List.{list_any};
 ghost use Rattle.toml.specs.View.{view};
@@ -18,7 +18,7 @@ const SHIPS: Bounds = Bounds {
     otherwise: None,
 };
 
-/// The integer that stands there, 0 if none does or it is below 0.
+/// Returns the integer that was found, or 0 if there is none or it is negative.
 fn natural_in(found: Option<&Value>) -> u64
     ensures { result ≡ natural_of (integer_found (option_map (λ v. view v.now) found.entry)) }
 {
@@ -31,7 +31,7 @@ fn natural_in(found: Option<&Value>) -> u64
     }
 }
 
-/// The MMSI of a table, 0 if it has none.
+/// Returns the MMSI of a table, 0 if it has none.
 pub(crate) fn mmsi_of(table: &Value) -> u64
     ensures { result ≡ predicted_mmsi (view table.now) }
 {
@@ -44,7 +44,7 @@ fn is_before(tables: &[Value], mmsi: u64) -> bool
     tables.iter().any(|table| mmsi_of(table) == mmsi)
 }
 
-/// Whether own ship has the MMSI, or a table before.
+/// Returns whether own ship or an earlier table has the MMSI.
 #[tactic(auto, using(crate::proofs::Lists::any_seen))]
 fn is_taken(own: u64, before: &[Value], mmsi: u64) -> bool
     ensures { result ≡ is_ship_taken own (map view before.now) mmsi }
@@ -65,7 +65,7 @@ fn ship_cause(own: u64, before: &[Value], found: Option<&Value>) -> Option<Cause
     None
 }
 
-/// The fault of a table after others: that of its ship, otherwise that of its changes.
+/// Returns the fault of a table after others: the fault of its ship, otherwise that of its changes.
 #[tactic(auto, unfolding(crate::specs::PredictFaults::table_fault), using(crate::proofs::Lists::many_seen))]
 fn table_fault(tick: u32, own: u64, before: &[Value], table: &Value) -> Option<(Key, Cause)>
     requires { 1 ≤ tick }
@@ -78,9 +78,9 @@ fn table_fault(tick: u32, own: u64, before: &[Value], table: &Value) -> Option<(
     fault_at(47, item, changes_cause(tick, member(table, "changes")))
 }
 
-/// The first fault of the tables of `predict`: table by table that of its ship and then that of its changes. A ship is neither
-/// own ship, whose MMSI is given, nor that of a table before. Changes are at most 16 lists of three integers: the seconds after
-/// now, multiples of the tick that each exceed those before, the course and the speed.
+/// Returns the first fault of the tables of `predict`: in each table first that of its ship and then that of its
+/// changes. A ship must differ from own ship, whose MMSI is given, and from the ships of earlier tables. Changes are at
+/// most 16 lists of three integers: the seconds after now, ascending multiples of the tick, the course and the speed.
 pub fn predict_fault(tick: u32, own: u64, tables: &[Value]) -> Option<(Key, Cause)>
     requires { 1 ≤ tick }
     ensures { result ≡ predict_fault tick own (map view tables.now) }

@@ -1,8 +1,8 @@
-//! What is predicted of other vessels.
+//! The predictions of other vessels.
 use crate::changes::Changes;
 use std::marker::Model;
 
-/// The changes that are predicted of a vessel.
+/// The predicted changes of a vessel.
 #[derive(Drop)]
 pub struct Predict {
     /// Her MMSI.
@@ -10,7 +10,7 @@ pub struct Predict {
     pub changes: Changes,
 }
 
-/// What is predicted of other vessels, at most 64 of them. It is seen as a list.
+/// The predictions of at most 64 other vessels. Their model is a list.
 #[derive(Drop)]
 pub struct Predictions {
     list: Vec<Predict>,
@@ -28,7 +28,7 @@ impl Model for Predictions {
 impl Predictions {
     ghost use Rattle.std.specs.Prelude.{◌≡◌};
 
-    /// The predictions of a list. This takes no memory.
+    /// Returns the predictions of a list. This takes no memory.
     pub fn new(list: Vec<Predict>) -> Predictions
         ensures { result ≡ list.items }
     {

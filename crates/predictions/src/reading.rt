@@ -1,4 +1,4 @@
-//! Reads what is predicted from tables without a fault.
+//! Reads predictions from tables without a fault.
 ghost use Rattle.std.specs.Prelude.{◌≡◌, ◌≤◌, ℕ, option_map, codes, length, map, All, IfOk, None, true};
 ghost use Rattle.std.specs.List.{list_all};
 ghost use Rattle.toml.specs.View.{array_view, view};
@@ -56,7 +56,7 @@ fn array_in(found: Option<&Value>) -> Option<&Array>
     }
 }
 
-/// The changes of a table.
+/// Returns the changes of a table.
 fn changes_of(alloc: Global, found: Option<&Value>) -> Result<Changes, AllocError>
     requires { AreReadable (option_map (λ v. view v.now) found) }
     ensures { IfOk result
@@ -90,8 +90,8 @@ fn predicts_in(alloc: Global, tables: &[Value]) -> Result<Vec<Predict>, AllocErr
     Ok(list)
 }
 
-/// What at most 64 tables predict that have no fault at some tick, if own ship has some MMSI. For this tick and MMSI the
-/// values are in their ranges.
+/// Returns the predictions of at most 64 tables that have no fault at some tick and some MMSI of own ship. For this
+/// tick and MMSI the values are in range.
 pub fn predictions_of(alloc: Global, tables: &[Value]) -> Result<Predictions, AllocError>
     requires few { length tables.now ≤ 64 }
     requires faultless { HaveNoFault (map view tables.now) }

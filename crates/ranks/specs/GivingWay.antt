@@ -3,7 +3,7 @@ use Rattle.std.specs.Prelude.{List, [], ◌∷◌, Contains}
 use Rattle.ranks.specs.declared.rank.Rank.{Rank}
 use Rattle.ranks.specs.declared.rank.Rank.TheVariants.{Power, Sailing, Fishing, Restricted, NotUnderCommand}
 
--- to whom a vessel of this rank gives way
+-- the ranks to which a vessel of this rank gives way
 abbrev pub gives_way_to : Rank → List Rank
 gives_way_to Power = Sailing ∷ Fishing ∷ Restricted ∷ NotUnderCommand ∷ []
 gives_way_to Sailing = Fishing ∷ Restricted ∷ NotUnderCommand ∷ []

@@ -12,7 +12,7 @@ pub record Note : Type 0 where
   pub time : ℕ
   pub kind : ℕ
 
--- ---- what a status and a ship type mean (ITU-R M.1371-5, annex 8, message 1 and table 53)
+-- ---- the meaning of a status and of a ship type (ITU-R M.1371-5, annex 8, message 1 and table 53)
 
 abbrev pub ranks_by_status : List (ℕ × Rank)
 ranks_by_status = (2, NotUnderCommand) ∷ (3, Restricted) ∷ (7, Fishing) ∷ (8, Sailing) ∷ []
@@ -20,7 +20,7 @@ ranks_by_status = (2, NotUnderCommand) ∷ (3, Restricted) ∷ (7, Fishing) ∷ 
 abbrev pub ranks_by_kind : List (ℕ × Rank)
 ranks_by_kind = (30, Fishing) ∷ (36, Sailing) ∷ []
 
--- All that is not in the table is `Power`.
+-- Every other type is `Power`.
 abbrev pub rank_in : List (ℕ × Rank) → ℕ → Rank
 rank_in table value = unwrap_or (lookup (λ v. v == value) table) Power
 
@@ -28,9 +28,9 @@ rank_in table value = unwrap_or (lookup (λ v. v == value) table) Power
 abbrev pub rank_by_status : ℕ → Option Rank
 rank_by_status status = if status == 15 then None else Some (rank_in ranks_by_status status)
 
--- ---- what counts at a time
+-- ---- the data that counts at a time
 
--- the last of what was noted of a vessel, in the order of lines, whose time is at most this
+-- the last note about a vessel, in the order of lines, whose time is at most this
 abbrev pub note_at : List Note → ℕ → ℕ → Option Note
 note_at noted mmsi time = last_or None (filter (λ note. note.mmsi == mmsi && nat_le note.time time) noted)
 

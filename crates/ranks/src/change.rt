@@ -1,7 +1,8 @@
 //! A change of a vessel's rank by ship type.
 use crate::rank::Rank;
 
-/// From this time on the vessel's ship type gives her this rank, up to her next change. Before her first she is `Power`.
+/// From this time to her next change, the vessel's ship type gives her this rank. Before the first change she is
+/// `Power`.
 #[derive(Clone, Copy, Debug, PartialEq, Eq)]
 pub struct Change {
     /// In seconds since the Unix epoch.

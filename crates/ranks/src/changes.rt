@@ -12,7 +12,7 @@ use out_of_memory::Memory;
 use std::alloc::Global;
 use std::marker::Model;
 
-/// How many of the changes have come by the time: a search by halves.
+/// Returns the number of changes up to the time, by bisection.
 fn changes_by(changes: &[Change], time: u64) -> usize
     requires { AreChanges changes.now }
     ensures bound { result ≤ length changes.now }
@@ -22,7 +22,7 @@ fn changes_by(changes: &[Change], time: u64) -> usize
     changes.partition_point(|change| change.time <= time)
 }
 
-/// How many of the changes came before the time.
+/// Returns the number of changes before the time.
 fn changes_before(changes: &[Change], time: u64) -> usize
     requires { AreChanges changes.now }
     ensures bound { result ≤ length changes.now }
@@ -32,7 +32,7 @@ fn changes_before(changes: &[Change], time: u64) -> usize
     changes.partition_point(|change| change.time < time)
 }
 
-/// The rank from the last of the changes on.
+/// Returns the rank after the last change.
 fn last_rank(changes: &[Change]) -> Rank
     ensures { result ≡ rank_since (last_or None changes.now) }
 {
@@ -61,7 +61,7 @@ impl Model for Changes {
 }
 
 impl Changes {
-    /// No changes yet. This takes no memory.
+    /// Returns no changes. This takes no memory.
     pub(crate) fn new(alloc: Global) -> Changes
         ensures { result ≡ [] }
     {
@@ -70,7 +70,7 @@ impl Changes {
         }
     }
 
-    /// All of them.
+    /// Returns all changes.
     pub(crate) fn all(&self) -> &[Change]
         ensures all { result.now ≡ self.now }
         ensures are { AreChanges result.now }
@@ -78,7 +78,7 @@ impl Changes {
         &self.changes
     }
 
-    /// The rank by ship type at a time.
+    /// Returns the rank by ship type at a time.
     pub(crate) fn at(&self, time: u64) -> Rank
         ensures { result ≡ rank_after self.now time }
     {
@@ -86,7 +86,7 @@ impl Changes {
         last_rank(&self.changes[..come])
     }
 
-    /// Records that from this time on the rank is this one, whatever was noted for this time and later ones. If it was this one
+    /// Sets the rank from this time, and discards what was noted for this time and later. If the rank was the same
     /// before, this takes no memory. If memory runs out, nothing changes.
     pub(crate) fn note(&mut self, time: u64, rank: Rank) -> Result<(), Memory>
         ensures ok { OnOk result

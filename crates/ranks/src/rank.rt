@@ -2,10 +2,10 @@
 ghost use Rattle.std.specs.Prelude.{IsTrue, ◌↔◌};
 ghost use Rattle.ranks.specs.GivingWay.{GivesWay};
 
-/// What a vessel is by Rule 18.
+/// The kind of a vessel by Rule 18.
 #[derive(Clone, Copy, Debug, PartialEq, Eq)]
 pub enum Rank {
-    /// Power-driven, and any vessel that reports none of the others.
+    /// Power-driven, and any vessel that reports no other rank.
     Power,
     Sailing,
     /// Engaged in fishing.
@@ -15,7 +15,7 @@ pub enum Rank {
     NotUnderCommand,
 }
 
-/// Whether a vessel of the first rank gives way to one of the second. This takes no memory.
+/// Returns whether a vessel of the first rank gives way to one of the second. This takes no memory.
 pub fn gives(a: Rank, b: Rank) -> bool
     ensures { IsTrue result ↔ GivesWay a b }
 {

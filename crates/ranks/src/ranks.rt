@@ -15,12 +15,12 @@ use std::collections::BTreeMap;
 use std::marker::Model;
 use tracks::Accepted;
 
-/// The ship types that vessels reported, as far as they count for ranks. It is seen as the changes of each vessel's rank
-/// by ship type, which stand for the list of what was noted so far.
+/// The ship types that vessels reported, as far as they count for ranks. Its model is the changes of each vessel's rank
+/// by ship type, which stand for the list of the types noted so far.
 #[derive(Drop)]
 pub struct Ranks {
     alloc: Global,
-    /// The vessels whose type once made them other than `Power`.
+    /// The vessels that once had another rank than `Power` by type.
     vessels: BTreeMap<u32, Changes>,
 }
 
@@ -34,7 +34,7 @@ impl Model for Ranks {
 }
 
 impl Ranks {
-    /// Nothing was noted yet. This takes no memory.
+    /// Returns ranks without any types. This takes no memory.
     pub fn new(alloc: Global) -> Ranks
         ensures { StandsFor result [] }
     {
@@ -66,7 +66,7 @@ impl Ranks {
         Ok(())
     }
 
-    /// What is kept of a vessel, in the order of times. Each is a change of her rank by ship type.
+    /// Returns the stored changes of a vessel's rank by ship type, in the order of times.
     pub fn changes(&self, mmsi: u32) -> &[Change]
         ensures kept { result.now ≡ changes_of self.now mmsi }
         ensures order { AllPairs (λ earlier later. earlier.time < later.time) result.now }
@@ -79,7 +79,7 @@ impl Ranks {
         }
     }
 
-    /// The rank that her ship type gives a vessel at a time.
+    /// Returns the rank that her ship type gives a vessel at a time.
     fn by_type(&self, mmsi: u32, time: u64) -> Rank
         ensures { (noted : List Note) → StandsFor self.now noted
             → result ≡ rank_by_type noted mmsi time }
@@ -90,9 +90,8 @@ impl Ranks {
         }
     }
 
-    /// Returns the rank of a vessel at a time, by her accepted reports in the order of their times; at least one must have come by
-    /// then. This
-    /// takes no memory.
+    /// Returns the rank of a vessel at a time, by her accepted reports in the order of their times; at least one must
+    /// be at or before this time. This takes no memory.
     pub fn rank(&self, mmsi: u32, points: &[Accepted], time: u64) -> Rank
         requires order { IsNonDecreasingBy (λ point. point.time) points.now }
         requires begun { IsSome (report_at points.now time) }

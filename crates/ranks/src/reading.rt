@@ -1,4 +1,4 @@
-//! What a report and a ship type say about a vessel's rank.
+//! A vessel's rank by a report and by a ship type.
 ghost use Rattle.std.specs.Prelude.{◌≡◌, ◌≤◌, ◌<◌, length, IsSome, Some};
 ghost use Rattle.std.specs.List.Sorted.{IsNonDecreasingBy, IsPartitionPoint};
 ghost use Rattle.ranks.specs.VesselRanks.{rank_by_status, rank_in, ranks_by_kind, report_at};
@@ -7,7 +7,7 @@ ghost use Rattle.tracks.specs.declared.accepted.Accepted.{Accepted};
 use crate::rank::Rank;
 use tracks::Accepted;
 
-/// The rank that a ship type gives.
+/// Returns the rank that a ship type gives.
 pub(crate) fn rank_of_kind(kind: u8) -> Rank
     ensures { result ≡ rank_in ranks_by_kind kind }
 {
@@ -18,7 +18,7 @@ pub(crate) fn rank_of_kind(kind: u8) -> Rank
     }
 }
 
-/// The rank that a status gives, or `None` if it leaves this to the ship type.
+/// Returns the rank that a status gives, or `None` if it leaves this to the ship type.
 pub(crate) fn rank_of_status(status: u8) -> Option<Rank>
     ensures { result ≡ rank_by_status status }
 {
@@ -32,7 +32,7 @@ pub(crate) fn rank_of_status(status: u8) -> Option<Rank>
     }
 }
 
-/// How many of the reports have come by the time: a search by halves.
+/// Returns the number of reports up to the time, by bisection.
 fn points_by(points: &[Accepted], time: u64) -> usize
     requires { IsNonDecreasingBy (λ point. point.time) points.now }
     ensures bound { result ≤ length points.now }
@@ -42,7 +42,7 @@ fn points_by(points: &[Accepted], time: u64) -> usize
     points.partition_point(|point| point.time <= time)
 }
 
-/// The last of the reports that have come by the time.
+/// Returns the last report up to the time.
 pub(crate) fn last_report(points: &[Accepted], time: u64) -> &Accepted
     requires order { IsNonDecreasingBy (λ point. point.time) points.now }
     requires begun { IsSome (report_at points.now time) }

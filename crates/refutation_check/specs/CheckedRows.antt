@@ -1,4 +1,4 @@
--- Whether the rows of a text say rightly why there is no plan, and which of them is the first that does not.
+-- Whether the rows of a text give the right reasons why there is no plan, and the first row that does not.
 use Rattle.std.specs.Prelude.{ℕ, ◌≡◌, ◌≢◌, ◌+◌, ◌≤◌, ◌<◌, bytes_eq, codes, Bool, false, filter, List, [], ◌∷◌, length, take}
 use Rattle.std.specs.List.{AllZip}
 use Rattle.report_csv.specs.CsvRows.{Fields}
@@ -16,12 +16,12 @@ abbrev pub is_why : Fields → Bool
 is_why [] = false
 is_why (kind ∷ rest) = bytes_eq kind (codes "why")
 
--- the rows `why` of a text, in order: it is read as CSV with no headers, after a byte order mark if it begins with one
+-- the rows `why` of a text, in order: the text is CSV without a header, after an optional byte order mark
 abbrev pub why_rows : List ℕ → List Fields
 why_rows text = filter is_why (records default_config (strip_bom text))
 
 module _ (situation : Situation) where
-  -- Rows give entries: the same number, and each is the entry whose row has these fields.
+  -- Rows give entries: the same number of them, and each is the entry whose row has these fields.
   abbrev pub Tell : List Fields → List WhyEntry → Type 0
   Tell rows entries = AllZip (IsEntryOf situation) rows entries
 
@@ -31,7 +31,8 @@ module _ (situation : Situation) where
     pub told : Tell rows entries
     pub right : IsRight situation entries
 
-  -- The row with an index is sound: it and the rows before it give entries, its own is good, and its block begins where those before it end.
+  -- The row at an index is sound: it and the rows before it give entries, its own is good, and its block begins at the
+  -- end of those before it.
   pub record IsSoundRow (rows : List Fields) (k : ℕ) : Type 0 where
     pub entries : List WhyEntry
     pub told : Tell (take (k + 1) rows) entries
@@ -45,7 +46,7 @@ module _ (situation : Situation) where
     pub here : k < length rows → ¬ IsSoundRow rows k
     pub short : k ≡ length rows → (entries : List WhyEntry) → Tell rows entries → ends_from situation 0 entries ≢ plans_of situation.lattice
 
-  -- what a check returns for rows
+  -- the result of a check of rows
   abbrev pub TellsOf : List Fields → Checked → Type 0
   TellsOf rows Right = AreRight rows
   TellsOf rows (Bad k) = IsFirstBadRow rows k

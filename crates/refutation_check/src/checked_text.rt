@@ -11,13 +11,12 @@ use plan_situations::Situation;
 use refutations::{Checked, check};
 use std::alloc::Global;
 
-/// The greatest length of a text that is checked, in bytes.
+/// The greatest length of a text for a check, in bytes.
 pub const GREATEST_TEXT: u64 = 1 << 24;
 
-/// Checks the rows `why` of a text of at most 2^24 bytes, without a search. If they are right, every plan fails. Otherwise returns the least index of
-/// a
-/// row that gives no entry, or whose entry is not good, or whose block does not begin where the blocks before it end; if there is no such row, the
-/// number of rows.
+/// Checks the rows `why` of a text of at most 2^24 bytes, without a search. If they are right, every plan fails.
+/// Otherwise returns the least index of a row that has no entry, has an entry that is not good, or has a block that
+/// does not begin at the end of the blocks before it; if there is no such row, the number of rows.
 pub fn recheck(alloc: Global, situation: &Situation, text: &[u8]) -> Result<Checked, Memory>
     requires situation { IsSituation situation.now }
     requires few { length text.now ≤ GREATEST_TEXT }

@@ -12,14 +12,14 @@ use plan_situations::Situation;
 use refutations::{WhyEntry, read_entry};
 use std::alloc::Global;
 
-/// The entries of the rows `why` of a text: of all, or up to the first row that gives none.
+/// The entries of the rows `why` of a text: of all rows, or up to the first row without an entry.
 #[derive(Drop)]
 pub(crate) struct EntriesRead {
     pub(crate) entries: Vec<WhyEntry>,
     pub(crate) all: bool,
 }
 
-/// Adds the entry of a row `why`, and skips a row of another kind. `false` if a row `why` gives no entry.
+/// Adds the entry of a row `why`, and skips a row of another kind. Returns `false` if a row `why` has no entry.
 fn take_row(
     alloc: Global,
     situation: &Situation,
@@ -40,7 +40,8 @@ fn take_row(
     Ok(true)
 }
 
-/// Takes the rows that a reader gives, up to the first row `why` that gives no entry. A text has no more rows than bytes, and one more turn finds its end.
+/// Takes the rows of a reader, up to the first row `why` without an entry. A text has at most as many rows as bytes,
+/// and one more iteration finds its end.
 fn take_rows(
     alloc: Global,
     situation: &Situation,
@@ -71,7 +72,7 @@ fn take_rows(
     Ok(())
 }
 
-/// Reads them.
+/// Reads the entries of a text.
 pub(crate) fn read_entries(
     alloc: Global,
     situation: &Situation,

@@ -1,10 +1,11 @@
 //! Checks without a search whether the rows of a text give the right reasons why there is no plan.
 //!
-//! A text is read as CSV with no headers. Its rows `why` are the entries of a refutation, in order, and rows of other kinds are skipped, so the whole
-//! report of a plan may be given. [`recheck`] returns whether they are right, and otherwise which of them is the first that is not.
+//! The text is CSV without a header. Its rows `why` are the entries of a refutation, in order. The check skips rows of
+//! other kinds, so the text may be the whole report of a plan. [`recheck`] returns whether the entries are right, and
+//! otherwise the index of the first wrong one.
 //!
-//! If the second row of a right list of three is left out, entry 1 is the first that is wrong: its plans do not follow those before it.
-//! Whether there is another plan is out of scope: rows are judged as they are given.
+//! If a right list of three lacks its second row, entry 1 is the first wrong one: its plans do not follow those before
+//! it. Whether there is another plan is out of scope: the check judges only the rows.
 #![tactic(auto)]
 
 mod checked_text;

@@ -27,7 +27,7 @@ pub(crate) fn read_row(reader: &mut Reader<&[u8]>, row: &mut ByteRecord) -> Resu
     }
 }
 
-/// Whether a row's first field is `why`.
+/// Returns whether a row's first field is `why`.
 pub(crate) fn is_why(row: &ByteRecord) -> bool
     ensures { result ≡ is_why (fields_of row.now) }
 {

@@ -1,5 +1,5 @@
--- The canonical list of entries: again and again it takes the least plan that no entry covers, of that plan the shortest prefix for which some entry is
--- good, and of these entries the first.
+-- The canonical list of entries. Repeat: take the lowest-numbered plan that no entry covers yet, its shortest prefix
+-- for which some entry is good, and the first of these entries.
 use Rattle.std.specs.Prelude.{ℕ, ◌≡◌, ◌≤◌, ◌<◌, ◌⊎◌, ⊤, List, length, take, slice_get, IsSomeAnd}
 use Rattle.lattice.specs.Grids.{plans_of}
 use Rattle.meetings.specs.Traces.{step_at}
@@ -15,18 +15,19 @@ use Rattle.refutations.specs.declared.entry.Reason.{Reason}
 use Rattle.refutations.specs.declared.entry.Reason.TheVariants.{Domain, Rule}
 use Rattle.refutations.specs.declared.entry.WhyEntry.{WhyEntry}
 
--- The order of two reasons towards a target: a domain before a rule, then the earlier step, then the rule with the lesser index.
+-- The order of two reasons towards a target: a domain before a rule, then the earlier step, then the rule with the
+-- smaller index.
 abbrev pub IsEarlier : Reason → Reason → Type 0
 IsEarlier (Domain step _) (Domain other _) = step < other
 IsEarlier (Domain step _) (Rule _ other) = ⊤
 IsEarlier (Rule _ step) (Domain other _) = ⊥
 IsEarlier (Rule index step) (Rule other_index other) = (step < other) ⊎ ((step ≡ other) × (index < other_index))
 
--- The order of two entries of a prefix: first the one of the target with the lesser MMSI, then by their reasons.
+-- The order of two entries of a prefix: first the entry of the target with the smaller MMSI, then by their reasons.
 abbrev pub Precedes : WhyEntry → WhyEntry → Type 0
 Precedes entry other = (entry.target < other.target) ⊎ ((entry.target ≡ other.target) × IsEarlier entry.reason other.reason)
 
--- The moment of a domain is the one of its entry in the step.
+-- The moment of a domain is that of the entry into it in the step.
 abbrev pub TellsMoment : Situation → List ℕ → Target → Reason → Type 0
 TellsMoment situation plan target (Domain step moment) =
     IsSomeAnd (step_at (own_at situation plan) (target_at situation target) step) (λ pair. moment ≡ moment_of situation target pair)

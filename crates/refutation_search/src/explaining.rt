@@ -20,14 +20,14 @@ use refutations::laws::a_right_list_refutes;
 use refutations::{Prefix, Reason, WhyEntry, horizon};
 use std::alloc::Global;
 
-/// The situation that a walk is over, and what stays the same on it.
+/// The situation of a walk, and the data that stays the same during it.
 #[derive(Clone, Copy)]
 struct Walked<'a> {
     situation: &'a Situation,
     basis: &'a SearchBasis,
 }
 
-/// The first reason towards a target under a plan that fails towards her, up to a horizon.
+/// Returns the first reason towards a target under a plan that fails towards her, up to a horizon.
 fn first_towards(
     alloc: Global,
     situation: &Situation,
@@ -59,7 +59,7 @@ fn first_towards(
     })
 }
 
-/// The number of the first plan that extends the prefix of this many legs that has a number.
+/// Returns the number of the first plan that extends the prefix with this number of legs and this number.
 fn first_number(situation: &Situation, legs: u8, number: u32) -> u32
     requires legs { legs ≤ situation.now.lattice.legs }
     requires number { number < choices_of situation.now.lattice ^ legs }
@@ -71,8 +71,8 @@ fn first_number(situation: &Situation, legs: u8, number: u32) -> u32
     number * situation.lattice.choices().pow(u32::from(left))
 }
 
-/// The first good entry of the prefix of this many legs that has a number: the one towards the
-/// first target towards which it fails, which has this index.
+/// Returns the first good entry of the prefix with this number of legs and this number: towards the first target
+/// towards which it fails, which has this index.
 fn first_entry(
     alloc: Global,
     situation: &Situation,
@@ -106,7 +106,7 @@ fn first_entry(
     })
 }
 
-/// Adds the first good entry of the prefix of this many legs that has a number. No shorter prefix has one.
+/// Adds the first good entry of the prefix with this number of legs and this number. No shorter prefix has one.
 fn list_first(
     alloc: Global,
     situation: &Situation,
@@ -135,8 +135,9 @@ fn list_first(
     Ok(())
 }
 
-/// Lists the canonical entries of the plans that extend a prefix, until one plan does not fail. No shorter prefix has a good entry, and this has none.
-/// `from` is kept after its legs, and `below` has the places for those that are left.
+/// Lists the canonical entries of the plans that extend a prefix, until one plan does not fail. Neither this prefix nor
+/// a shorter one has a good entry. `from` is the level after its legs, and `below` has the levels for the remaining
+/// legs.
 fn explore(
     alloc: Global,
     walked: &Walked<'_>,
@@ -186,7 +187,7 @@ fn explore(
     Ok(true)
 }
 
-/// Why there is no plan: the canonical list, which is right. `None` exactly if some plan does not fail.
+/// Returns why there is no plan: the canonical list, which is right. `None` exactly if some plan does not fail.
 pub fn explain(alloc: Global, situation: &Situation) -> Result<Option<Vec<WhyEntry>>, Memory>
     requires { IsSituation situation.now }
     ensures none { IfOk result (λ list. IsNone list ↔ SomePlanPasses situation.now) }

@@ -17,7 +17,7 @@ pub record NamedTree : Type 0 where
 abbrev pub rule_named : List ℕ → FormulaTree → NamedTree
 rule_named name tree = record { name = name; tree = tree }
 
--- the eleven rules that stand without ranks and with them, at a tick of this many seconds
+-- the eleven rules that exist both without and with ranks, at a tick of this many seconds
 abbrev pub eleven_rules : Ranking → ℕ → RuleNumbers → List NamedTree
 eleven_rules ranks tick numbers =
     rule_named (codes "r8b") (tree.r8b tick numbers)

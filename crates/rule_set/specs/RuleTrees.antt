@@ -1,9 +1,9 @@
 -- The formulas of the rules, as trees: the duties of the COLREGs 1972, with the numbers of a scenario. The bounds of their
 -- operators are in positions, each one tick long.
 --
--- Rule 18 says, by their ranks, which of two vessels keeps out of the way of the other. If ranks count, it has a duty of its
--- own, r18, and the duties of meeting head-on and of crossing (Rules 14, 15 and 17) hold only between power-driven vessels.
--- What stands there only if ranks count is in brackets. Overtaking comes before any rank (Rule 13).
+-- Rule 18 says by rank which of two vessels keeps out of the way of the other. If ranks count, it has its own duty,
+-- r18, and the duties of meeting head-on and of crossing (Rules 14, 15 and 17) hold only between power-driven vessels.
+-- Parts in brackets exist only if ranks count. Overtaking takes precedence over any rank (Rule 13).
 use Rattle.std.specs.Prelude.{ℕ, ◌≡◌, ◌≤◌, ◌/◌, ◌%◌}
 use Rattle.mtl_formulas.specs.declared.atom.Atom.TheVariants.{Risk, Engaged, Begin, Overtaking, Overtaken, HeadOn, CrossingGives, CrossingStands, Passing, Unclassified, Age, Opening, Clear, Close, OtherOnPort, Ahead, Alters, Apparent, ToStarboard, ToPort, OtherApparent, RankGives, RankStands, BothPower}
 use Rattle.mtl_formulas.specs.declared.formula.PairKind.TheVariants.{And, Or, Implies}
@@ -78,12 +78,13 @@ stands_on Counted = leaf Overtaken or leaf RankStands or (leaf CrossingStands an
 unfoldable pub extremis : RuleNumbers → FormulaTree
 extremis n = leaf Engaged and leaf Risk and leaf (Close n.close)
 
--- In risk for so long, in which the other vessel did not act: (age(tw) & H[0,tw] (engaged & risk & !other_apparent))
+-- In risk for the waiting time, in which the other vessel did not act: (age(tw) & H[0,tw] (engaged & risk &
+-- !other_apparent))
 unfoldable pub waits : ℕ → RuleNumbers → FormulaTree
 waits tick n =
     leaf (Age n.tw) and span H 0 (n.tw / tick) (leaf Engaged and leaf Risk and negation (leaf OtherApparent))
 
--- The vessel that stands on is free to act: since she waited or was in extremis, at most so long ago, she stayed engaged.
+-- The vessel that stands on is free to act: since she waited or was in extremis, at most `te` ago, she stayed engaged.
 -- (engaged S[0,te] (waits | extremis))
 unfoldable pub free : ℕ → RuleNumbers → FormulaTree
 free tick n = link S 0 (n.te / tick) (leaf Engaged) (waits tick n or extremis n)
@@ -157,12 +158,12 @@ abbrev pub r17c : Ranking → ℕ → RuleNumbers → FormulaTree
 r17c ranks tick n =
     between_power ranks (leaf Engaged and leaf CrossingStands) and free tick n and negation (extremis n) implies negation (leaf ToPort)
 
--- the distance at which vessels pass safely in an encounter of no kind that has one of its own
+-- the safe distance in an encounter of a kind without its own distance
 abbrev pub other_metres : Safe → ℕ
 other_metres (One metres) = metres
 other_metres (PerKind head_on overtaking crossing other) = other
 
--- Rule 18. A vessel keeps out of the way of those that are less able to.
--- engaged & rank_gives -> clear(safe)
+-- Rule 18. A vessel keeps out of the way of vessels that are less able to manoeuvre. engaged & rank_gives ->
+-- clear(safe)
 abbrev pub r18 : RuleNumbers → FormulaTree
 r18 n = passes_clear (leaf RankGives) (other_metres n.safe)

@@ -1,4 +1,4 @@
-//! Parts of rules, as they are built.
+//! Parts of rules in construction.
 ghost use Rattle.std.specs.Prelude.{◌≡◌, ◌+◌, ◌<◌, ◌≤◌, IfOk};
 ghost use Rattle.mtl_formulas.specs.FormulaTree.{leaf, negation, pair, span, link, tree_of};
 ghost use Rattle.mtl_formulas.specs.FormulaMeasures.{IsValidAtom, node_count, reach_of};
@@ -15,7 +15,7 @@ pub(crate) struct Draft {
     ghost small: { IsDraft (tree_of formula) } by { draft_prop (tree_of formula) },
 }
 
-/// The test of one position.
+/// Returns the formula of one atom.
 #[tactic(auto, using(crate::proofs::Drafts::made))]
 pub(crate) fn atom(atom: Atom) -> Draft
     requires { IsValidAtom atom }
@@ -26,7 +26,7 @@ pub(crate) fn atom(atom: Atom) -> Draft
     }
 }
 
-/// `!a`.
+/// Returns `!a`.
 #[tactic(auto, using(crate::proofs::Drafts::made))]
 pub(crate) fn not(alloc: Global, a: Draft) -> Result<Draft, Memory>
     requires { node_count (tree_of a.formula) < 64 }
@@ -39,7 +39,7 @@ pub(crate) fn not(alloc: Global, a: Draft) -> Result<Draft, Memory>
     })
 }
 
-/// `a & b`, `a | b` or `a -> b`.
+/// Returns `a & b`, `a | b` or `a -> b`.
 #[tactic(auto, using(crate::proofs::Drafts::made))]
 pub(crate) fn join(alloc: Global, kind: PairKind, a: Draft, b: Draft) -> Result<Draft, Memory>
     requires { node_count (tree_of a.formula) + node_count (tree_of b.formula) < 64 }
@@ -51,7 +51,7 @@ pub(crate) fn join(alloc: Global, kind: PairKind, a: Draft, b: Draft) -> Result<
     })
 }
 
-/// `F[0,upper] a` or `H[0,upper] a`, in positions, of a formula that looks at no later position.
+/// Returns `F[0,upper] a` or `H[0,upper] a`, in positions, for a formula that looks at no later position.
 #[tactic(auto, using(crate::proofs::Drafts::made))]
 pub(crate) fn over(alloc: Global, kind: SpanKind, upper: u32, a: Draft) -> Result<Draft, Memory>
     requires few { node_count (tree_of a.formula) < 64 }
@@ -66,7 +66,7 @@ pub(crate) fn over(alloc: Global, kind: SpanKind, upper: u32, a: Draft) -> Resul
     })
 }
 
-/// `a S[0,upper] b`, in positions.
+/// Returns `a S[0,upper] b`, in positions.
 #[tactic(auto, using(crate::proofs::Drafts::made))]
 pub(crate) fn since(alloc: Global, upper: u32, a: Draft, b: Draft) -> Result<Draft, Memory>
     requires few { node_count (tree_of a.formula) + node_count (tree_of b.formula) < 64 }

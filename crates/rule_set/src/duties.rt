@@ -29,7 +29,7 @@ pub(crate) fn r8b(alloc: Global, tick: u32, numbers: &RuleNumbers) -> Result<Rul
     Ok(Rule::of(b"r8b", implies(alloc, atom(Atom::Alters), apparent)?))
 }
 
-/// Engaged in an encounter of this kind, the vessels pass at this distance.
+/// Returns the rule that vessels engaged in an encounter of this kind pass at this distance.
 fn passes_clear(alloc: Global, kind: Draft, metres: u32) -> Result<Draft, Memory>
     requires metres { AreMetres metres }
     requires few { node_count (tree_of kind.formula) < 60 }
@@ -40,7 +40,7 @@ fn passes_clear(alloc: Global, kind: Draft, metres: u32) -> Result<Draft, Memory
     implies(alloc, engaged_and(alloc, kind)?, atom(Atom::Clear(metres)))
 }
 
-/// The same, for two kinds.
+/// Returns the same for two kinds.
 fn either_passes_clear(alloc: Global, one: Atom, two: Atom, metres: u32) -> Result<Draft, Memory>
     requires metres { AreMetres metres }
     requires one { IsValidAtom one }
@@ -73,7 +73,7 @@ fn passes_clear_per_kind(
     both(alloc, three, other)
 }
 
-/// The vessels pass at a safe distance.
+/// Returns the rule that the vessels pass at a safe distance.
 fn passes_safely(alloc: Global, safe: Safe) -> Result<Draft, Memory>
     requires { AreSafeMetres safe }
     ensures { IfOk result (λ d. tree_of d.formula ≡ passes_safely safe) }
@@ -108,7 +108,7 @@ pub(crate) fn r13(alloc: Global, numbers: &RuleNumbers) -> Result<Rule, Memory>
     ))
 }
 
-/// If the draft holds, the vessel does not act so.
+/// Returns a rule: if the draft holds, the vessel does not do this.
 fn forbidding(alloc: Global, name: &[u8], when: Draft, act: Atom) -> Result<Rule, Memory>
     requires some { 1 ≤ length name.now }
     requires short { length name.now ≤ 16 }
@@ -122,7 +122,7 @@ fn forbidding(alloc: Global, name: &[u8], when: Draft, act: Atom) -> Result<Rule
     Ok(Rule::of(name, implies(alloc, when, keeps)?))
 }
 
-/// If the draft holds, the vessel soon acts so.
+/// Returns a rule: if the draft holds, the vessel does this soon.
 fn demanding(
     alloc: Global,
     name: &[u8],
@@ -161,7 +161,7 @@ pub(crate) fn r14a(
     demanding(alloc, b"r14a", begins, tick, numbers.ta, Atom::ToStarboard)
 }
 
-/// Rule 14(a): head-on, none alters course to port.
+/// Rule 14(a): head-on, neither alters course to port.
 pub(crate) fn r14b(alloc: Global, ranks: Ranking) -> Result<Rule, Memory>
     ensures { IfOk result (λ rule. named_tree rule ≡ rule_named (codes "r14b") (r14b ranks)) }
 {
@@ -261,7 +261,7 @@ pub(crate) fn r17c(
     forbidding(alloc, b"r17c", early, Atom::ToPort)
 }
 
-/// The distance at which vessels pass safely in an encounter of no kind that has one of its own.
+/// Returns the safe distance in an encounter of a kind without its own distance.
 fn other_metres(safe: Safe) -> u32
     ensures { result ≡ other_metres safe }
 {
@@ -271,7 +271,7 @@ fn other_metres(safe: Safe) -> u32
     }
 }
 
-/// Rule 18: a vessel keeps out of the way of those that are less able to.
+/// Rule 18: a vessel keeps out of the way of vessels that are less able to manoeuvre.
 pub(crate) fn r18(alloc: Global, numbers: &RuleNumbers) -> Result<Rule, Memory>
     requires { AreSafeMetres numbers.now.safe }
     ensures { IfOk result (λ rule. named_tree rule ≡ rule_named (codes "r18") (r18 numbers.now)) }

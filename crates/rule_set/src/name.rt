@@ -3,7 +3,7 @@ ghost use Rattle.std.specs.Prelude.{◌≡◌, ◌≤◌, length};
 
 use std::marker::Model;
 
-/// The name of a rule, 1 to 16 bytes. It is seen as the list of its bytes.
+/// The name of a rule, 1 to 16 bytes. Its model is the list of its bytes.
 #[derive(Drop)]
 pub struct Name {
     bytes: [u8; 16],
@@ -21,7 +21,7 @@ impl Model for Name {
 }
 
 impl Name {
-    /// The name of these bytes, 1 to 16. It takes no memory.
+    /// Returns the name of these bytes, 1 to 16. It takes no memory.
     pub fn of(bytes: &[u8]) -> Name
         requires some { 1 ≤ length bytes.now }
         requires few { length bytes.now ≤ 16 }
@@ -35,7 +35,7 @@ impl Name {
         }
     }
 
-    /// The bytes of the name, 1 to 16.
+    /// Returns the bytes of the name, 1 to 16.
     pub fn bytes(&self) -> &[u8]
         ensures same { result.now ≡ self.now }
         ensures some { 1 ≤ length result.now }
@@ -44,7 +44,7 @@ impl Name {
         &self.bytes[..self.len]
     }
 
-    /// An equal name. It takes no memory.
+    /// Returns an equal name. It takes no memory.
     pub fn same(&self) -> Name
         ensures { result ≡ self.now }
     {

@@ -28,14 +28,14 @@ pub struct RuleNumbers {
     /// Nearer than this, in metres, the vessels are in extremis: the vessel that gives way may be unable to avoid the
     /// collision alone (Rule 17(b)).
     pub close: u32,
-    /// How soon an alteration has to be readily apparent, in seconds (Rule 8(b)).
+    /// The time within which an alteration must be readily apparent, in seconds (Rule 8(b)).
     pub t8: u32,
-    /// How soon action has to be taken, in seconds (Rules 14 and 16).
+    /// The time within which a vessel must act, in seconds (Rules 14 and 16).
     pub ta: u32,
-    /// How soon the vessel that stands on has to act in extremis, in seconds (Rule 17(b)).
+    /// The time within which the vessel that stands on must act in extremis, in seconds (Rule 17(b)).
     pub tl: u32,
-    /// How long the vessel that stands on waits for the other to act, in seconds (Rule 17(a)(ii)).
+    /// The time for which the vessel that stands on waits for the other to act, in seconds (Rule 17(a)(ii)).
     pub tw: u32,
-    /// How long the vessel that stands on stays free to act once she was, in seconds (Rule 17(a)(ii)).
+    /// The time for which the vessel that stands on stays free to act, in seconds (Rule 17(a)(ii)).
     pub te: u32,
 }

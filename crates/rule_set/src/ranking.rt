@@ -1,6 +1,6 @@
 //! Whether ranks count.
 
-/// Whether the rules look at the ranks of vessels (COLREGs Rule 18).
+/// Whether the rules use the ranks of vessels (COLREGs Rule 18).
 #[derive(Clone, Copy, PartialEq, Eq)]
 pub enum Ranking {
     /// They do not.

@@ -20,7 +20,7 @@ pub(crate) struct Rule {
 impl Rule {
     ghost use Rattle.std.specs.Prelude.{◌≡◌, ◌≤◌, length};
 
-    /// A draft under a name of 1 to 16 bytes.
+    /// Returns a draft under a name of 1 to 16 bytes.
     #[tactic(auto, using(crate::proofs::Drafts::draft_is_valid))]
     pub fn of(name: &[u8], draft: Draft) -> Rule
         requires some { 1 ≤ length name.now }
@@ -35,7 +35,7 @@ impl Rule {
     }
 }
 
-/// Whether some rule has the name.
+/// Returns whether some rule has the name.
 pub(crate) fn has_name(rules: &[Rule], name: &[u8]) -> bool
     ensures { result ≡ list_any (λ rule. bytes_eq rule.name name.now) rules.now }
 {

@@ -16,11 +16,12 @@ use out_of_memory::Memory;
 use std::alloc::{AllocFailed, Global};
 use std::marker::Model;
 
-/// So many rules a set holds at most.
+/// The most rules of a set.
 pub const MOST_RULES: usize = 17;
 
-/// The rules of an audit in order: those of the COLREGs 1972, eleven or with ranks twelve, and then those that were added, at most
-/// [`MOST_RULES`] in all. It is seen as the list of their names and trees. All names are different, and all formulas valid.
+/// The rules of an audit in order: those of the COLREGs 1972, eleven or with ranks twelve, and then the added ones, at
+/// most [`MOST_RULES`] in all. Its model is the list of their names and trees. All names are different, and all
+/// formulas valid.
 #[derive(Drop)]
 pub struct RuleSet {
     rules: Vec<Rule>,
@@ -45,7 +46,7 @@ impl Model for RuleSet {
         × RulesHaveDifferentNames (named_trees s.rules.items) };
 }
 
-/// Appends a rule that was made, or passes on the out-of-memory error.
+/// Appends a rule, or passes on the out-of-memory error.
 fn put(rules: &mut Vec<Rule>, made: Result<Rule, Memory>) -> Result<(), Memory>
     ensures { OnOk result (IsPut rules.old.items made rules.new.items) }
 {
@@ -53,7 +54,8 @@ fn put(rules: &mut Vec<Rule>, made: Result<Rule, Memory>) -> Result<(), Memory>
     Ok(())
 }
 
-/// Fills an empty list with the eleven rules that stand without ranks and with them. The list is borrowed, so that no early end has to drop it.
+/// Fills an empty list with the eleven rules that exist both without and with ranks. The list is borrowed, so that an
+/// early return need not drop it.
 fn push_eleven(
     rules: &mut Vec<Rule>,
     alloc: Global,
@@ -78,7 +80,7 @@ fn push_eleven(
     put(rules, r17c(alloc, ranks, tick, numbers))
 }
 
-/// The eleven rules that stand without ranks and with them.
+/// Returns the eleven rules that exist both without and with ranks.
 fn eleven_rules(
     alloc: Global,
     ranks: Ranking,
@@ -99,8 +101,9 @@ fn eleven_rules(
 }
 
 impl RuleSet {
-    /// The eleven rules without ranks, with these numbers, at a tick of 1 to 60 seconds: `r8b`, `r8d`, `r13`, `r14a`, `r14b`, `r14p`,
-    /// `r15`, `r16`, `r17a`, `r17b` and `r17c`. Each is the duty of the Rule of the COLREGs 1972 with its number (8, and 13 to 17).
+    /// Returns the eleven rules without ranks, with these numbers, at a tick of 1 to 60 seconds: `r8b`, `r8d`, `r13`,
+    /// `r14a`, `r14b`, `r14p`, `r15`, `r16`, `r17a`, `r17b` and `r17c`. Each is the duty of the Rule of the COLREGs
+    /// 1972 with its number (8, and 13 to 17).
     pub fn new(alloc: Global, numbers: &RuleNumbers, tick: u32) -> Result<RuleSet, Memory>
         requires { AreRuleNumbers tick numbers.now }
         ensures rules { IfOk result (λ set. set ≡ rules_of tick numbers.now) }
@@ -110,8 +113,8 @@ impl RuleSet {
         })
     }
 
-    /// The twelve rules with ranks, with these numbers, at a tick of 1 to 60 seconds. The eleven have the same names, and look at ranks
-    /// where Rule 18 of the COLREGs 1972 comes before them; `r18` is the duty of that Rule.
+    /// Returns the twelve rules with ranks, with these numbers, at a tick of 1 to 60 seconds. The eleven have the same
+    /// names, and use ranks if Rule 18 of the COLREGs 1972 takes precedence; `r18` is the duty of that Rule.
     pub fn new_ranked(alloc: Global, numbers: &RuleNumbers, tick: u32) -> Result<RuleSet, Memory>
         requires { AreRuleNumbers tick numbers.now }
         ensures rules { IfOk result (λ set. set ≡ ranked_rules_of tick numbers.now) }
@@ -121,8 +124,8 @@ impl RuleSet {
         Ok(RuleSet { rules })
     }
 
-    /// Adds a valid formula after the others, under a name that the set does not hold. The set holds fewer than [`MOST_RULES`].
-    /// If memory runs out, the one cause of an `Err`, the formula comes back and the set is unchanged.
+    /// Appends a valid formula under a new name. The set must have fewer than [`MOST_RULES`] rules. Only if memory runs
+    /// out, returns the formula as an `Err`, and the set is unchanged.
     pub fn add(&mut self, name: Name, formula: Formula) -> Result<(), Formula>
         requires few { length self.old < MOST_RULES }
         requires new { has_rule self.old name ≡ false }
@@ -138,7 +141,7 @@ impl RuleSet {
         }
     }
 
-    /// How many rules there are, at most [`MOST_RULES`].
+    /// Returns the number of rules, at most [`MOST_RULES`].
     pub fn len(&self) -> usize
         ensures count { result ≡ length self.now }
         ensures rules { AreRules self.now }
@@ -146,7 +149,7 @@ impl RuleSet {
         self.rules.len()
     }
 
-    /// The bytes of the name of the rule at an index, 1 to 16.
+    /// Returns the bytes of the name of the rule at an index, 1 to 16.
     pub fn name(&self, k: usize) -> &[u8]
         requires { k < length self.now }
         ensures name { result.now ≡ (rule_at self.now k).name }
@@ -154,7 +157,7 @@ impl RuleSet {
         self.rules[k].name.bytes()
     }
 
-    /// The formula of the rule at an index.
+    /// Returns the formula of the rule at an index.
     pub fn formula(&self, k: usize) -> &Formula
         requires { k < length self.now }
         ensures tree { tree_of result.now ≡ (rule_at self.now k).tree }
@@ -163,7 +166,7 @@ impl RuleSet {
         &self.rules[k].formula
     }
 
-    /// Whether some rule has the name.
+    /// Returns whether some rule has the name.
     pub fn holds(&self, name: &[u8]) -> bool
         ensures { result ≡ has_rule self.now name.now }
     {

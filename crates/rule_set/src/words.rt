@@ -1,4 +1,4 @@
-//! The words that several rules share.
+//! The parts that several rules share.
 ghost use Rattle.std.specs.Prelude.{◌≡◌, ◌+◌, ◌<◌, ◌≤◌, IfOk, Ok};
 ghost use Rattle.mtl_formulas.specs.FormulaTree.{leaf, negation, tree_of};
 ghost use Rattle.mtl_formulas.specs.FormulaMeasures.{IsValidAtom, node_count};
@@ -12,7 +12,7 @@ use mtl_formulas::{Atom, PairKind, SpanKind};
 use out_of_memory::Memory;
 use std::alloc::Global;
 
-/// Both, or the out-of-memory error of the second; the first is then dropped by a call.
+/// Returns both, or the out-of-memory error of the second after dropping the first.
 pub(crate) fn paired(a: Draft, b: Result<Draft, Memory>) -> Result<(Draft, Draft), Memory>
     ensures { IfOk result (λ made. (made.0 ≡ a) × (b ≡ Ok made.1)) }
 {
@@ -25,7 +25,7 @@ pub(crate) fn paired(a: Draft, b: Result<Draft, Memory>) -> Result<(Draft, Draft
     }
 }
 
-/// `a & b`.
+/// Returns `a & b`.
 pub(crate) fn both(alloc: Global, a: Draft, b: Draft) -> Result<Draft, Memory>
     requires { node_count (tree_of a.formula) + node_count (tree_of b.formula) < 64 }
     ensures { IfOk result (λ d. IsMade d.formula (tree_of a.formula and tree_of b.formula)
@@ -34,7 +34,7 @@ pub(crate) fn both(alloc: Global, a: Draft, b: Draft) -> Result<Draft, Memory>
     join(alloc, PairKind::And, a, b)
 }
 
-/// `a | b`.
+/// Returns `a | b`.
 pub(crate) fn either(alloc: Global, a: Draft, b: Draft) -> Result<Draft, Memory>
     requires { node_count (tree_of a.formula) + node_count (tree_of b.formula) < 64 }
     ensures { IfOk result (λ d. IsMade d.formula (tree_of a.formula or tree_of b.formula)
@@ -43,7 +43,7 @@ pub(crate) fn either(alloc: Global, a: Draft, b: Draft) -> Result<Draft, Memory>
     join(alloc, PairKind::Or, a, b)
 }
 
-/// `a | b`, of two atoms.
+/// Returns `a | b` of two atoms.
 pub(crate) fn one_of(alloc: Global, a: Atom, b: Atom) -> Result<Draft, Memory>
     requires a { IsValidAtom a }
     requires b { IsValidAtom b }
@@ -52,7 +52,7 @@ pub(crate) fn one_of(alloc: Global, a: Atom, b: Atom) -> Result<Draft, Memory>
     either(alloc, atom(a), atom(b))
 }
 
-/// `a -> b`.
+/// Returns `a -> b`.
 pub(crate) fn implies(alloc: Global, a: Draft, b: Draft) -> Result<Draft, Memory>
     requires { node_count (tree_of a.formula) + node_count (tree_of b.formula) < 64 }
     ensures { IfOk result (λ d. IsMade d.formula (tree_of a.formula implies tree_of b.formula)
@@ -61,7 +61,7 @@ pub(crate) fn implies(alloc: Global, a: Draft, b: Draft) -> Result<Draft, Memory
     join(alloc, PairKind::Implies, a, b)
 }
 
-/// `engaged & a`.
+/// Returns `engaged & a`.
 pub(crate) fn engaged_and(alloc: Global, a: Draft) -> Result<Draft, Memory>
     requires { node_count (tree_of a.formula) < 63 }
     ensures { IfOk result
@@ -71,7 +71,7 @@ pub(crate) fn engaged_and(alloc: Global, a: Draft) -> Result<Draft, Memory>
     both(alloc, atom(Atom::Engaged), a)
 }
 
-/// `a`, if ranks count `a & both_power`: between two power-driven vessels.
+/// Returns `a`, or, if ranks count, `a & both_power`: between two power-driven vessels.
 #[tactic(auto, unfolding(crate::specs::RuleTrees::between_power))]
 pub(crate) fn between_power(alloc: Global, ranks: Ranking, a: Draft) -> Result<Draft, Memory>
     requires { node_count (tree_of a.formula) < 63 }
@@ -85,7 +85,7 @@ pub(crate) fn between_power(alloc: Global, ranks: Ranking, a: Draft) -> Result<D
     }
 }
 
-/// `engaged & kind`, if ranks count between two power-driven vessels.
+/// Returns `engaged & kind`, or, if ranks count, the same between two power-driven vessels.
 pub(crate) fn engaged_in(alloc: Global, ranks: Ranking, kind: Atom) -> Result<Draft, Memory>
     requires { IsValidAtom kind }
     ensures { IfOk result
@@ -94,7 +94,7 @@ pub(crate) fn engaged_in(alloc: Global, ranks: Ranking, kind: Atom) -> Result<Dr
     between_power(alloc, ranks, engaged_and(alloc, atom(kind))?)
 }
 
-/// `F[0,seconds] (act | !engaged)`.
+/// Returns `F[0,seconds] (act | !engaged)`.
 #[tactic(auto, unfolding(crate::specs::RuleTrees::soon))]
 pub(crate) fn soon(alloc: Global, tick: u32, seconds: u32, act: Atom) -> Result<Draft, Memory>
     requires tick { 1 ≤ tick }
@@ -111,7 +111,8 @@ pub(crate) fn soon(alloc: Global, tick: u32, seconds: u32, act: Atom) -> Result<
     )
 }
 
-/// `overtaking | rank_gives | crossing_gives & both_power`, or the like of a vessel that stands on.
+/// Returns `overtaking | rank_gives | crossing_gives & both_power`, or the corresponding formula of a vessel that
+/// stands on.
 fn with_rank(alloc: Global, overtaking: Atom, rank: Atom, crossing: Atom) -> Result<Draft, Memory>
     requires overtaking { IsValidAtom overtaking }
     requires rank { IsValidAtom rank }
@@ -126,7 +127,7 @@ fn with_rank(alloc: Global, overtaking: Atom, rank: Atom, crossing: Atom) -> Res
     either(alloc, before_crossing, crossing)
 }
 
-/// The vessel is to keep out of the way.
+/// Returns the condition that the vessel must keep out of the way.
 #[tactic(auto, unfolding(crate::specs::RuleTrees::keeps_out))]
 pub(crate) fn keeps_out(alloc: Global, ranks: Ranking) -> Result<Draft, Memory>
     ensures { IfOk result (λ d. IsMade d.formula (keeps_out ranks) 7) }
@@ -144,7 +145,7 @@ pub(crate) fn keeps_out(alloc: Global, ranks: Ranking) -> Result<Draft, Memory>
     }
 }
 
-/// The vessel is to stand on.
+/// Returns the condition that the vessel must stand on.
 #[tactic(auto, unfolding(crate::specs::RuleTrees::stands_on))]
 pub(crate) fn stands_on(alloc: Global, ranks: Ranking) -> Result<Draft, Memory>
     ensures { IfOk result (λ d. IsMade d.formula (stands_on ranks) 7) }
@@ -162,14 +163,15 @@ pub(crate) fn stands_on(alloc: Global, ranks: Ranking) -> Result<Draft, Memory>
     }
 }
 
-/// `engaged & risk`.
+/// Returns `engaged & risk`.
 fn in_risk(alloc: Global) -> Result<Draft, Memory>
     ensures { IfOk result (λ d. IsMade d.formula (leaf Atom.Engaged and leaf Atom.Risk) 3) }
 {
     engaged_and(alloc, atom(Atom::Risk))
 }
 
-/// In risk, and nearer than the metres at which the other may be unable to avoid collision alone.
+/// Returns in extremis: in risk, and nearer than the distance at which the other may be unable to avoid collision
+/// alone.
 #[tactic(auto, unfolding(crate::specs::RuleTrees::extremis))]
 pub(crate) fn extremis(alloc: Global, numbers: &RuleNumbers) -> Result<Draft, Memory>
     requires { AreMetres numbers.now.close }
@@ -178,7 +180,7 @@ pub(crate) fn extremis(alloc: Global, numbers: &RuleNumbers) -> Result<Draft, Me
     both(alloc, in_risk(alloc)?, atom(Atom::Close(numbers.close)))
 }
 
-/// Not in extremis.
+/// Returns not in extremis.
 pub(crate) fn not_in_extremis(alloc: Global, numbers: &RuleNumbers) -> Result<Draft, Memory>
     requires { AreMetres numbers.now.close }
     ensures { IfOk result (λ d. IsMade d.formula (negation (extremis numbers.now)) 6) }
@@ -186,7 +188,7 @@ pub(crate) fn not_in_extremis(alloc: Global, numbers: &RuleNumbers) -> Result<Dr
     not(alloc, extremis(alloc, numbers)?)
 }
 
-/// In risk for so long, in which the other did not act.
+/// Returns the condition that there was risk for the waiting time, in which the other did not act.
 #[tactic(auto, unfolding(crate::specs::RuleTrees::waits))]
 fn waits(alloc: Global, tick: u32, numbers: &RuleNumbers) -> Result<Draft, Memory>
     requires { AreRuleNumbers tick numbers.now }
@@ -198,7 +200,7 @@ fn waits(alloc: Global, tick: u32, numbers: &RuleNumbers) -> Result<Draft, Memor
     both(alloc, atom(Atom::Age(numbers.tw)), so_long)
 }
 
-/// The vessel that stands on is free to act: she has waited, or was in extremis.
+/// Returns the condition that the vessel that stands on is free to act: she has waited, or was in extremis.
 #[tactic(auto, unfolding(crate::specs::RuleTrees::free))]
 pub(crate) fn free(alloc: Global, tick: u32, numbers: &RuleNumbers) -> Result<Draft, Memory>
     requires { AreRuleNumbers tick numbers.now }
@@ -209,7 +211,7 @@ pub(crate) fn free(alloc: Global, tick: u32, numbers: &RuleNumbers) -> Result<Dr
     since(alloc, numbers.te / tick, atom(Atom::Engaged), cause)
 }
 
-/// Not free to act.
+/// Returns the condition that she is not free to act.
 pub(crate) fn not_free(alloc: Global, tick: u32, numbers: &RuleNumbers) -> Result<Draft, Memory>
     requires { AreRuleNumbers tick numbers.now }
     ensures { IfOk result (λ d. IsMade d.formula (negation (free tick numbers.now)) 18) }

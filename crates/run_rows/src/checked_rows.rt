@@ -1,4 +1,4 @@
-//! What a recheck reports of rows.
+//! The reports of a recheck of rows.
 use crate::logs::{HEAD_ON_NOW, ONE_COURSE, ONE_TICK, OWN};
 use crate::whole_run::{SOUND, Shelved, edited, ended_on};
 use crate::worked_row::{NOTHING, Row, Written, is_as_worked_out};
@@ -11,7 +11,7 @@ const RECHECK: &[&str] = &["recheck", "scenario.toml"];
 /// She comes nearer than 300 metres in step 18, and is nearest at its end.
 const RIGHT: &[u8] = b"why,0,477553000,domain,18,1,1\n";
 
-/// Two vessels head on. Own ship may only go on: there is one plan, and it fails.
+/// Two vessels head-on. Own ship may only keep course and speed: there is one plan, and it fails.
 const ONE_PLAN: Row = Row {
     words: RECHECK,
     edits: &[ONE_TICK, OWN, ONE_COURSE],
@@ -25,7 +25,7 @@ const CONFIRMED: Row = Row {
     ..ONE_PLAN
 };
 
-/// Rows whose first is not right.
+/// Rows with a wrong first row.
 const FIRST_WRONG: Row = Row {
     status: Status::BadEntry(0),
     number: 10,
@@ -33,7 +33,7 @@ const FIRST_WRONG: Row = Row {
     ..ONE_PLAN
 };
 
-/// The same, or that rows leave out a plan after the first.
+/// The same, or rows that leave out a plan after the first.
 const SECOND_WRONG: Row = Row {
     status: Status::BadEntry(1),
     err: b"rows: entry 1\n",
@@ -100,7 +100,7 @@ why,0,477553000,domain,18,1,1
         rows: Some(RIGHT),
         ..SECOND_WRONG
     },
-    // The log fails at its first read, so it is not read.
+    // The log would fail at its first read, so the run does not read it.
     Row {
         shows: "no rows on the shelf",
         failing_read: Some(0),

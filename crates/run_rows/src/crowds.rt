@@ -1,4 +1,4 @@
-//! The limits that many vessels meet: how many are held, how many pairs are followed, and how many targets a plan has.
+//! The limits for many vessels: vessels in the book, pairs in contact, and targets of a plan.
 ghost use Rattle.std.specs.Prelude.{◌<◌, ◌≤◌};
 
 use crate::logs::{ONE_COURSE, ONE_TICK, OWN};
@@ -14,7 +14,7 @@ use test_support::{is, is_true};
 /// The second at which the window starts.
 const START: u64 = 1700000000;
 
-/// Appends a report of each of `count` vessels that lie still at the reference, 0.1852 m apart, at this second.
+/// Appends a report of each of `count` stopped vessels at the reference, 0.1852 m apart, at this second.
 fn append_crowd(alloc: Global, log: &mut Vec<u8>, count: u32, second: u64) -> Result<(), Fail>
     requires few { count ≤ 5000 }
     requires second { second < 100_000_000_000 }
@@ -38,7 +38,8 @@ fn append_crowd(alloc: Global, log: &mut Vec<u8>, count: u32, second: u64) -> Re
     Ok(())
 }
 
-/// A run on `count` vessels that lie close together, each with a report at the window's start and another a minute later.
+/// Returns a run on `count` vessels close together, each with a report at the window's start and another a minute
+/// later.
 fn crowded(
     alloc: Global,
     words: &[&str],

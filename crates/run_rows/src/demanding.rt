@@ -1,4 +1,5 @@
-//! Rows that a slow body does not finish: values, alarms and plans that a plain recursion or a plain search would take years for.
+//! Rows that a slow implementation cannot finish: values, alarms and plans that would take a plain recursion or a plain
+//! search years.
 use crate::logs::{HEAD_ON_NOW, ONE_TICK};
 use crate::whole_run::Edit;
 use crate::worked_row::{AUDIT, NOTHING, Row, Written, is_as_worked_out};
@@ -6,13 +7,13 @@ use colregs_program::Status;
 use scenario_rows::HEAD_ON;
 use std::test::Fail;
 
-/// A formula of one's own that looks 1600 ticks ahead, through sixteen operators.
+/// An additional formula that looks 1600 ticks ahead, through sixteen operators.
 const SIXTEEN_NESTED: Edit = (
     "max_speed = 500\n",
     "max_speed = 500\n[[formula]]\nname = \"u2\"\ntext = \"G[0,100] G[0,100] G[0,100] G[0,100] G[0,100] G[0,100] G[0,100] G[0,100] G[0,100] G[0,100] G[0,100] G[0,100] G[0,100] G[0,100] G[0,100] G[0,100] seen\"\n",
 );
 
-/// Own ship's 32 courses are one, over six legs: 32 to the sixth power plans, the greatest number that is allowed.
+/// Own ship's 32 courses are the same, over six legs: 32 to the sixth power plans, the greatest allowed number.
 const GREATEST_LATTICE: Edit = (
     "max_speed = 500\n",
     "max_speed = 500\n[own]\nmmsi = 369190000\ncourses = [0, 0, 0, 0, 0, 0, 0, 0, 0, 0, 0, 0, 0, 0, 0, 0, 0, 0, 0, 0, 0, 0, 0, 0, 0, 0, 0, 0, 0, 0, 0, 0]\nspeeds = [0]\nlegs = 6\nleg_ticks = 6\ntail = 10\nbase = 300\nlengths = 0\nrange = 50000\n",

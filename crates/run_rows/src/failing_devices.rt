@@ -1,4 +1,4 @@
-//! Devices that fail: what a run has written by then, and that it asks for no more.
+//! Failing devices: the output of a run up to the fault, and no calls after it.
 use crate::logs::{ABOUT_SEATTLE, LOG, REPORT};
 use crate::whole_run::{Devices, RunEnd, SOUND, ended_with};
 use crate::worked_row::{AUDIT, POINTS};
@@ -9,39 +9,39 @@ use std::alloc::Global;
 use std::test::Fail;
 use test_support::{is, is_true};
 
-/// What the clock of a line at second 741 settles of the log of two vessels that meet head on.
+/// The rows of the log of two vessels head-on that the clock of a line at second 741 settles.
 const FIRST_TWO: &[u8] = b"verdict,369190000,477553000,r14a,broken,0,0
 verdict,477553000,369190000,r14a,broken,0,0
 ";
 
-/// What the clock of a line at second 951 settles of that log.
+/// The rows of that log that the clock of a line at second 951 settles.
 const FIRST_FOUR: &[u8] = b"verdict,369190000,477553000,r14a,broken,0,0
 verdict,477553000,369190000,r14a,broken,0,0
 verdict,369190000,477553000,r8d,broken,18,21
 verdict,477553000,369190000,r8d,broken,18,21
 ";
 
-/// The line for a log that could not be read.
+/// The line on standard error if a log cannot be read.
 const NOT_READ: &[u8] = b"log: not read\n";
 
-/// How a run ends, with its number.
+/// The end of a run, with its number.
 type End = (Status, u8);
 
 const READ_FAULT: End = (Status::ReadFault, 5);
 
 const WRITE_FAULT: End = (Status::WriteFault, 6);
 
-/// How this run ended.
+/// Returns the end of this run.
 fn end_of(ended: &RunEnd) -> End {
     (ended.status, ended.status.number())
 }
 
-/// A run ends like this, and has written these bytes.
+/// Checks that a run has this end and has written these bytes.
 fn has_ended(ended: &RunEnd, end: End, out: &[u8]) -> Result<(), Fail> {
     is((end_of(ended), ended.out.bytes()), (end, out))
 }
 
-// What is left of the log shows that nothing is read behind the fault.
+// The rest of the log shows that the run reads nothing after the fault.
 #[test]
 fn a_source_that_fails_after_a_hundred_bytes(rt: HostRuntime) -> Result<(), Fail> {
     let devices = Devices {
@@ -61,7 +61,7 @@ fn a_source_that_fails_after_a_hundred_bytes(rt: HostRuntime) -> Result<(), Fail
     )
 }
 
-/// Runs `audit` on the head-on log and one line more.
+/// Runs `audit` on the head-on log and one more line.
 fn audited(alloc: Global, last: &[u8], devices: Devices) -> Result<RunEnd, Fail> {
     let mut log = HEAD_ON.to_vec(alloc)?;
     log.extend_from_slice(last)?;
@@ -81,10 +81,10 @@ fn a_read_that_fails_leaves_the_rows_that_are_settled(rt: HostRuntime) -> Result
     has_ended(&ended, READ_FAULT, FIRST_TWO)
 }
 
-/// A line that settles four rows. It ends in the seventh piece.
+/// A line that settles four rows. It ends in the seventh chunk.
 const SETTLES: &[u8] = b"\\c:1700000951*52\\x\n";
 
-/// Whether a run whose read of this number fails has written what was settled by then.
+/// Checks that a run whose read of this number fails has written the rows settled by then.
 fn has_settled(ended: &RunEnd, call: u32) -> Result<(), Fail> {
     match call {
         0..7 => has_ended(ended, READ_FAULT, b""),
@@ -93,7 +93,7 @@ fn has_settled(ended: &RunEnd, call: u32) -> Result<(), Fail> {
     }
 }
 
-// Standard error fails each time, and changes no status.
+// Standard error fails each time, which changes no status.
 #[test]
 fn each_read_that_fails_leaves_what_was_settled(rt: HostRuntime) -> Result<(), Fail> {
     for call in 0..10u32 {
@@ -108,7 +108,8 @@ fn each_read_that_fails_leaves_what_was_settled(rt: HostRuntime) -> Result<(), F
     Ok(())
 }
 
-/// A run whose writes may fail has written a front of what this one has written, and is done only where it has written all.
+/// Checks that a run whose writes may fail has written a prefix of this run's output, and is done only if it has
+/// written all of it.
 fn is_front_of(ended: &RunEnd, whole: &RunEnd) -> Result<(), Fail> {
     is_true(whole.out.bytes().starts_with(ended.out.bytes()))?;
     if ended.out.bytes().len() < whole.out.bytes().len() {
@@ -118,7 +119,7 @@ fn is_front_of(ended: &RunEnd, whole: &RunEnd) -> Result<(), Fail> {
     }
 }
 
-/// Whether runs with one write that fails have written fronts of what this one has written.
+/// Checks that runs with one failing write have written prefixes of this run's output.
 fn has_fronts(alloc: Global, whole: &RunEnd) -> Result<(), Fail> {
     is(whole.status, Status::Done)?;
     for call in 0..20u32 {
@@ -139,7 +140,8 @@ fn each_write_that_fails_leaves_a_front_of_the_report(rt: HostRuntime) -> Result
     has_fronts(rt.alloc(), &whole)
 }
 
-/// The run's write failed after this number of bytes of the report of points, and standard error stayed empty.
+/// Checks that the run's write failed after this number of bytes of the report of points, and that standard error
+/// stayed empty.
 fn is_cut_off_at(ended: &RunEnd, length: usize) -> Result<(), Fail> {
     is_true(REPORT.starts_with(ended.out.bytes()))?;
     is(
@@ -148,7 +150,8 @@ fn is_cut_off_at(ended: &RunEnd, length: usize) -> Result<(), Fail> {
     )
 }
 
-// A failing standard error changes no status. The log's one row is written before its end is read, and the rest in pieces of 100 bytes.
+// A failing standard error changes no status. The run writes the log's only row before it reads the end of the log, and
+// the rest in chunks of 100 bytes.
 #[test]
 fn each_write_that_fails_leaves_the_front_before_it(rt: HostRuntime) -> Result<(), Fail> {
     for (call, length) in [(0, 0usize), (1, 42), (2, 142), (3, 242)] {

@@ -1,11 +1,11 @@
-//! Lines that strangers wrote.
+//! Hostile lines.
 use crate::whole_run::{SOUND, ended_with};
 use crate::worked_row::POINTS;
 use std::alloc::Global;
 use std::test::Fail;
 use test_support::is;
 
-/// The rows of the counts that are not 0 in a report.
+/// Returns the rows of the counts that are not 0 in a report.
 fn counts_in(alloc: Global, report: &[u8]) -> Result<String, Fail> {
     let mut counts = String::new(alloc);
     if let Ok(text) = std::str::from_utf8(report) {
@@ -19,7 +19,7 @@ fn counts_in(alloc: Global, report: &[u8]) -> Result<String, Fail> {
     Ok(counts)
 }
 
-/// The rows of the counts that are not 0 at the end of the report on a log.
+/// Returns the rows of the counts that are not 0 at the end of the report on a log.
 fn counted(alloc: Global, log: &[u8]) -> Result<String, Fail> {
     let ended = ended_with(alloc, POINTS, &[], log, SOUND)?;
     counts_in(alloc, ended.out.bytes())
@@ -33,7 +33,7 @@ const FIELDS: &[u8] =
 
 const SUFFIX: &[u8] = b"!AIVDM,1,1,,A,15P5TL0P2l00001wwHt000000000,0*5c,1700000000\n";
 
-// A stamp outside the window is the nearest to the line after it, and moves no clock.
+// A stamp outside the window is the nearest one to the line after it, but does not move the clock.
 const STAMPS: &[u8] = b"\\c:9999999999*59\\!AIVDM,1,1,,A,15P5TL0P2l00001wwHt000000000,0*5C
 !AIVDM,1,1,,A,15P5TL0P2l00001wwHt000000000,0*5C
 \\c:1700000000*5F\\!AIVDM,1,1,,A,15P5TL0P2l00001wwHt000000000,0*5C
@@ -51,7 +51,7 @@ const SECOND_AGAIN: &[u8] =
 !AIVDM,2,2,3,B,1@0000000000000,2*55
 ";
 
-// A minute of latitude lies between the first two.
+// The first two are a minute of latitude apart.
 const JUMPS: &[u8] = b"\\c:1700000000*5F\\!AIVDM,1,1,,A,15P5TL0P2l00001wwHt000000000,0*5C
 \\c:1700000010*5E\\!AIVDM,1,1,,A,15P5TL0P2l0000000W4000000000,0*02
 \\c:1700000040*5B\\!AIVDM,1,1,,A,15P5TL0P2l00001wwHt000000000,0*5C

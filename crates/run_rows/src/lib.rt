@@ -1,5 +1,6 @@
-//! Worked rows of whole runs of the program, in memory: the report of each mode, what a recheck says of rows, runs that a slow program would not
-//! finish, and runs that end in a fault: each fault by its number, limits that many vessels meet, hostile lines, and devices that fail.
+//! Worked rows of whole runs of the program, in memory: the report of each mode, rechecks of rows, runs that a slow
+//! program would not finish, and runs that end in a fault: each fault by its number, limits for many vessels, hostile
+//! lines, and failing devices.
 #![tactic(auto)]
 
 #[cfg(test)]

@@ -1,4 +1,4 @@
-//! Each fault by its number, and the line that names it.
+//! Each fault by its number, and its line on standard error.
 use crate::logs::{LOG, ONE_COURSE, ONE_TICK, OWN};
 use crate::whole_run::{Edit, SOUND, ended};
 use crate::worked_row::{NOTHING, POINTS, Row, Written, is_as_worked_out};
@@ -10,7 +10,7 @@ use test_support::is;
 
 const USAGE: &[u8] = b"usage: points|audit|plan|drill|migrate|recheck|watch SCENARIO\n";
 
-/// A run of `plan` for which own ship lacks something.
+/// A run of `plan` for which own ship lacks data.
 const NOT_READY: Row = Row {
     words: &["plan", "scenario.toml"],
     edits: &[ONE_TICK, OWN, ONE_COURSE],
@@ -148,7 +148,7 @@ fn each_fault_has_its_number_and_its_line(rt: HostRuntime) -> Result<(), Fail> {
     Ok(())
 }
 
-/// So many comment marks.
+/// Returns `count` comment marks.
 fn marks(alloc: Global, count: usize) -> Result<String, Fail> {
     match String::from_utf8(vec![in alloc; b'#'; count]?) {
         Ok(text) => Ok(text),

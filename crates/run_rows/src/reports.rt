@@ -12,7 +12,7 @@ use test_support::{is, is_true};
 /// The row of that report.
 const POINT: &[u8] = b"point,477553000,1700000000,0,185200,0,510\n";
 
-/// The front of the audit of the log of two vessels that meet head on, up to the counts of lines.
+/// The start of the audit of the log of two vessels head-on, up to the counts of lines.
 const HEAD_ON_AUDITED: &[u8] = b"verdict,369190000,477553000,r14a,broken,0,0
 verdict,477553000,369190000,r14a,broken,0,0
 verdict,369190000,477553000,r8d,broken,18,21
@@ -35,7 +35,7 @@ total,r17c,80,80,0,0,0
 lines,empty,0,,,,
 ";
 
-/// The same watched: each breach at the step that decides it.
+/// The same log in mode `watch`: each breach at the step that decides it.
 const HEAD_ON_WATCHED: &[u8] = b"alarm,369190000,477553000,r14a,0,6,
 alarm,477553000,369190000,r14a,0,6,
 alarm,369190000,477553000,r8d,18,18,
@@ -87,7 +87,7 @@ vessel,369190000,MT.MITCHELL,99,180,2,1
     b"",
 );
 
-/// The totals of the drill, as another program has them.
+/// The totals of the drill, computed by another program.
 const DRILLED: &[u8] = b"total,r8b,48304,48304,0,0,0
 total,r8d,48304,48134,170,0,24
 total,r13,48304,48273,31,0,2
@@ -107,7 +107,7 @@ const PLAN: &[&str] = &["plan", "scenario.toml"];
 /// The scenario counts ranks.
 const RANKS: Edit = ("[rules]\n", "[rules]\nranks = 1\n");
 
-/// Two vessels meet head on, and the second fishes.
+/// Two vessels meet head-on, and the second is engaged in fishing.
 const FISHING: &[u8] =
     b"\\c:1700000000*5F\\!AIVDM,2,1,3,B,55P5TL01VIaAL@7WKO@mBplU@<PDhh000000001S;AJ::4A80?4i@E53,0*3E
 !AIVDM,2,2,3,B,1@0000000000000,2*55
@@ -117,7 +117,7 @@ const FISHING: &[u8] =
 \\c:1700000400*5B\\!AIVDM,1,1,,A,177KQJ7P2lOwwtqwwHt725`00000,0*68
 ";
 
-/// The first is to keep out of the way of the second, and nobody alters.
+/// The first must keep out of the way of the second, and neither alters.
 const FISHING_AUDITED: Written = Written::Ends(
     b"verdict,369190000,477553000,r16,broken,0,0
 verdict,369190000,477553000,r8d,broken,18,21
@@ -145,7 +145,7 @@ lines,empty,0,,,,
     b"lines,static,1,,,,\nlines,point,4,,,,\n",
 );
 
-/// The same vessels as in [`HEAD_ON_NOW`], where own ship fishes.
+/// The same vessels as in [`HEAD_ON_NOW`], but own ship is engaged in fishing.
 const OWN_FISHES_NOW: &[u8] = b"\\c:1700000000*5F\\!AIVDM,1,1,,A,15P5TL7P2l00001wwHt000000000,0*5B
 \\c:1700000000*5F\\!AIVDM,1,1,,A,177KQJ0P2lOwwtp00W4725`00000,0*31
 ";
@@ -169,7 +169,7 @@ static REPORTS: [Row; 16] = [
         out: Written::Ends(b"point,", PARTS_AND_TIMES_COUNTED),
         ..NOTHING
     },
-    // Each breaks the rule on nearly reciprocal courses, and they pass too near.
+    // Each breaks the rule for nearly reciprocal courses, and they pass too near.
     Row {
         shows: "two vessels meet head on, and neither alters",
         words: AUDIT,
@@ -220,7 +220,7 @@ static REPORTS: [Row; 16] = [
         out: Written::Ends(HEAD_ON_AUDITED, b"lines,static,1,,,,\nlines,point,4,,,,\n"),
         ..NOTHING
     },
-    // A log that is given is not read: this one fails at the first read.
+    // The run does not read a given log: this one would fail at the first read.
     Row {
         shows: "a drill of forty vessels",
         words: &["drill", "scenario.toml"],
@@ -228,7 +228,7 @@ static REPORTS: [Row; 16] = [
         out: Written::Ends(DRILLED, b"lines,static,0,,,,\nlines,point,280,,,,\n"),
         ..NOTHING
     },
-    // The first plan goes on as she does, and breaks the rule on nearly reciprocal courses.
+    // The first plan keeps course and speed, and breaks the rule for nearly reciprocal courses.
     Row {
         shows: "own ship turns to starboard",
         words: PLAN,
@@ -244,7 +244,7 @@ lines,empty,0,,,,
         ),
         ..NOTHING
     },
-    // Own ship fishes: by ranks she would stand on, and be held to her course at first.
+    // Own ship is engaged in fishing: by ranks she would stand on, and would first have to keep her course.
     Row {
         shows: "a plan does not go by ranks",
         words: PLAN,
@@ -260,7 +260,7 @@ lines,empty,0,,,,
         ),
         ..NOTHING
     },
-    // She may only go on, and that breaks the rule.
+    // She may only keep course and speed, which breaks the rule.
     Row {
         shows: "every plan fails",
         words: PLAN,
@@ -296,7 +296,7 @@ lines,empty,0,,,,
         ),
         ..NOTHING
     },
-    // The first line is whole within the limit, and the second is not.
+    // The first line is within the limit, and the second is not.
     Row {
         shows: "a log that is too long leaves the rows of its whole lines",
         edits: &[
@@ -334,7 +334,7 @@ fn a_log_in_pieces_of_any_length(rt: HostRuntime) -> Result<(), Fail> {
     Ok(())
 }
 
-/// So many copies of a line.
+/// Returns `count` copies of a line.
 fn copies(alloc: Global, line: &[u8], count: u32) -> Result<Vec<u8>, Fail> {
     let mut log = Vec::new(alloc);
     for _ in 0..count {
@@ -343,7 +343,7 @@ fn copies(alloc: Global, line: &[u8], count: u32) -> Result<Vec<u8>, Fail> {
     Ok(log)
 }
 
-// Long enough that each of its lines, and the report, ask for memory more than once.
+// Long enough that each of its lines, and the report, allocate memory more than once.
 #[test]
 fn a_log_of_three_hundred_lines(rt: HostRuntime) -> Result<(), Fail> {
     let log = copies(rt.alloc(), LOG, 300)?;
@@ -366,7 +366,8 @@ fn a_log_of_three_hundred_lines(rt: HostRuntime) -> Result<(), Fail> {
     )
 }
 
-/// What a migration writes whose log fails at its first read, so it is not read; its options count for nothing.
+/// Returns a migration with options that have no effect. Its log would fail at its first read, so the run does not read
+/// it.
 fn migrated(alloc: Global) -> Result<RunEnd, Fail> {
     let words = ["migrate", "scenario.toml", "--ticks", "7", "--seed=3"];
     let devices = Devices {
@@ -376,13 +377,13 @@ fn migrated(alloc: Global) -> Result<RunEnd, Fail> {
     ended_with(alloc, &words, &[], b"", devices)
 }
 
-/// By this scenario the head-on log is audited as it was worked out.
+/// Checks that the audit of the head-on log by this scenario has the worked rows.
 fn audits_head_on(alloc: Global, scenario: &str) -> Result<(), Fail> {
     let ended = ended(alloc, AUDIT, scenario, HEAD_ON, SOUND)?;
     is_true(ended.out.bytes().starts_with(HEAD_ON_AUDITED))
 }
 
-/// What this run has written is a scenario by which the head-on log is audited as it was worked out.
+/// Checks that this run has written a scenario by which the audit of the head-on log has the worked rows.
 fn migrates(alloc: Global, migrated: &RunEnd) -> Result<(), Fail> {
     is(migrated.status, Status::Done)?;
     let Ok(text) = std::str::from_utf8(migrated.out.bytes()) else {

@@ -1,4 +1,4 @@
-//! A run of the program in memory. It stands alone, so that `run` is called in one place.
+//! A run of the program in memory. It is a separate module, so that only one place calls `run`.
 ghost use Rattle.std.specs.Prelude.{IfOk};
 ghost use Rattle.outside.specs.Calls.{AreCallNumbers};
 
@@ -8,13 +8,13 @@ use scenario_rows::SCENARIO;
 use std::alloc::Global;
 use std::test::Fail;
 
-/// A part of the scenario, and what is put for it.
+/// A part of the scenario, and its replacement.
 pub type Edit = (&'static str, &'static str);
 
-/// How the log comes, and which call of each device fails, counted from 0.
+/// The chunks of the log, and the call of each device that fails, counted from 0.
 #[derive(Clone, Copy)]
 pub struct Devices {
-    /// The greatest number of bytes that a read gives.
+    /// The most bytes of a read.
     pub piece: usize,
     pub failing_read: Option<u32>,
     pub failing_write: Option<u32>,
@@ -30,7 +30,7 @@ pub const SOUND: Devices = Devices {
     failing_line: None,
 };
 
-/// What a run ended with, what it wrote, and what a read after it gives.
+/// The end of a run, its output, and the result of a read after it.
 #[derive(Drop)]
 pub struct RunEnd {
     pub status: Status,
@@ -39,7 +39,7 @@ pub struct RunEnd {
     pub next: Taken,
 }
 
-/// The numbers of the calls that fail, where this one is to.
+/// Returns the numbers of the failing calls, given at most one.
 fn calls(alloc: Global, failing: Option<u32>) -> Result<Vec<u64>, Fail>
     ensures { IfOk result (λ calls. AreCallNumbers calls.items) }
 {
@@ -57,7 +57,7 @@ fn words_of(alloc: Global, texts: &[&str]) -> Result<Vec<Word>, Fail> {
     Ok(words)
 }
 
-/// What lies on a shelf: a scenario under `scenario.toml`, and rows under `why.csv`, if there are any.
+/// The files of a shelf: a scenario under `scenario.toml`, and rows under `why.csv`, if there are any.
 #[derive(Clone, Copy)]
 pub struct Shelved<'a> {
     pub scenario: &'a str,
@@ -75,7 +75,7 @@ fn shelf_of(alloc: Global, shelved: Shelved<'_>) -> Result<PlainShelf, Fail> {
     Ok(PlainShelf::new(files))
 }
 
-/// Runs the program with these words, where this scenario lies under `scenario.toml`, on a log.
+/// Runs the program with these arguments on a log; the file `scenario.toml` is this scenario.
 pub fn ended(
     alloc: Global,
     texts: &[&str],
@@ -90,7 +90,7 @@ pub fn ended(
     ended_on(alloc, texts, shelved, log, devices)
 }
 
-/// Runs the program with these words and this shelf, on a log.
+/// Runs the program with these arguments and this shelf, on a log.
 pub fn ended_on(
     alloc: Global,
     texts: &[&str],
@@ -116,7 +116,7 @@ pub fn ended_on(
     })
 }
 
-/// The scenario of the worked rows, where these parts are replaced.
+/// Returns the scenario of the worked rows with these parts replaced.
 pub fn edited(alloc: Global, edits: &[Edit]) -> Result<String, Fail> {
     let mut text = SCENARIO.to_owned(alloc)?;
     for (old, new) in edits {
@@ -125,7 +125,8 @@ pub fn edited(alloc: Global, edits: &[Edit]) -> Result<String, Fail> {
     Ok(text)
 }
 
-/// Runs the program with these words, where the scenario of the worked rows with these parts replaced lies under `scenario.toml`, on a log.
+/// Runs the program with these arguments on a log; the file `scenario.toml` is the scenario of the worked rows with
+/// these parts replaced.
 pub fn ended_with(
     alloc: Global,
     texts: &[&str],

@@ -1,42 +1,42 @@
-//! A worked row: what a run is given, and what it ends with.
+//! A worked row: the input of a run, and its end.
 use crate::whole_run::{Devices, Edit, RunEnd, SOUND, Shelved, edited, ended_on};
 use colregs_program::Status;
 use std::alloc::Global;
 use std::test::Fail;
 
-/// What is known of the bytes of a report.
+/// The expected bytes of a report.
 #[derive(Clone, Copy)]
 pub enum Written {
     /// All of them.
     All(&'static [u8]),
-    /// How they begin, and how they end.
+    /// Their start and their end.
     Ends(&'static [u8], &'static [u8]),
 }
 
 /// A run of the program, on the scenario of all rows with some edits, and its end.
 #[derive(Clone, Copy)]
 pub struct Row {
-    /// What the row shows: its name, which a failure prints.
+    /// The title of the row, which a failure prints.
     pub shows: &'static str,
     pub words: &'static [&'static str],
     pub edits: &'static [Edit],
     /// The log, part by part.
     pub log: &'static [&'static [u8]],
-    /// The rows that lie under `why.csv`, if any do.
+    /// The rows in the file `why.csv`, if there is one.
     pub rows: Option<&'static [u8]>,
     /// The read of the log that fails, counted from 0.
     pub failing_read: Option<u32>,
-    /// How the run ends, with its number, and what it writes.
+    /// The end of the run, with its number, and its output.
     pub status: Status,
     pub number: u8,
     pub out: Written,
     pub err: &'static [u8],
 }
 
-/// The words that ask for the points of the scenario's log.
+/// The arguments for the points of the scenario's log.
 pub const POINTS: &[&str] = &["points", "scenario.toml"];
 
-/// The words that ask for its audit.
+/// The arguments for its audit.
 pub const AUDIT: &[&str] = &["audit", "scenario.toml"];
 
 /// `points` on an empty log that no device fails, with nothing written.
@@ -68,12 +68,12 @@ fn joined(alloc: Global, parts: &[&[u8]]) -> Result<Vec<u8>, Fail> {
     Ok(bytes)
 }
 
-/// That a row's run is not as it was worked out: in what.
+/// Returns a failure that names the difference between a row's run and its worked end.
 fn unlike(row: &Row, what: &str) -> Fail {
     Fail::new(format_args!("{}: {what}", row.shows))
 }
 
-/// Checks that a run ended as the row says. A difference is printed with what the row shows.
+/// Checks that a run ended like the row. Prints a difference with the row's title.
 fn is_like(ended: &RunEnd, row: &Row) -> Result<(), Fail> {
     if ended.status != row.status || ended.status.number() != row.number {
         return Err(Fail::new(format_args!("{}: ended with {:?}", row.shows, ended.status)));
@@ -87,7 +87,7 @@ fn is_like(ended: &RunEnd, row: &Row) -> Result<(), Fail> {
     Ok(())
 }
 
-/// Runs the program as the row has it, and compares how it ends.
+/// Runs the program with the row's input, and compares its end.
 pub fn is_as_worked_out(alloc: Global, row: &Row) -> Result<(), Fail> {
     let scenario = edited(alloc, row.edits)?;
     let log = joined(alloc, row.log)?;

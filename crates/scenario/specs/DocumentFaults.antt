@@ -1,4 +1,4 @@
--- The first fault of a document: the keys are tested in the order of their table.
+-- The first fault of a document, in the order of the table of keys.
 use Rattle.std.specs.Prelude.{◌≡◌, All, Option, None}
 use Rattle.toml.specs.Data.{Members}
 use Rattle.rule_set.specs.declared.ranking.Ranking.{Ranking}
@@ -16,7 +16,8 @@ use Rattle.scenario.specs.Purposes.{ranking_of}
 use Rattle.scenario.specs.declared.basis.Basis.{Basis}
 use Rattle.scenario.specs.declared.purpose.Purpose.{Purpose}
 
--- what the test of a key finds: its fault, or none; the name and the text of each formula are tested at the row of the name
+-- the result of the test of a key: its fault, or none; the name and the text of each formula are tested at the row of
+-- the name
 
 abbrev pub IsToldBy : Kind → Basis → Ranking → Members → Row → Option (Key × Cause) → Type 0
 IsToldBy kind.FormulaName basis ranks document row told = IsFormulaFault ranks (tick_of document) (formula_tables document) told

@@ -1,4 +1,4 @@
--- The fault of each key of a document but for those of formulas.
+-- The fault of each key of a document, except those of formulas.
 use Rattle.std.specs.Prelude.{ℕ, Bool, true, false, not, ◌==◌, ◌&&◌, nat_le, ℤ, pos, negsuc, List, codes, if◌then◌else◌, Option, Some, None, Result, Ok, Err}
 use Rattle.toml.specs.Data.{Members, get_member}
 use Rattle.scenario_keys.specs.IntegerFaults.{bounds_of, number_cause}
@@ -17,7 +17,7 @@ use Rattle.scenario.specs.PlanFaults.{plans_cause, sizes_of}
 use Rattle.scenario.specs.Shapes.{shape_fault}
 use Rattle.scenario.specs.declared.basis.Basis.{Basis}
 
--- the seconds of a tick; 1 if there are none, since a key no later than the tick's then has a fault
+-- the seconds of a tick; 1 if there are none, because then the tick's key or an earlier one has a fault
 
 abbrev pub tick_or_one : Option ℤ → ℕ
 tick_or_one None = 1
@@ -27,7 +27,7 @@ tick_or_one (Some (negsuc n)) = 1
 unfoldable pub tick_of : Members → ℕ
 tick_of document = tick_or_one (integer_at (codes "window") (codes "tick") document)
 
--- whether the keys are those of version 2; if there is no version, no later key's fault is the first
+-- whether the keys are those of version 2; without a version, no later key's fault is the first
 
 abbrev pub is_two : Option ℤ → Bool
 is_two None = false
@@ -48,7 +48,7 @@ counts basis when.InVersionOne = not basis.is_version_two
 counts basis when.InVersionTwo = basis.is_version_two
 counts basis when.ForOwnShip = basis.need_own
 
--- the fault of a key that counts, by what its table holds; none for keys of formulas, which are reported apart
+-- the fault of a key that counts, by the content of its table; none for keys of formulas, which are reported separately
 
 abbrev pub fault_in : Basis → ℕ → List ℕ → Kind → Result Members Cause → Option (Key × Cause)
 fault_in basis row name kind (Err cause) = fault_at row 0 cause

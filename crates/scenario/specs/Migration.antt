@@ -1,4 +1,4 @@
--- The scenario of version 2 that a scenario of version 1 becomes.
+-- The migration of a scenario of version 1 to version 2.
 use Rattle.std.specs.Prelude.{◌≡◌, ◌⊎◌, ◌≤◌, ◌<◌, ◌==◌, ◌&&◌, ◌++◌, ℕ, pos, codes, bytes_eq, List, [], ◌∷◌, map, Bool, true, false, is_some, if◌then◌else◌, Option, Some, None}
 use Rattle.std.specs.List.{find, list_any}
 use Rattle.toml.specs.Data.{Data, integer, array, Items, Members, no_members, member, as_array, get_member, is_before}
@@ -28,7 +28,7 @@ use Rattle.scenario.specs.ScenarioReading.{IsNoToml, IsRefused, Means, Reads}
 use Rattle.scenario.specs.declared.purpose.Purpose.{Purpose}
 use Rattle.scenario_values.specs.declared.values.Scenario.{Scenario}
 
--- of a table of `formula` its name and its text, and of one of `predict` its changes and its ship
+-- the name and the text of a table of `formula`, or the changes and the ship of a table of `predict`
 
 abbrev pub member_if : List ℕ → Option Data → Members → Members
 member_if name None rest = rest
@@ -43,7 +43,7 @@ known_members list here =
     then two_of (codes "name") (codes "text") here
     else two_of (codes "changes") (codes "mmsi") here
 
--- what is kept of what stands at a key: all of it, but of a list of tables the known members
+-- the part of a key's value that migration keeps: all of it, but only the known members of a list of tables
 
 abbrev pub kept_array : List ℕ → Data → Option Items → Data
 kept_array name found None = found
@@ -57,7 +57,7 @@ abbrev pub kept : Row → Option Data → Option Data
 kept row None = None
 kept row (Some found) = Some (kept_by row.kind row.name found)
 
--- what stands at a key of a table
+-- the value at a key of a table
 abbrev pub found_at : List ℕ → List ℕ → Members → Option Data
 found_at table name document = found_in name (table_at table document)
 
@@ -65,12 +65,12 @@ found_at table name document = found_in name (table_at table document)
 unfoldable pub has_own : Members → Bool
 has_own document = is_some (get_member (codes "own") document)
 
--- All that the document has counts: her keys, and ranks if it wants them.
+-- Everything in the document counts: her keys, and ranks if it asks for them.
 abbrev pub for_migration : Members → Purpose
 for_migration document = record { need_own = has_own document; ranks = Counted }
 
--- What a key holds in version 2: each of the safe distances what `rules.safe` holds, `version` 2, and any other what it held. The
--- keys that count for own ship alone are left out if the document has none.
+-- The value of a key in version 2: each of the safe distances has the value of `rules.safe`, `version` is 2, and any
+-- other key keeps its value. Keys that count only for own ship are left out if the document has none.
 
 abbrev pub new_value_when : When → Row → Members → Option Data
 new_value_when when.InVersionTwo row document = found_at (codes "rules") (codes "safe") document
@@ -81,7 +81,7 @@ new_value_when _ row document = if row.number == 1 then Some (integer (pos 2)) e
 unfoldable pub new_value : Members → Row → Option Data
 new_value document row = new_value_when row.when row document
 
--- the rows that are of one key, and not of several or of what stands in a list
+-- the rows of one key, not of several keys or of the content of a list
 
 abbrev pub is_key : Kind → Bool
 is_key (kind.Number range) = true
@@ -93,7 +93,7 @@ is_key _ = false
 abbrev pub is_key_of : List ℕ → Row → Bool
 is_key_of table row = is_key row.kind && bytes_eq row.table table
 
--- What a table holds at a name in version 2: the new value of the key that stands there, and nothing if none does.
+-- The value at a name of a table in version 2: the new value of the key with this name, or nothing without such a key.
 
 abbrev pub is_key_at : List ℕ → List ℕ → Row → Bool
 is_key_at table name row = is_key_of table row && bytes_eq name row.name
@@ -114,7 +114,7 @@ are_in_order (member name found rest) = is_before name rest && are_in_order rest
 abbrev pub AreKeysOf : Members → List ℕ → Members → Type 0
 AreKeysOf document table keys = (are_in_order keys ≡ true) × ((name : List ℕ) → get_member name keys ≡ value_at document table name)
 
--- the tables in which keys stand
+-- the tables that contain keys
 abbrev pub table_names : List (List ℕ)
 table_names =
     codes "window" ∷ codes "reference" ∷ codes "log" ∷ codes "detect" ∷ codes "act" ∷ codes "rules" ∷ codes "own" ∷ []
@@ -123,7 +123,8 @@ table_names =
 abbrev pub has_table : Members → List ℕ → Bool
 has_table document name = list_any (bytes_eq name) table_names && is_some (get_member name document)
 
--- The document of version 2: each table of keys that the document of version 1 has, with its keys, the keys that stand in no table, and nothing else.
+-- The document of version 2: each table of keys that the document of version 1 has, with its keys, the keys outside
+-- tables, and nothing else.
 pub record IsMigratedDocument (document after : Members) : Type 0 where
   pub in_order : are_in_order after ≡ true
   pub tables :
@@ -131,7 +132,8 @@ pub record IsMigratedDocument (document after : Members) : Type 0 where
       → (keys : Members) × (get_member name after ≡ Some (toml.table keys)) × AreKeysOf document name keys
   pub keys : (name : List ℕ) → has_table document name ≡ false → get_member name after ≡ value_at document [] name
 
--- The text is that of the document of version 2, and is read as it. The document of version 1 has no fault.
+-- The text is that of the document of version 2, and reading it returns this document. The document of version 1 has no
+-- fault.
 pub record IsMigrated (bytes text : List ℕ) : Type 0 where
   pub document : Members
   pub reads : Reads bytes document
@@ -142,7 +144,7 @@ pub record IsMigrated (bytes text : List ℕ) : Type 0 where
   pub printed : IsDocumentText false after text
   pub read_again : Reads text after
 
--- The bytes are of version 2: that is a fault of `version`, whatever else they hold.
+-- The bytes have version 2, which is a fault of `version`, whatever else they contain.
 pub record IsOfVersionTwo (bytes : List ℕ) (key : Key) (why : Cause) : Type 0 where
   pub document : Members
   pub reads : Reads bytes document
@@ -150,7 +152,7 @@ pub record IsOfVersionTwo (bytes : List ℕ) (key : Key) (why : Cause) : Type 0 
   pub at : key ≡ record { row = 1; item = 0 }
   pub because : why ≡ cause.Range
 
--- The first fault of the keys of another document, if all that it has counts.
+-- The first fault of the keys of any other document, if everything in it counts.
 pub record HasFirstFault (bytes : List ℕ) (key : Key) (why : Cause) : Type 0 where
   pub document : Members
   pub reads : Reads bytes document
@@ -160,7 +162,8 @@ pub record HasFirstFault (bytes : List ℕ) (key : Key) (why : Cause) : Type 0 w
 abbrev pub IsNotMigrated : List ℕ → Key → Cause → Type 0
 IsNotMigrated bytes key why = IsNoToml bytes key why ⊎ (IsOfVersionTwo bytes key why ⊎ HasFirstFault bytes key why)
 
--- The second scenario is the first one, but that the rules have the safe distance of the first for each kind of encounter.
+-- The second scenario equals the first one, except that its rules have the safe distance of the first for each kind of
+-- encounter.
 pub record HasSafePerKind (scenario other : Scenario) : Type 0 where
   pub ranks : Ranking
   pub tick : ℕ

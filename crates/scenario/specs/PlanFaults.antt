@@ -1,4 +1,4 @@
--- Whether own ship's plans are too many, or too long.
+-- The faults of own ship's plans: too many, or too long.
 use Rattle.std.specs.Prelude.{ℕ, ◌+◌, ◌*◌, ◌^◌, ◌&&◌, nat_le, Bool, codes, length, if◌then◌else◌, Option, Some, None}
 use Rattle.toml.specs.Data.{Members}
 use Rattle.scenario_keys.specs.KeyValues.{list_at, natural_at}

@@ -1,4 +1,4 @@
--- What a scenario is read for, and whether ranks count in what is read.
+-- The purpose of reading a scenario, and whether ranks count for it.
 use Rattle.std.specs.Prelude.{◌==◌, ℤ, pos, negsuc, codes, Bool, true, false, if◌then◌else◌, Option, Some, None}
 use Rattle.toml.specs.Data.{Members}
 use Rattle.rule_set.specs.declared.ranking.Ranking.{Ranking}
@@ -6,12 +6,12 @@ use Rattle.rule_set.specs.declared.ranking.Ranking.TheVariants.{Ignored, Counted
 use Rattle.scenario_keys.specs.KeyValues.{integer_at}
 use Rattle.scenario.specs.declared.purpose.Purpose.{Purpose}
 
--- To seek a manoeuvre, for which own ship is needed, ranks are ignored. To judge vessels, for which she is not, they count.
+-- A search for a manoeuvre needs own ship and ignores ranks. Judging vessels does not need her, and ranks count.
 abbrev pub purpose_by : Bool → Purpose
 purpose_by true = record { need_own = true; ranks = Ignored }
 purpose_by false = record { need_own = false; ranks = Counted }
 
--- The document wants ranks to count if its key of them is 1.
+-- The document asks for ranks if their key is 1.
 
 abbrev pub is_one : Option ℤ → Bool
 is_one None = false
@@ -21,7 +21,7 @@ is_one (Some (negsuc n)) = false
 unfoldable pub wants_ranks : Members → Bool
 wants_ranks document = is_one (integer_at (codes "rules") (codes "ranks") document)
 
--- They count if the document wants them to, if they do for this purpose.
+-- They count if the document asks for them and they count for this purpose.
 unfoldable pub ranking_of : Purpose → Members → Ranking
 ranking_of purpose document = if wants_ranks document then purpose.ranks else Ignored
 

@@ -11,8 +11,8 @@ use Rattle.scenario.specs.KeyFaults.{is_version_two, tick_of}
 use Rattle.scenario.specs.Purposes.{ranking_of}
 use Rattle.scenario.specs.declared.purpose.Purpose.{Purpose}
 
--- the numbers of the rules' formulas, in metres and seconds; the safe distance is one in version 1, and one for each kind of
--- encounter in version 2
+-- the numbers of the rules' formulas, in metres and seconds; version 1 has a single safe distance, and version 2 one
+-- per kind of encounter
 unfoldable pub safe_of : Members → Safe
 safe_of document =
     if is_version_two document

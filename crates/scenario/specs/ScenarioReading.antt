@@ -1,4 +1,4 @@
--- What the bytes of a scenario say: its values, or its first fault.
+-- The reading of a scenario's bytes: its values, or its first fault.
 use Rattle.std.specs.Prelude.{◌≡◌, ◌⊎◌, ℕ, Bool, List, Some, IsUtf8}
 use Rattle.toml.specs.Data.{Members}
 use Rattle.toml.specs.Parse.{parse_document}
@@ -16,8 +16,8 @@ pub record Reads (bytes : List ℕ) (document : Members) : Type 0 where
   pub text : IsUtf8 bytes
   pub tree : parse_document bytes ≡ Some document
 
--- The bytes mean a scenario, with own ship if she is needed, and otherwise with ranks if they want them: no key that counts has a
--- fault, and the values are those at the keys.
+-- The bytes mean a scenario, with own ship if she is needed, and otherwise with ranks if they ask for them: no key that
+-- counts has a fault, and the values are those at the keys.
 pub record Means (need_own : Bool) (bytes : List ℕ) (scenario : Scenario) : Type 0 where
   pub document : Members
   pub reads : Reads bytes document
@@ -25,13 +25,13 @@ pub record Means (need_own : Bool) (bytes : List ℕ) (scenario : Scenario) : Ty
   pub rules : AreRulesOf (purpose_by need_own) document scenario.rules
   pub values : scenario ≡ scenario_of (purpose_by need_own) document scenario.rules
 
--- The bytes are no TOML document: that is the fault of the first row, `document`.
+-- The bytes are not a TOML document, which is the fault of the first row, `document`.
 pub record IsNoToml (bytes : List ℕ) (key : Key) (why : Cause) : Type 0 where
   pub at : key ≡ record { row = 0; item = 0 }
   pub because : why ≡ cause.NotToml
   pub unread : (document : Members) → ¬ Reads bytes document
 
--- The first fault of the document that the bytes are.
+-- The first fault of the document of the bytes.
 pub record IsFaultOfKey (need_own : Bool) (bytes : List ℕ) (key : Key) (why : Cause) : Type 0 where
   pub document : Members
   pub reads : Reads bytes document
@@ -43,13 +43,13 @@ IsRefused need_own bytes key why = IsNoToml bytes key why ⊎ IsFaultOfKey need_
 
 -- ---- the one reading
 
--- The bytes mean this scenario, and no other, and are not refused.
+-- The bytes mean only this scenario, and are not refused.
 pub record IsOnlyMeaning (need_own : Bool) (bytes : List ℕ) (scenario : Scenario) : Type 0 where
   pub means : Means need_own bytes scenario
   pub only : (other : Scenario) → Means need_own bytes other → other ≡ scenario
   pub accepted : (key : Key) (why : Cause) → ¬ IsRefused need_own bytes key why
 
--- They are refused at this key for this cause, at no other and for no other, and mean no scenario.
+-- They are refused only at this key and only for this cause, and mean no scenario.
 pub record IsOnlyRefusal (need_own : Bool) (bytes : List ℕ) (key : Key) (why : Cause) : Type 0 where
   pub refused : IsRefused need_own bytes key why
   pub only : (other : Key) (because : Cause) → IsRefused need_own bytes other because → (other ≡ key) × (because ≡ why)

@@ -19,7 +19,7 @@ use Rattle.scenario_values.specs.declared.values.Window.{Window}
 use Rattle.scenario_values.specs.declared.values.LogNumbers.{LogNumbers}
 use Rattle.scenario_values.specs.declared.values.Scenario.{Scenario}
 
--- the window of ticks: `start` in seconds since 1970, `tick` in seconds, and how many ticks
+-- the window of ticks: `start` in seconds since 1970, `tick` in seconds, and the number of ticks
 unfoldable pub window_of : Members → Window
 window_of document = record {
   start = natural_at (codes "window") (codes "start") document;
@@ -34,7 +34,7 @@ reference_of document = record {
   longitude = whole_at (codes "reference") (codes "lon") document;
 }
 
--- the numbers by which a log's lines are judged
+-- the numbers for judging a log's lines
 unfoldable pub log_numbers_of : Members → LogNumbers
 log_numbers_of document = record {
   gap = natural_at (codes "log") (codes "gap") document;
@@ -47,7 +47,7 @@ log_numbers_of document = record {
 unfoldable pub units_at : List ℕ → List ℕ → Members → ℕ
 units_at table name document = 10000 * natural_at table name document
 
--- when two vessels are in risk of collision, and when past and clear; the horizon in ticks
+-- the limits for risk of collision, and for past and clear; the horizon in ticks
 unfoldable pub detect_of : Members → Detect
 detect_of document = record {
   watch = units_at (codes "detect") (codes "watch") document;
@@ -61,7 +61,7 @@ detect_of document = record {
   };
 }
 
--- what counts as keeping course and speed, and what as a readily apparent alteration
+-- the limits for keeping course and speed, and for a readily apparent alteration
 unfoldable pub act_of : Members → Act
 act_of document = record {
   steady_turn = natural_at (codes "act") (codes "steady_turn") document;
@@ -112,6 +112,6 @@ scenario_with rules ranks own document = record {
   own = own;
 }
 
--- the values that a document without a fault has for a purpose, with these rules
+-- the values of a document without a fault for a purpose, with these rules
 abbrev pub scenario_of : Purpose → Members → List NamedTree → Scenario
 scenario_of purpose document rules = scenario_with rules (ranking_of purpose document) (own_where purpose.need_own document) document

@@ -1,5 +1,6 @@
--- The shape of own ship's part: six vertices, each a list of two integers. Its fault is that of the first vertex that is no list of
--- integers, then of other than six vertices, then of the first that is not two integers within their range, then of no shape.
+-- The shape of own ship's part: six vertices, each a list of two integers. Its fault is that of the first vertex that
+-- is not a list of integers, then of a number of vertices other than six, then of the first vertex that is not two
+-- integers within their range, then of vertices that form no shape.
 use Rattle.std.specs.Prelude.{ℕ, List, [], ◌∷◌, length, map, position, not, is_none, unwrap_or, Bool, if◌then◌else◌, Option, Some, None, ℤ, pos}
 use Rattle.toml.specs.Data.{Data, Items, as_array}
 use Rattle.hull_domains.specs.Shapes.{is_near_vertex, shape_of}
@@ -21,7 +22,8 @@ vertex_by _ = None
 abbrev pub vertex_in : Data → Option (ℤ × ℤ)
 vertex_in found = vertex_by (integers_in found)
 
--- the shape of a list, if it is one; the vessel herself stands for what is no vertex, and no shape has her as a vertex
+-- the shape of a list, if it forms one; an element that is not a vertex becomes the vessel's own place, which no shape
+-- has as a vertex
 
 abbrev pub vertex_of : Data → ℤ × ℤ
 vertex_of found = unwrap_or (vertex_in found) (pos 0, pos 0)

@@ -1,4 +1,4 @@
-//! What the tests of all keys stand on.
+//! The values that the tests of all keys depend on.
 ghost use Rattle.std.specs.Prelude.{◌≡◌, ◌≤◌};
 ghost use Rattle.toml.specs.View.{table_view};
 ghost use Rattle.scenario.specs.KeyFaults.{basis_of, counts, is_version_two, tick_of};
@@ -6,18 +6,18 @@ ghost use Rattle.scenario.specs.KeyFaults.{basis_of, counts, is_version_two, tic
 use scenario_keys::{When, integer_found};
 use toml::Table;
 
-/// The values of a document on which the tests of other keys stand.
+/// The values of a document that the tests of other keys depend on.
 #[derive(Clone, Copy, PartialEq, Eq)]
 pub struct Basis {
     /// The length of a tick, 1 to 60 s.
     pub tick: u32,
-    /// Whether the keys are those of version 2, and not of version 1.
+    /// Whether the keys are those of version 2 instead of version 1.
     pub is_version_two: bool,
     /// Whether own ship is needed.
     pub need_own: bool,
 }
 
-/// The seconds of a tick, or 1 if the document has none.
+/// Returns the seconds of a tick, or 1 if the document has none.
 #[tactic(auto, unfolding(crate::specs::KeyFaults::tick_of))]
 pub(crate) fn tick_of(document: &Table) -> u32
     ensures value { result ≡ tick_of (table_view document.now) }
@@ -30,7 +30,7 @@ pub(crate) fn tick_of(document: &Table) -> u32
     }
 }
 
-/// Whether the keys are those of version 2.
+/// Returns whether the keys are those of version 2.
 #[tactic(auto, unfolding(crate::specs::KeyFaults::is_version_two))]
 pub(crate) fn is_version_two(document: &Table) -> bool
     ensures { result ≡ is_version_two (table_view document.now) }
@@ -49,7 +49,7 @@ pub(crate) fn basis_of(document: &Table, need_own: bool) -> Basis
     }
 }
 
-/// Whether a key is checked.
+/// Returns whether a key is checked.
 pub(crate) fn counts(basis: Basis, when: When) -> bool
     ensures { result ≡ counts basis when }
 {

@@ -1,4 +1,4 @@
-//! The first fault of a document's keys but for those of formulas, in the order of their table.
+//! The first fault of a document's keys, except those of formulas, in the order of their table.
 ghost use Rattle.std.specs.Prelude.{◌≡◌, ◌≤◌, map};
 ghost use Rattle.toml.specs.View.{table_view};
 ghost use Rattle.rule_set.specs.declared.ranking.Ranking.{Ranking};
@@ -20,7 +20,7 @@ use scenario_keys::{
 };
 use toml::Table;
 
-/// The fault of a key, if it counts and has one.
+/// Returns the fault of a key, if it counts and has one.
 #[tactic(auto, unfolding(crate::specs::KeyFaults::fault_of))]
 fn fault_of(basis: Basis, document: &Table, row: &KeyRow) -> Option<(Key, Cause)>
     requires { 1 ≤ basis.tick }
@@ -59,7 +59,7 @@ fn fault_of(basis: Basis, document: &Table, row: &KeyRow) -> Option<(Key, Cause)
     }
 }
 
-/// The fault of the first of some keys that has one.
+/// Returns the fault of the first key that has one, among some keys.
 fn first_among(basis: Basis, document: &Table, rows: &[KeyRow]) -> Option<(Key, Cause)>
     requires { 1 ≤ basis.tick }
     ensures { result ≡ first_of
@@ -73,7 +73,7 @@ fn first_among(basis: Basis, document: &Table, rows: &[KeyRow]) -> Option<(Key, 
     None
 }
 
-/// The first fault of the keys before those of formulas.
+/// Returns the first fault of the keys before those of formulas.
 pub(crate) fn first_fault(basis: Basis, document: &Table) -> Option<(Key, Cause)>
     requires { 1 ≤ basis.tick }
     ensures { (ranks : Ranking)
@@ -82,7 +82,7 @@ pub(crate) fn first_fault(basis: Basis, document: &Table) -> Option<(Key, Cause)
     first_among(basis, document, first_rows())
 }
 
-/// The first fault of the keys of own ship.
+/// Returns the first fault of the keys of own ship.
 pub(crate) fn own_fault(basis: Basis, document: &Table) -> Option<(Key, Cause)>
     requires { 1 ≤ basis.tick }
     ensures { (ranks : Ranking)

@@ -9,7 +9,7 @@ ghost use Rattle.scenario.specs.Inner.NoFaults.{HaveNoFault};
 use scenario_keys::{found, integer_found};
 use toml::Table;
 
-/// The integer at a key that has no fault, if the key has one. Its range lies within the two numbers.
+/// Returns the integer at a key that has no fault, if the key has one. Its range is within the two numbers.
 fn known(document: &Table, table: &str, name: &str, low: i64, high: i64) -> Option<i64>
     requires faultless { HaveNoFault (is_own table.now) (table_view document.now) }
     requires known { lies_in low high
@@ -32,7 +32,7 @@ fn known(document: &Table, table: &str, name: &str, low: i64, high: i64) -> Opti
     integer_found(document, table, name)
 }
 
-/// The integer at a key whose range lies within the two numbers, in a document without a fault.
+/// Returns the integer at a key whose range is within the two numbers, in a document without a fault.
 fn integer(document: &Table, table: &str, name: &str, low: i64, high: i64) -> i64
     requires faultless { HaveNoFault (is_own table.now) (table_view document.now) }
     requires known { lies_in low high
@@ -60,7 +60,7 @@ fn integer(document: &Table, table: &str, name: &str, low: i64, high: i64) -> i6
     }
 }
 
-/// The same of a key whose integers fit 32 bits.
+/// Returns the same for a key whose integers fit 32 bits.
 pub(crate) fn small_integer(document: &Table, table: &str, name: &str) -> i32
     requires faultless { HaveNoFault (is_own table.now) (table_view document.now) }
     requires known { lies_in (negsuc 2147483647) (pos 2147483647)
@@ -83,7 +83,7 @@ pub(crate) fn small_integer(document: &Table, table: &str, name: &str) -> i32
     ) as i32
 }
 
-/// The same of a key whose integers fit 32 bits, none of them below 0.
+/// Returns the same for a key whose integers fit 32 bits and are not negative.
 pub(crate) fn natural(document: &Table, table: &str, name: &str) -> u32
     requires faultless { HaveNoFault (is_own table.now) (table_view document.now) }
     requires known { lies_in (pos 0) (pos 4294967295)
@@ -107,7 +107,7 @@ pub(crate) fn natural(document: &Table, table: &str, name: &str) -> u32
     integer(document, table, name, 0, i64::from(u32::MAX)) as u32
 }
 
-/// The same of a key whose integers fit 16 bits.
+/// Returns the same for a key whose integers fit 16 bits.
 pub(crate) fn short_natural(document: &Table, table: &str, name: &str) -> u16
     requires faultless { HaveNoFault (is_own table.now) (table_view document.now) }
     requires known { lies_in (pos 0) (pos 65535)
@@ -124,7 +124,7 @@ pub(crate) fn short_natural(document: &Table, table: &str, name: &str) -> u16
     integer(document, table, name, 0, i64::from(u16::MAX)) as u16
 }
 
-/// The same of a key whose integers do not fit 32 bits.
+/// Returns the same for a key whose integers do not fit 32 bits.
 pub(crate) fn long_natural(document: &Table, table: &str, name: &str) -> u64
     requires faultless { HaveNoFault (is_own table.now) (table_view document.now) }
     requires known { lies_in (pos 0) (pos 9223372036854775807)
@@ -148,7 +148,7 @@ fn integer_or(document: &Table, table: &str, name: &str, otherwise: i64) -> Opti
     }
 }
 
-/// The integer at a key that has no fault, or the other number if the key is left out.
+/// Returns the integer at a key that has no fault, or the other number if the key is left out.
 fn known_or(
     document: &Table,
     table: &str,
@@ -173,7 +173,7 @@ fn known_or(
     integer_or(document, table, name, otherwise)
 }
 
-/// The integer at a key that may be left out for another number, in a document without a fault.
+/// Returns the integer at an optional key, or its default, in a document without a fault.
 #[tactic(auto, unfolding(scenario_keys::specs::KeyValues::optional_at))]
 pub(crate) fn optional(document: &Table, table: &str, name: &str, otherwise: u32) -> u32
     requires faultless { HaveNoFault (is_own table.now) (table_view document.now) }

@@ -1,10 +1,10 @@
 //! The scenario of a run: its values, or the first fault in the order of its keys, from its TOML text.
 //!
-//! The keys are listed in one table, in `scenario_keys`. A document is tested row by row, and the first row with a fault is the
-//! answer. The values are read after that and cannot fail.
+//! The keys are listed in one table, in `scenario_keys`. It tests a document row by row and returns the fault of the
+//! first row that has one. Reading the values after that cannot fail.
 //!
-//! A scenario of `version = 3` and `tick = 0` has the fault `version: range`: that row comes first.
-//! How one key is judged is out of scope: `scenario_keys` defines that.
+//! A scenario of `version = 3` and `tick = 0` has the fault `version: range`: that row is the first one. The test of
+//! one key is out of scope: `scenario_keys` defines it.
 #![tactic(auto)]
 
 mod basis;

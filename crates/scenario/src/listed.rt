@@ -13,7 +13,7 @@ use std::alloc::{AllocError, Global};
 use toml::value::Array;
 use toml::{Table, Value};
 
-/// The array at a key.
+/// Returns the array at a key.
 pub(crate) fn array<'a>(document: &'a Table, table: &str, name: &str) -> Option<&'a Array>
     ensures { option_map (λ a. array_view a.now) result
         ≡ array_in (found_in name.now (table_at table.now (table_view document.now))) }
@@ -24,7 +24,7 @@ pub(crate) fn array<'a>(document: &'a Table, table: &str, name: &str) -> Option<
     }
 }
 
-/// The values of the list at a key of the document, none if it is left out.
+/// Returns the values of the list at a key of the document, or none without the key.
 #[tactic(auto, using(crate::proofs::ListsHeld::values_at, crate::proofs::ListsHeld::nothing_at))]
 pub(crate) fn values_at<'a>(document: &'a Table, name: &str) -> &'a [Value]
     ensures { map view result.now ≡ list_at (codes "") name.now (table_view document.now) }
@@ -74,7 +74,7 @@ fn naturals_found(
     }
 }
 
-/// The integers of the list at a key, none of them below 0, in a document without a fault.
+/// Returns the integers of the list at a key, none of them below 0, in a document without a fault.
 pub(crate) fn naturals(
     alloc: Global,
     document: &Table,
@@ -145,7 +145,7 @@ fn shorts_found(
     }
 }
 
-/// The integers of the list at a key, which fit 16 bits, in a document without a fault.
+/// Returns the integers of the list at a key, which fit 16 bits, in a document without a fault.
 pub(crate) fn shorts(
     alloc: Global,
     document: &Table,

@@ -29,7 +29,7 @@ use std::alloc::{AllocError, Global};
 use toml::value::Array;
 use toml::{Table, Value};
 
-/// The tables in which keys stand.
+/// The tables that contain keys.
 const TABLES: [&str; 7] = [
     "window",
     "reference",
@@ -40,7 +40,7 @@ const TABLES: [&str; 7] = [
     "own",
 ];
 
-/// Whether the document has own ship.
+/// Returns whether the document has own ship.
 #[tactic(auto, unfolding(crate::specs::Migration::has_own))]
 fn has_own(document: &Table) -> bool
     ensures { result ≡ has_own (table_view document.now) }
@@ -48,7 +48,7 @@ fn has_own(document: &Table) -> bool
     value(document, "own").is_some()
 }
 
-/// All that the document has counts: own ship's keys, and ranks if it wants them.
+/// Returns the purpose for which everything in the document counts: own ship's keys, and ranks if it asks for them.
 fn for_migration(document: &Table) -> Purpose
     ensures { result ≡ for_migration (table_view document.now) }
 {
@@ -58,7 +58,7 @@ fn for_migration(document: &Table) -> Purpose
     }
 }
 
-/// Puts a member to those that are there.
+/// Adds a member.
 fn put(alloc: Global, members: &mut Table, name: &str, value: Value) -> Result<(), AllocError>
     ensures { OnOk result
         (table_view members.new ≡ with_member name.now (view value) (table_view members.old)) }
@@ -68,7 +68,7 @@ fn put(alloc: Global, members: &mut Table, name: &str, value: Value) -> Result<(
     Ok(())
 }
 
-/// Puts a copy of what was found, if something was.
+/// Adds a copy of a value, if there is one.
 fn put_found(
     alloc: Global,
     members: &mut Table,
@@ -85,7 +85,7 @@ fn put_found(
     }
 }
 
-/// A table of the members of these two names alone, which ascend.
+/// Returns a table with only the members of these two names, in ascending order.
 fn two_of(alloc: Global, here: &Value, first: &str, second: &str) -> Result<Value, AllocError>
     requires { slice_cmp nat_cmp second.now first.now ≡ Greater }
     ensures { IfOk result (λ v. view v ≡ two_of first.now second.now (view here.now)) }
@@ -96,7 +96,7 @@ fn two_of(alloc: Global, here: &Value, first: &str, second: &str) -> Result<Valu
     Ok(Value::Table(members))
 }
 
-/// A table of `formula`, or of `predict`, with its known members alone.
+/// Returns a table of `formula` or `predict` with only its known members.
 fn known_members(alloc: Global, list: &str, here: &Value) -> Result<Value, AllocError>
     ensures { IfOk result (λ v. view v ≡ known_members list.now (view here.now)) }
 {
@@ -117,7 +117,7 @@ fn known_tables(alloc: Global, list: &str, tables: &Array) -> Result<Array, Allo
     Ok(known)
 }
 
-/// What is kept of what stands at a key.
+/// Returns the part of a key's value that migration keeps.
 fn kept(alloc: Global, row: &KeyRow, found: &Value) -> Result<Value, AllocError>
     ensures { IfOk result (λ v. view v ≡ kept_by row.now.kind row.now.name.now (view found.now)) }
 {
@@ -142,7 +142,7 @@ fn kept_at(alloc: Global, document: &Table, row: &KeyRow) -> Result<Option<Value
     }
 }
 
-/// The safe distance of version 1.
+/// Returns the safe distance of version 1.
 fn safe_at(document: &Table) -> Result<Option<Value>, AllocError>
     ensures { IfOk result
         (λ v. option_map view v
@@ -154,7 +154,7 @@ fn safe_at(document: &Table) -> Result<Option<Value>, AllocError>
     }
 }
 
-/// What a key holds in version 2, if the document has something for it.
+/// Returns the value of a key in version 2, if the document has one.
 #[tactic(auto, unfolding(crate::specs::Migration::new_value))]
 fn new_value(alloc: Global, document: &Table, row: &KeyRow) -> Result<Option<Value>, AllocError>
     ensures { IfOk result
@@ -179,7 +179,7 @@ fn new_value(alloc: Global, document: &Table, row: &KeyRow) -> Result<Option<Val
     }
 }
 
-/// Puts a key, if it is one of the table's.
+/// Adds a key, if it belongs to the table.
 fn put_key(
     alloc: Global,
     document: &Table,
@@ -222,7 +222,7 @@ fn with_keys(
     Ok(members)
 }
 
-/// The keys of a table, with what they hold in version 2.
+/// Returns the keys of a table, with their values in version 2.
 #[tactic(auto, unfolding(crate::specs::Inner::PutTogether::keys_of))]
 fn keys_of(alloc: Global, document: &Table, table: &str) -> Result<Table, AllocError>
     ensures { IfOk result (λ t. table_view t ≡ keys_of (table_view document.now) table.now) }
@@ -267,7 +267,7 @@ fn with_tables(
     Ok(members)
 }
 
-/// The document of version 2.
+/// Returns the document of version 2.
 #[tactic(auto, unfolding(crate::specs::Inner::PutTogether::migrated))]
 fn migrated(alloc: Global, document: &Table) -> Result<Table, AllocError>
     ensures { IfOk result (λ t. table_view t ≡ migrated (table_view document.now)) }
@@ -276,7 +276,7 @@ fn migrated(alloc: Global, document: &Table) -> Result<Table, AllocError>
     with_tables(alloc, document, &TABLES, members)
 }
 
-/// The text of a document. Its numbers and texts are no dates, so only memory may run out.
+/// Returns the text of a document. Its values include no dates, so only memory may run out.
 fn text_of(alloc: Global, document: &Table) -> Result<Vec<u8>, ScenarioFault>
     requires { members_depth (table_view document.now) ≤ 5 }
     ensures printed { IfOk result (λ v. IsDocumentText false (table_view document.now) v.items) }
@@ -289,7 +289,7 @@ fn text_of(alloc: Global, document: &Table) -> Result<Vec<u8>, ScenarioFault>
     }
 }
 
-/// The text of version 2 of a document of version 1 without a fault.
+/// Returns the text of version 2 of a document of version 1 without a fault.
 fn migrated_text(alloc: Global, document: &Table) -> Result<Vec<u8>, ScenarioFault>
     requires version_one { is_version_two (table_view document.now) ≡ false }
     requires faultless { IsFaultless (for_migration (table_view document.now))
@@ -316,12 +316,12 @@ fn migration(alloc: Global, bytes: &[u8]) -> Result<Vec<u8>, ScenarioFault>
     migrated_text(alloc, &document)
 }
 
-/// Turns a scenario of version 1 into one of version 2 with the same meaning, or returns the exact reason why it does not: it is of version 2
-/// already, or it has a fault. Memory may run out instead.
+/// Turns a scenario of version 1 into one of version 2 with the same meaning, or returns the exact reason why it
+/// cannot: the scenario already has version 2, or it has a fault. Memory may run out instead.
 ///
-/// The text holds only the known keys; comments are gone. Own ship's keys are kept if the scenario has them, and so are ranks. Predictions
-/// of other vessels are kept only with her. Each kind of encounter has the one safe distance that the scenario had. If this makes
-/// the rules too heavy, the text is refused as `formulas: product`.
+/// The text has only the known keys, without comments. It keeps own ship's keys and ranks if the scenario has them, and
+/// predictions of other vessels only with own ship. Each kind of encounter has the single safe distance of the
+/// scenario. If this makes the rules too heavy, reading the text returns the fault `formulas: product`.
 pub fn migrate(alloc: Global, bytes: &[u8]) -> Result<Vec<u8>, ScenarioFault>
     ensures migrated { IfOk result (λ text. IsMigrated bytes.now text.items) }
     ensures same { IfOk result

@@ -1,4 +1,4 @@
-//! Own ship, and the plans among which a manoeuvre is searched for.
+//! Own ship, and the plans for a manoeuvre.
 ghost use Rattle.std.specs.Prelude.{◌≡◌, ◌≤◌, ◌*◌, neg_ℤ, pos, unsigned_abs, codes, length, map, All, IfOk, IfSome, true};
 ghost use Rattle.toml.specs.View.{table_view, view};
 ghost use Rattle.lattice.specs.Grids.{positions_of};
@@ -42,7 +42,7 @@ fn speeds_in(alloc: Global, document: &Table) -> Result<Vec<i16>, AllocError>
     shorts(alloc, document, "own", "speeds")
 }
 
-/// The lattice of these changes of course and of speed, with the other numbers of the document.
+/// Returns the lattice of these changes of course and of speed, with the other numbers of the document.
 #[tactic(auto, unfolding(crate::specs::ScenarioValues::grid_of, crate::specs::Inner::KnownKeys::kind_at, scenario_keys::specs::ScenarioKeys::own_rows))]
 fn lattice_of(alloc: Global, document: &Table, courses: &[i16], speeds: &[i16]) -> Lattice
     requires faultless { HaveNoFault true (table_view document.now) }
@@ -86,7 +86,7 @@ fn lattice_in(alloc: Global, document: &Table) -> Result<Lattice, AllocError>
     Ok(lattice_of(alloc, document, &courses, &speeds))
 }
 
-/// The tables of `predict`, none if it is left out.
+/// Returns the tables of `predict`, or none without the key.
 fn predict_tables(document: &Table) -> &[Value]
     requires { HaveNoFault true (table_view document.now) }
     ensures tables { map view result.now
@@ -96,7 +96,7 @@ fn predict_tables(document: &Table) -> &[Value]
     values_at(document, "predict")
 }
 
-/// What is predicted of other vessels.
+/// Returns the predictions of other vessels.
 fn predictions_in(alloc: Global, document: &Table) -> Result<Predictions, AllocError>
     requires { HaveNoFault true (table_view document.now) }
     ensures values { IfOk result
@@ -108,7 +108,7 @@ fn predictions_in(alloc: Global, document: &Table) -> Result<Predictions, AllocE
     predictions_of(alloc, predict_tables(document))
 }
 
-/// Own ship with this lattice, and with what is predicted.
+/// Returns own ship with this lattice and these predictions.
 #[tactic(auto, unfolding(crate::specs::ScenarioValues::own_of, crate::specs::Inner::KnownKeys::kind_at, scenario_keys::specs::ScenarioKeys::own_rows))]
 fn own_with(document: &Table, lattice: Lattice, predict: Predictions) -> OwnPart
     requires faultless { HaveNoFault true (table_view document.now) }
@@ -132,7 +132,7 @@ fn own_with(document: &Table, lattice: Lattice, predict: Predictions) -> OwnPart
     }
 }
 
-/// Own ship of a document without a fault.
+/// Returns own ship of a document without a fault.
 fn own_in(alloc: Global, document: &Table) -> Result<OwnPart, AllocError>
     requires { HaveNoFault true (table_view document.now) }
     ensures values { IfOk result (λ o. o ≡ own_of (table_view document.now)) }
@@ -143,7 +143,7 @@ fn own_in(alloc: Global, document: &Table) -> Result<OwnPart, AllocError>
     Ok(own_with(document, lattice, predict))
 }
 
-/// Own ship of a document without a fault, if she is needed.
+/// Returns own ship of a document without a fault, if she is needed.
 pub(crate) fn own_where(
     alloc: Global,
     document: &Table,

@@ -1,4 +1,4 @@
-//! Whether own ship's plans are too many, or too long.
+//! The sizes of own ship's plans: their number and length.
 ghost use Rattle.std.specs.Prelude.{◌≡◌, ◌≤◌, codes, length, pos, true};
 ghost use Rattle.toml.specs.View.{table_view};
 ghost use Rattle.scenario_keys.specs.KeyValues.{list_at, natural_at};
@@ -8,19 +8,19 @@ use crate::listed::array;
 use scenario_keys::{Cause, element_count, integer_found};
 use toml::Table;
 
-/// The numbers that say how many plans own ship has, and how long they last.
+/// The numbers that determine how many plans own ship has, and how long they last.
 #[derive(Clone, Copy, PartialEq, Eq)]
 pub struct PlanSizes {
-    /// How many changes of course, and how many of speed, a leg may choose from.
+    /// The numbers of changes of course and of speed that a leg may choose.
     pub courses: u64,
     pub speeds: u64,
     pub legs: u64,
-    /// How many ticks a leg lasts, and for how many more the last is held.
+    /// The ticks of a leg, and for how many more the last leg is held.
     pub leg_ticks: u64,
     pub tail: u64,
 }
 
-/// A number of own ship, 0 if there is none.
+/// Returns a number of own ship, 0 if there is none.
 pub(crate) fn natural_at(document: &Table, name: &str) -> u64
     ensures { result ≡ natural_at (codes "own") name.now (table_view document.now) }
 {

@@ -1,4 +1,4 @@
-//! What a scenario is read for.
+//! The purpose of reading a scenario.
 ghost use Rattle.std.specs.Prelude.{◌≡◌};
 ghost use Rattle.toml.specs.View.{table_view};
 ghost use Rattle.scenario.specs.Purposes.{are_counted, purpose_by, ranking_of, wants_ranks};
@@ -7,16 +7,17 @@ use rule_set::Ranking;
 use scenario_keys::integer_found;
 use toml::Table;
 
-/// What a scenario is read for: what of it counts.
+/// The purpose of reading a scenario, which says which parts count.
 #[derive(Clone, Copy, PartialEq, Eq)]
 pub struct Purpose {
     /// Whether own ship is needed. Her keys are checked only then.
     pub need_own: bool,
-    /// Whether ranks count, if the document wants them to.
+    /// Whether ranks count, if the document asks for them.
     pub ranks: Ranking,
 }
 
-/// To search for a manoeuvre of own ship, if she is needed; otherwise to judge vessels, by their ranks too.
+/// Returns the purpose: to search for a manoeuvre of own ship if she is needed, otherwise to judge vessels, also by
+/// their ranks.
 pub(crate) fn purpose_by(need_own: bool) -> Purpose
     ensures { result ≡ purpose_by need_own }
 {
@@ -33,7 +34,7 @@ pub(crate) fn purpose_by(need_own: bool) -> Purpose
     }
 }
 
-/// Whether the document wants ranks to count.
+/// Returns whether the document asks for ranks.
 #[tactic(auto, unfolding(crate::specs::Purposes::wants_ranks))]
 fn wants_ranks(document: &Table) -> bool
     ensures { result ≡ wants_ranks (table_view document.now) }
@@ -41,7 +42,7 @@ fn wants_ranks(document: &Table) -> bool
     matches!(integer_found(document, "rules", "ranks"), Some(1))
 }
 
-/// Whether ranks count in what is read for a purpose.
+/// Returns whether ranks count for a purpose.
 #[tactic(auto, unfolding(crate::specs::Purposes::ranking_of))]
 pub(crate) fn ranking_of(document: &Table, purpose: Purpose) -> Ranking
     ensures { result ≡ ranking_of purpose (table_view document.now) }

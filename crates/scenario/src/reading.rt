@@ -21,7 +21,7 @@ use scenario_values::Scenario;
 use std::alloc::Global;
 use toml::Table;
 
-/// The values that a document has for a purpose, or its first fault.
+/// Returns the values of a document for a purpose, or its first fault.
 pub(crate) fn values_of(
     alloc: Global,
     document: &Table,
@@ -44,7 +44,7 @@ pub(crate) fn values_of(
     Ok(scenario_in(alloc, document, rules, purpose)?)
 }
 
-/// The document that bytes are.
+/// Parses bytes as a document.
 pub(crate) fn document_of(alloc: Global, bytes: &[u8]) -> Result<Table, ScenarioFault>
     ensures reads { IfOk result (λ t. Reads bytes.now (table_view t)) }
     ensures refused { IfErr result (IfFault (λ told. IsNoToml bytes.now told.0 told.1)) }
@@ -66,11 +66,11 @@ fn reading(alloc: Global, bytes: &[u8], need_own: bool) -> Result<Scenario, Scen
     values_of(alloc, &document, purpose_by(need_own))
 }
 
-/// Reads a scenario: its values, each in its range, or exactly the first fault in the order of the table of keys. Memory
-/// may run out instead.
+/// Reads a scenario. Returns its values, each in its range, or exactly the first fault in the order of the table of
+/// keys. Memory may run out instead.
 ///
-/// Own ship is there exactly if she is needed, and only then her keys are checked. Ranks count exactly if she is not and the
-/// scenario wants them to.
+/// The scenario has own ship exactly if she is needed, and her keys are checked only then. Ranks count exactly if she
+/// is not needed and the scenario asks for ranks.
 pub fn read(alloc: Global, bytes: &[u8], need_own: bool) -> Result<Scenario, ScenarioFault>
     ensures values { IfOk result (Means need_own bytes.now) }
     ensures in_range { IfOk result IsInRange }

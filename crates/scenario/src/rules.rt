@@ -58,7 +58,7 @@ fn rule_numbers_in(document: &Table) -> RuleNumbers
     }
 }
 
-/// The tables of `formula`, none if it is left out.
+/// Returns the tables of `formula`, or none without the key.
 fn formula_tables(document: &Table) -> &[Value]
     requires { HaveNoFault false (table_view document.now) }
     ensures tables { map view result.now ≡ formula_tables (table_view document.now) }
@@ -67,7 +67,7 @@ fn formula_tables(document: &Table) -> &[Value]
     values_at(document, "formula")
 }
 
-/// The rules of a document without a fault before those of its formulas, or the first fault of these.
+/// Returns the rules of a document that has no fault before its formulas, or the first fault of its formulas.
 pub(crate) fn rules_in(
     alloc: Global,
     document: &Table,

@@ -12,7 +12,7 @@ use scenario_keys::{Cause, element_count, integer_of, is_integer_list, length_fa
 use toml::value::Array;
 use toml::{Table, Value};
 
-/// The vertex of two integers, if neither is farther than 2000 from 0.
+/// Returns the vertex of two integers, if neither is farther than 2000 from 0.
 fn near_vertex(forward: i64, starboard: i64) -> Option<(i32, i32)>
     ensures { result ≡ near_vertex (forward, starboard) }
 {
@@ -33,7 +33,7 @@ fn vertex_by(list: &Array) -> Option<(i32, i32)>
     near_vertex(integer_of(&list[0]), integer_of(&list[1]))
 }
 
-/// The vertex of a list of two integers that are near enough.
+/// Returns the vertex of a list of two integers that are near enough.
 #[tactic(auto, using(scenario_keys::proofs::Elements::mapped_seen))]
 fn vertex_in(found: &Value) -> Option<(i32, i32)>
     ensures { result ≡ vertex_in (view found.now) }
@@ -68,7 +68,7 @@ fn six_vertices(list: &Array) -> [(i32, i32); 6]
     ]
 }
 
-/// The shape of a list, if it is one.
+/// Returns the shape of a list, if it forms one.
 fn shape_in(list: &Array) -> Option<Shape>
     ensures { result ≡ shape_in (elements (array_view list.now)) }
 {
@@ -115,7 +115,7 @@ fn vertices_fault(list: &Array) -> Option<(usize, Cause)>
     no_shape_fault(list)
 }
 
-/// The fault of a shape, which may be left out, and at which vertex it is; a fault of them all is at vertex 0.
+/// Returns the fault of an optional shape and its vertex; a fault of the whole shape is at vertex 0.
 pub(crate) fn shape_fault(found: Option<&Value>) -> Option<(usize, Cause)>
     ensures { result ≡ shape_fault (option_map (λ v. view v.now) found.entry) }
 {
@@ -128,7 +128,7 @@ pub(crate) fn shape_fault(found: Option<&Value>) -> Option<(usize, Cause)>
     }
 }
 
-/// The shape of a document, if it has one.
+/// Returns the shape of a document, if it has one.
 #[tactic(auto, unfolding(scenario_keys::specs::KeyValues::list_at, hull_domains::specs::Shapes::is_shape))]
 pub(crate) fn shape_at(document: &Table) -> Option<Shape>
     ensures { result ≡ shape_in (list_at (codes "own") (codes "shape") (table_view document.now)) }

@@ -78,7 +78,7 @@ fn log_numbers_in(document: &Table) -> LogNumbers
     }
 }
 
-/// A distance in metres, in tenths of a millimetre.
+/// Returns a distance of the document in tenths of a millimetre; the document has metres.
 #[tactic(auto, unfolding(crate::specs::ScenarioValues::units_at))]
 fn units(document: &Table, table: &str, name: &str) -> u64
     requires faultless { HaveNoFault (is_own table.now) (table_view document.now) }
@@ -91,7 +91,7 @@ fn units(document: &Table, table: &str, name: &str) -> u64
     u64::from(natural(document, table, name)) * 10_000
 }
 
-/// The number of ticks in some seconds, at least one.
+/// Returns the number of ticks in some seconds, at least one.
 fn ticks_in(seconds: u32, tick: u32) -> u32
     requires some { 1 ≤ tick }
     requires least { tick ≤ seconds }
@@ -161,7 +161,7 @@ fn subjects_in(alloc: Global, document: &Table) -> Result<Subjects, AllocError>
     Ok(Subjects::new(list))
 }
 
-/// The values of a document without a fault, with those that take memory.
+/// Returns the values of a document without a fault, together with the values that take memory.
 #[tactic(auto, unfolding(crate::specs::ScenarioValues::scenario_with))]
 fn with_lists(
     document: &Table,
@@ -193,7 +193,7 @@ fn with_lists(
     }
 }
 
-/// The values that a document without a fault has for a purpose, with these rules.
+/// Returns the values of a document without a fault for a purpose, with these rules.
 pub(crate) fn scenario_in(
     alloc: Global,
     document: &Table,

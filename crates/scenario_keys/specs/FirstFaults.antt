@@ -1,7 +1,7 @@
--- What the tests of a list find: the first fault, or none.
+-- The result of the tests of a list: the first fault, or none.
 use Rattle.std.specs.Prelude.{◌≡◌, List, [], ◌∷◌, ◌++◌, All, Option, Some, None}
 
--- The fault is what the test of some element finds, and the tests of those before it find none.
+-- The fault is that of some element, and no earlier element has a fault.
 pub record IsFirst {A F : Type 0} (test : A → Option F → Type 0) (list : List A) (found : F) : Type 0 where
   pub before : List A
   pub here : A

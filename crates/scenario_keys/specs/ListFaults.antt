@@ -1,4 +1,5 @@
--- The fault of a list: the first element of another kind, then a wrong length, then, of integers, the first that is out of range.
+-- The fault of a list: the first element of the wrong type, then a wrong length, then, for integers, the first one out
+-- of range.
 use Rattle.std.specs.Prelude.{ℕ, ◌&&◌, not, nat_le, ℤ, int_le, List, [], ◌∷◌, length, position, is_none, Bool, false, if◌then◌else◌, Option, Some, None}
 use Rattle.std.specs.List.{list_all}
 use Rattle.std.specs.Option.{is_some, option_map_or}
@@ -45,7 +46,7 @@ abbrev pub list_fault : ListRange → Option Data → Option (ℕ × Cause)
 list_fault range None = if range.is_optional then None else Some (0, cause.Missing)
 list_fault range (Some found) = array_fault range (as_array found)
 
--- a list of tables, which may be left out
+-- an optional list of tables
 
 abbrev pub is_no_table : Data → Bool
 is_no_table found = is_none (as_table found)
@@ -61,7 +62,7 @@ abbrev pub tables_fault : ℕ → Option Data → Option (ℕ × Cause)
 tables_fault most None = None
 tables_fault most (Some found) = table_array_fault most (as_array found)
 
--- lists that stand in a list
+-- lists within a list
 
 abbrev pub is_integer : Data → Bool
 is_integer found = is_some (as_integer found)

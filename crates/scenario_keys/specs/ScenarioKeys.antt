@@ -1,4 +1,4 @@
--- The keys of a scenario, in the order in which they are tested.
+-- The keys of a scenario, in the order of their tests.
 use Rattle.std.specs.Prelude.{ℕ, pos, neg_ℤ, codes, List, [], ◌∷◌, ◌++◌, true, false}
 use Rattle.scenario_keys.specs.declared.rows.Range.TheVariants as range
 use Rattle.scenario_keys.specs.declared.rows.Kind.{Kind}
@@ -7,7 +7,7 @@ use Rattle.scenario_keys.specs.declared.rows.When.{When}
 use Rattle.scenario_keys.specs.declared.rows.When.TheVariants as when
 
 pub record Row : Type 0 where
-  -- by which a fault names the key
+  -- the number that names the key in a fault
   pub number : ℕ
   -- the table in which the key stands, empty for the document itself
   pub table : List ℕ
@@ -40,35 +40,35 @@ from_to low high = kind.Number (range.FromTo (pos low) (pos high))
 abbrev pub metres : Kind
 metres = from_to 1 100000
 
--- an integer no further than this from 0
+-- an integer at most this far from 0
 abbrev pub about_zero : ℕ → Kind
 about_zero most = kind.Number (range.FromTo (neg_ℤ (pos most)) (pos most))
 
--- an integer from the number of seconds in a tick on
+-- an integer from the number of seconds in a tick
 abbrev pub from_the_tick_to : ℕ → Kind
 from_the_tick_to high = kind.Number (range.FromTheTickTo (pos high))
 
--- a multiple of the number of seconds in a tick, from one tick on
+-- a multiple of the number of seconds in a tick, from one tick
 abbrev pub ticks_from_one_to : ℕ → Kind
 ticks_from_one_to high = kind.Number (range.TicksFromOneTo (pos high))
 
--- the same, from 0 on
+-- the same, from 0
 abbrev pub ticks_to : ℕ → Kind
 ticks_to high = kind.Number (range.TicksTo (pos high))
 
--- an integer from the one to the other; if the key is left out, the last number stands for it
+-- an integer from the one to the other; the last number is the default
 abbrev pub optional : ℕ → ℕ → ℕ → Kind
 optional low high otherwise = kind.Number (range.Optional (pos low) (pos high) (pos otherwise))
 
--- a list, which may be left out, of at most this many integers from the one to the other
+-- an optional list of at most this many integers from the one to the other
 abbrev pub optional_list : ℕ → ℕ → ℕ → Kind
 optional_list most low high = kind.Numbers (record { is_optional = true; fewest = 0; most = most; low = pos low; high = pos high })
 
--- a list of this many integers, from the one to the other, no further than this from 0
+-- a list of integers at most this far from 0, with a length from the one to the other
 abbrev pub changes_list : ℕ → ℕ → ℕ → Kind
 changes_list fewest most size = kind.Numbers (record { is_optional = false; fewest = fewest; most = most; low = neg_ℤ (pos size); high = pos size })
 
--- the keys of the document and its tables, but for what formulas hold
+-- the keys of the document and its tables, except those of formulas
 unfoldable pub first_rows : List Row
 first_rows =
     row 0 (codes "") (codes "document") kind.Document ∷
@@ -110,7 +110,7 @@ first_rows =
     row 31 (codes "") (codes "formula") (kind.Tables 5) ∷
     []
 
--- the formulas: of each table of `formula` its name and its text, and then the weight of all
+-- the formulas: the name and the text of each table of `formula`, and then the weight of all
 unfoldable pub formula_rows : List Row
 formula_rows =
     row 32 (codes "") (codes "formula.name") kind.FormulaName ∷
@@ -118,7 +118,8 @@ formula_rows =
     row 34 (codes "") (codes "formulas") kind.Formulas ∷
     []
 
--- the keys of own ship, and of the changes that are predicted of other vessels: of each table of `predict` its ship and its changes
+-- the keys of own ship, and of the predicted changes of other vessels: the ship and the changes of each table of
+-- `predict`
 unfoldable pub own_rows : List Row
 own_rows =
     own_row 35 (codes "mmsi") (from_to 200000000 799999999) ∷

@@ -1,4 +1,4 @@
--- How a fault of a scenario is printed, as in `log.gap: range`.
+-- The printed form of a scenario's fault, such as `log.gap: range`.
 use Rattle.std.specs.Prelude.{ℕ, codes, List, [], ◌++◌, ◌==◌, length, find, Bool, true, false, if◌then◌else◌, Option, Some, None}
 use Rattle.std.specs.Fmt.{decimal}
 use Rattle.scenario_keys.specs.ScenarioKeys.{Row, rows}
@@ -28,7 +28,7 @@ abbrev pub row_key_text : ℕ → Option Row → List ℕ
 row_key_text item None = []
 row_key_text item (Some row) = if has_items row.kind then name_text row ++ codes "[" ++ decimal item ++ codes "]" else name_text row
 
--- A key is printed as its row in the table of keys is named, with the item in brackets if it has items, and as nothing
+-- A key prints as the name of its row in the table of keys, with the item in brackets if it has items, and as nothing
 -- if the table has no such row.
 abbrev pub key_text : Key → List ℕ
 key_text key = row_key_text key.item (find (λ row. row.number == key.row) rows)

@@ -1,4 +1,4 @@
--- How a fault is reported: by its key (a row of the table of keys and an item of the key's list) and its cause.
+-- The report of a fault: its key (a row of the table of keys and an item of the key's list) and its cause.
 use Rattle.std.specs.Prelude.{ℕ, nat_le, if◌then◌else◌, Option, Some, None}
 use Rattle.scenario_keys.specs.declared.key.Key.{Key}
 use Rattle.scenario_keys.specs.declared.cause.Cause.{Cause}
@@ -17,7 +17,7 @@ fault_by_at row item (Some cause) = fault_at row item cause
 abbrev pub fault_by : ℕ → Option Cause → Option (Key × Cause)
 fault_by row cause = fault_by_at row 0 cause
 
--- an item beyond this one is reported as this one
+-- the greatest reported item
 abbrev pub item_of : ℕ → ℕ
 item_of n = if nat_le n 65535 then n else 65535
 

@@ -1,4 +1,4 @@
-//! What stands at the keys of a document.
+//! The values at the keys of a document.
 ghost use Rattle.std.specs.Prelude.{◌≡◌, option_map};
 ghost use Rattle.toml.specs.Data.{as_integer, get_member};
 ghost use Rattle.toml.specs.View.{table_view, view};
@@ -14,7 +14,7 @@ pub fn value<'a>(table: &'a Table, name: &str) -> Option<&'a Value>
     table.get(name)
 }
 
-/// The table of a name, and the document itself if the name is empty.
+/// Returns the table of a name, or the document itself if the name is empty.
 pub fn table_of<'a>(document: &'a Table, name: &str) -> Result<&'a Table, Cause>
     ensures { viewed (λ t. table_view t.now) result ≡ table_at name.now (table_view document.now) }
 {
@@ -30,7 +30,7 @@ pub fn table_of<'a>(document: &'a Table, name: &str) -> Result<&'a Table, Cause>
     }
 }
 
-/// What stands at a key.
+/// Returns the value at a key.
 pub fn found<'a>(document: &'a Table, table: &str, name: &str) -> Option<&'a Value>
     ensures { option_map (λ v. view v.now) result
         ≡ found_in name.now (table_at table.now (table_view document.now)) }
@@ -41,7 +41,7 @@ pub fn found<'a>(document: &'a Table, table: &str, name: &str) -> Option<&'a Val
     }
 }
 
-/// The integer at a key.
+/// Returns the integer at a key.
 #[tactic(auto, unfolding(crate::specs::KeyValues::integer_at))]
 pub fn integer_found(document: &Table, table: &str, name: &str) -> Option<i64>
     ensures { result ≡ integer_at table.now name.now (table_view document.now) }
@@ -52,7 +52,7 @@ pub fn integer_found(document: &Table, table: &str, name: &str) -> Option<i64>
     }
 }
 
-/// The integer of a value, 0 if it is none.
+/// Returns the integer of a value, or 0 if it is not an integer.
 pub fn integer_of(found: &Value) -> i64
     ensures { result ≡ integer_of (as_integer (view found.now)) }
 {
@@ -62,7 +62,7 @@ pub fn integer_of(found: &Value) -> i64
     }
 }
 
-/// What stands at a name in one of the tables of a list.
+/// Returns the value at a name in one of the tables of a list.
 pub fn member<'a>(table: &'a Value, name: &str) -> Option<&'a Value>
     ensures { option_map (λ v. view v.now) result ≡ member_at name.now (view table.now) }
 {

@@ -7,17 +7,17 @@ use std::fmt;
 /// Why a key of a scenario is refused. For each key the causes are tested in this order.
 #[derive(Clone, Copy, Debug, PartialEq, Eq)]
 pub enum Cause {
-    /// The scenario is no TOML document.
+    /// The scenario is not a TOML document.
     NotToml,
-    /// The key, or the table that is to hold it, is not there.
+    /// The key, or its table, is missing.
     Missing,
-    /// It holds another kind of value.
+    /// Its value has the wrong type.
     Type_,
     /// The value is out of the key's range.
     Range,
-    /// The value is no multiple of the tick.
+    /// The value is not a multiple of the tick.
     Multiple,
-    /// The text is no formula, by the place of its fault.
+    /// The text is not a formula; the index of its fault.
     Formula(u16),
     /// A product of several keys is too large.
     Product,

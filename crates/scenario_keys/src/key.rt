@@ -7,7 +7,8 @@ use std::fmt;
 
 /// A key of a scenario, by its row in the table of keys.
 ///
-/// It is printed as the name that the table gives it, as `log.gap`, with the item if it is a list, as `subjects[3]`, and as nothing if the table has no such row.
+/// It prints as its name in the table, such as `log.gap`, with the item if it is a list, such as `subjects[3]`, and as
+/// nothing if the table has no such row.
 #[derive(Clone, Copy, Debug, PartialEq, Eq)]
 pub struct Key {
     pub row: u8,

@@ -1,10 +1,10 @@
-//! The keys of a scenario: their table, what stands at a key of a TOML document, and the fault of one integer or one list.
+//! The keys of a scenario: their table, the value at a key of a TOML document, and the fault of one integer or one
+//! list.
 //!
-//! A fault is reported by its key and its cause, as `log.gap: range`.
+//! A fault has a key and a cause, such as `log.gap: range`.
 //!
-//! In the table `[log]`, `gap = 9` is reported as `log.gap: range`, `gap = {}` as `log.gap: type`, and a missing gap as `log.gap:
-//! missing`.
-//! What the values mean is out of scope, and so are faults that depend on two keys.
+//! In the table `[log]`, `gap = 9` is reported as `log.gap: range`, `gap = {}` as `log.gap: type`, and a missing gap as
+//! `log.gap: missing`. Out of scope: the meaning of the values, and faults that depend on two keys.
 #![tactic(auto)]
 
 mod at_keys;

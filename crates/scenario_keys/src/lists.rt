@@ -43,7 +43,7 @@ pub fn element_count(list: &Array) -> usize
     list.len()
 }
 
-/// The fault of a list of this many elements that is to have from the first number to the second.
+/// Returns the fault of a list's length, which must be from `fewest` to `most`.
 pub fn length_fault(fewest: usize, most: usize, length: usize) -> Option<(usize, Cause)>
     ensures { result ≡ length_fault fewest most length }
 {
@@ -70,7 +70,7 @@ fn elements_fault(range: ListRange, list: &Array) -> Option<(usize, Cause)>
     }
 }
 
-/// The fault of a list of integers, and at which item it is.
+/// Returns the fault of a list of integers, and its item.
 pub fn list_fault(range: ListRange, found: Option<&Value>) -> Option<(usize, Cause)>
     ensures { result ≡ list_fault range (option_map (λ v. view v.now) found.entry) }
 {
@@ -100,7 +100,7 @@ fn tables_fault_in(most: usize, list: &Array) -> Option<(usize, Cause)>
     length_fault(0, most, element_count(list))
 }
 
-/// The fault of a list of tables, which may be left out, and at which item it is.
+/// Returns the fault of an optional list of tables, and its item.
 pub fn tables_fault(most: usize, found: Option<&Value>) -> Option<(usize, Cause)>
     ensures { result ≡ tables_fault most (option_map (λ v. view v.now) found.entry) }
 {
@@ -119,7 +119,7 @@ fn are_integers(list: &Array) -> bool
     list.iter().all(|found| found.is_integer())
 }
 
-/// Whether a list of integers stands there.
+/// Returns whether the value is a list of integers.
 #[tactic(auto, using(crate::proofs::Elements::all_seen))]
 pub fn is_integer_list(found: &Value) -> bool
     ensures { result ≡ is_integer_list (view found.now) }

@@ -7,12 +7,12 @@ use crate::cause::Cause;
 use crate::rows::Range;
 use toml::Value;
 
-/// The integers that a key may hold, and what stands for a key that is left out.
+/// The integers that a key may have, and the default of an optional key.
 #[derive(Clone, Copy, PartialEq, Eq)]
 pub struct Bounds {
     pub low: i64,
     pub high: i64,
-    /// What the integer is a multiple of, 1 if any will do.
+    /// The integer must be a multiple of this; 1 for any integer.
     pub step: u32,
     pub otherwise: Option<i64>,
 }

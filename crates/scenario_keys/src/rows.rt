@@ -1,10 +1,10 @@
-//! The table of keys, in the order in which they are tested.
+//! The table of keys, in the order of their tests.
 ghost use Rattle.std.specs.Prelude.{◌≡◌, ◌==◌, find, map, option_map};
 ghost use Rattle.scenario_keys.specs.ScenarioKeys.{first_rows, formula_rows, own_rows, rows};
 ghost use Rattle.scenario_keys.specs.ScenarioTexts.{has_items};
 ghost use Rattle.scenario_keys.specs.Inner.SeenRows.{seen};
 
-/// The integers that a key may hold.
+/// The integers that a key may have.
 #[derive(Clone, Copy, PartialEq, Eq)]
 pub enum Range {
     /// From the first to the second.
@@ -13,13 +13,13 @@ pub enum Range {
     FromTheTickTo(i64),
     /// A multiple of the number of seconds in a tick, from one tick to this number.
     TicksFromOneTo(i64),
-    /// The same from 0 on.
+    /// The same, from 0.
     TicksTo(i64),
-    /// From the first to the second. If the key is left out, the third stands for it.
+    /// From the first to the second. The third is the default.
     Optional(i64, i64, i64),
 }
 
-/// The lists of integers that a key may hold.
+/// The lists of integers that a key may have.
 #[derive(Clone, Copy, PartialEq, Eq)]
 pub struct ListRange {
     /// Whether the key may be left out.
@@ -32,18 +32,18 @@ pub struct ListRange {
     pub high: i64,
 }
 
-/// What a key must hold.
+/// The value that a key must have.
 #[derive(Clone, Copy, PartialEq, Eq)]
 pub enum Kind {
-    /// The document itself, which is read before its keys are tested.
+    /// The document itself, which is read before the tests of its keys.
     Document,
     /// An integer.
     Number(Range),
     /// A list of integers.
     Numbers(ListRange),
-    /// A list of at most this many tables, which may be left out.
+    /// An optional list of at most this many tables.
     Tables(usize),
-    /// A list of six vertices, each a list of two integers, that are a shape about a vessel. It may be left out.
+    /// An optional list of six vertices, each a list of two integers, that form a shape around a vessel.
     Shape,
     /// The name of a formula, in each table of `formula`. It is tested together with the text, table by table.
     FormulaName,
@@ -60,7 +60,7 @@ pub enum Kind {
     PredictedChanges,
 }
 
-/// Whether a fault of the key names an item of it.
+/// Returns whether a fault of the key names an item of it.
 pub(crate) fn has_items(kind: Kind) -> bool
     ensures { result ≡ has_items kind }
 {
@@ -127,7 +127,7 @@ const SPEEDS: Kind = Kind::Numbers(ListRange {
     high: 1022,
 });
 
-/// The keys of the document and its tables, but for what formulas hold.
+/// The keys of the document and its tables, except those of formulas.
 #[rattlefmt::skip]
 const FIRST_ROWS: [KeyRow; 37] = [
     KeyRow { number: 0, table: "", name: "document", kind: Kind::Document, when: When::Always },
@@ -169,7 +169,7 @@ const FIRST_ROWS: [KeyRow; 37] = [
     KeyRow { number: 31, table: "", name: "formula", kind: Kind::Tables(5), when: When::Always },
 ];
 
-/// What each table of `formula` holds, and then the weight of all.
+/// The keys of each table of `formula`, and then the weight of all.
 #[rattlefmt::skip]
 const FORMULA_ROWS: [KeyRow; 3] = [
     KeyRow { number: 32, table: "", name: "formula.name", kind: Kind::FormulaName, when: When::Always },
@@ -177,7 +177,7 @@ const FORMULA_ROWS: [KeyRow; 3] = [
     KeyRow { number: 34, table: "", name: "formulas", kind: Kind::Formulas, when: When::Always },
 ];
 
-/// The keys of own ship, and of the changes that are predicted of other vessels.
+/// The keys of own ship, and of the predicted changes of other vessels.
 #[rattlefmt::skip]
 const OWN_ROWS: [KeyRow; 16] = [
     KeyRow { number: 35, table: "own", name: "mmsi", kind: Kind::Number(Range::FromTo(200_000_000, 799_999_999)), when: When::ForOwnShip },
@@ -198,7 +198,7 @@ const OWN_ROWS: [KeyRow; 16] = [
     KeyRow { number: 54, table: "own", name: "shape", kind: Kind::Shape, when: When::ForOwnShip },
 ];
 
-/// The rows that are tested before those of formulas.
+/// Returns the rows that are tested before those of formulas.
 #[tactic(auto, unfolding(crate::specs::ScenarioKeys::first_rows))]
 pub fn first_rows() -> &'static [KeyRow]
     ensures { map seen result.now ≡ first_rows }
@@ -213,7 +213,7 @@ fn formula_rows() -> &'static [KeyRow]
     &FORMULA_ROWS
 }
 
-/// The rows of own ship, which are tested after those of formulas.
+/// Returns the rows of own ship, which are tested after those of formulas.
 #[tactic(auto, unfolding(crate::specs::ScenarioKeys::own_rows))]
 pub fn own_rows() -> &'static [KeyRow]
     ensures { map seen result.now ≡ own_rows }
@@ -227,7 +227,7 @@ fn find_row(rows: &[KeyRow], number: u8) -> Option<&KeyRow>
     rows.iter().find(|row| row.number == number)
 }
 
-/// The row of a number, if the table has it.
+/// Returns the row of a number, if the table has it.
 pub(crate) fn row_of(number: u8) -> Option<&'static KeyRow>
     ensures { option_map (λ row. seen row.now) result ≡ find (λ row. row.number == number) rows }
 {

@@ -1,11 +1,11 @@
-//! How faults are reported.
+//! The reports of faults.
 ghost use Rattle.std.specs.Prelude.{◌≡◌};
 ghost use Rattle.scenario_keys.specs.ToldFaults.{fault_by, fault_by_at, fault_listed, item_of};
 
 use crate::cause::Cause;
 use crate::key::Key;
 
-/// The fault of a key that has no items.
+/// Returns the fault of a key without items.
 pub fn fault_by(row: u8, cause: Option<Cause>) -> Option<(Key, Cause)>
     ensures { result ≡ fault_by row cause }
 {
@@ -15,7 +15,7 @@ pub fn fault_by(row: u8, cause: Option<Cause>) -> Option<(Key, Cause)>
     }
 }
 
-/// The index of an item, or the greatest index that a key can hold if the item lies beyond it.
+/// Returns the index of an item, at most the greatest index that a key can store.
 fn item_of(item: usize) -> u16
     ensures { result ≡ item_of item }
 {
@@ -25,7 +25,7 @@ fn item_of(item: usize) -> u16
     }
 }
 
-/// The fault of a list at one of its items.
+/// Returns the fault of a list at one of its items.
 pub fn fault_listed(row: u8, fault: Option<(usize, Cause)>) -> Option<(Key, Cause)>
     ensures { result ≡ fault_listed row fault }
 {
@@ -38,7 +38,7 @@ pub fn fault_listed(row: u8, fault: Option<(usize, Cause)>) -> Option<(Key, Caus
     }
 }
 
-/// The fault of a key at an item.
+/// Returns the fault of a key at an item.
 pub fn fault_at(row: u8, item: usize, cause: Option<Cause>) -> Option<(Key, Cause)>
     ensures { result ≡ fault_by_at row (item_of item) cause }
 {

@@ -1,4 +1,4 @@
-//! The log that a seed makes.
+//! The log of a seed.
 ghost use Rattle.std.specs.Prelude.{◌≤◌};
 
 use crate::SCENARIO;
@@ -10,7 +10,7 @@ use scenario::ScenarioFault;
 use std::alloc::Global;
 use std::process::Abort;
 
-/// The log with a seed. Its reports are of 7 minutes, each in a line of 65 bytes.
+/// Returns the log of a seed. It has reports for 7 minutes, each in a line of 65 bytes.
 fn log_with(alloc: Global, seed: u32) -> Result<Vec<u8>, ScenarioFault>
     requires { seed ≤ 999999 }
 {
@@ -18,7 +18,7 @@ fn log_with(alloc: Global, seed: u32) -> Result<Vec<u8>, ScenarioFault>
     Ok(drill_log(alloc, &scenario, seed)?)
 }
 
-/// The position report of a message.
+/// Returns the position report of a message.
 fn report_of(bits: &Bits) -> Option<PositionReport> {
     match decode(bits) {
         Decoded::Message(Message::Position(report)) => Some(report),
@@ -26,7 +26,7 @@ fn report_of(bits: &Bits) -> Option<PositionReport> {
     }
 }
 
-/// What a line reports.
+/// Returns the report in a line.
 fn reported(joiner: &mut Joiner, line: &[u8]) -> Option<PositionReport> {
     let Body::Sentence(sentence) = read_line(line).body else {
         return None;
@@ -37,14 +37,14 @@ fn reported(joiner: &mut Joiner, line: &[u8]) -> Option<PositionReport> {
     }
 }
 
-/// What a line of the log reports.
+/// Returns the report in a line of the log.
 fn reported_in(alloc: Global, log: &[u8], line: usize) -> Option<PositionReport> {
     let line = log.chunks(65).nth(line)?;
     let end = line.len().saturating_sub(1);
     reported(&mut Joiner::new(alloc), &line[..end])
 }
 
-/// Compares how long a log is, how it begins and how it ends.
+/// Compares the length, the start and the end of a log.
 fn is_between(rt: &impl Abort, log: &[u8], len: usize, begins: &[u8], ends: &[u8]) {
     is(rt, log.len(), len);
     is_true(rt, log.starts_with(begins));
@@ -56,7 +56,7 @@ const FIRST_TWO: &[u8] =
 
 const LAST: &[u8] = b"\n\\c:1700000360*5A\\!AIVDM,1,1,,A,12vg2:0P1K002wf00D3<pOv00000,0*37\n";
 
-// The lines are those of a log made from the definition by a script of its own.
+// The lines come from a separate script that makes the log by the definition.
 #[test]
 fn first_and_last_lines(rt: HostRuntime) -> Result<(), ScenarioFault> {
     let log = log_with(rt.alloc(), 1)?;
@@ -76,7 +76,7 @@ const REPORT: PositionReport = PositionReport {
     second: 0,
 };
 
-/// Lines, and what they report.
+/// Lines, and their reports.
 static REPORTS: [(usize, PositionReport); 2] = [
     (0, REPORT),
     (
@@ -88,7 +88,7 @@ static REPORTS: [(usize, PositionReport); 2] = [
     ),
 ];
 
-/// Compares what lines of a log report.
+/// Compares the reports in lines of a log.
 fn are_reported(rt: &impl Abort, alloc: Global, log: &[u8], reports: &[(usize, PositionReport)]) {
     for (line, report) in reports {
         is(rt, reported_in(alloc, log, *line), Some(*report));
@@ -102,7 +102,7 @@ fn two_reports_of_the_first_vessel(rt: HostRuntime) -> Result<(), ScenarioFault>
     Ok(())
 }
 
-/// Whether the log with a seed is this one.
+/// Returns whether the log of a seed is this one.
 fn is_with(alloc: Global, log: &[u8], seed: u32) -> Result<bool, ScenarioFault>
     requires { seed ≤ 999999 }
 {

@@ -1,5 +1,5 @@
-//! Scenarios without a fault, in parts: that of all worked rows with a value of its own for each key that could stand for another, and what is
-//! put to it.
+//! Scenarios without a fault, in parts: the scenario of all worked rows with a different value for each key that could
+//! be confused with another, and additions to it.
 
 /// The tables up to the first line of `rules`.
 const TABLES: &str = "[window]
@@ -64,7 +64,7 @@ turn_rate = 100
 const SHAPE: &str =
     "shape = [[300, 0], [150, 100], [-150, 100], [-300, 0], [-150, -100], [150, -100]]\n";
 
-/// What is predicted of two vessels.
+/// The predictions of two vessels.
 const PREDICTIONS: &str = "[[predict]]
 mmsi = 477553000
 changes = [[0, 900, 1022], [7200, 3599, 0]]

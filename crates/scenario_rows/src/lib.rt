@@ -1,4 +1,5 @@
-//! Worked rows of scenarios: their values, their first faults, and the log of a drill. And the scenario of all worked rows, with a log.
+//! Worked rows of scenarios: their values, their first faults, and the log of a drill; and the scenario of all worked
+//! rows, with a log.
 #![tactic(auto)]
 
 #[cfg(test)]

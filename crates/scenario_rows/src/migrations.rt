@@ -1,4 +1,4 @@
-//! Scenarios of version 1 as ones of version 2.
+//! Scenarios of version 1 migrated to version 2.
 use crate::compared::is;
 use crate::good::{
     FIRST, SECOND, WITH_OWN, WITH_PREDICTIONS, WITH_RANKS, WITH_RANKS_AND_OWN, WITH_SHAPE,
@@ -9,13 +9,13 @@ use scenario::{Scenario, ScenarioFault, migrate, read};
 use std::alloc::{AllocError, Global};
 use std::process::Abort;
 
-/// The text of version 2 for a text in parts.
+/// Returns the text of version 2 for a text in parts.
 fn second_text(alloc: Global, parts: &[&str]) -> Result<Vec<u8>, ScenarioFault> {
     let text = parts.concat(alloc)?;
     migrate(alloc, text.as_str().as_bytes())
 }
 
-/// The scenario that a text in parts is migrated to.
+/// Returns the scenario after migrating a text in parts.
 fn migrated(alloc: Global, parts: &[&str], need_own: bool) -> Result<Scenario, ScenarioFault> {
     let second = second_text(alloc, parts)?;
     read(alloc, &second, need_own)
@@ -41,8 +41,8 @@ fn a_migrated_scenario_has_the_same_values(rt: HostRuntime) -> Result<(), Scenar
     Ok(r8d?)
 }
 
-/// The text of a small scenario of version 1, with a comment, a table and keys that nobody knows, and a formula whose members hold
-/// quotes in TOML; and the same of version 2, its keys in the order of their names.
+/// The text of a small scenario of version 1, with a comment, an unknown table, unknown keys, and a formula whose
+/// members contain quotes; and the same scenario in version 2, its keys ordered by name.
 static NOTED: [&str; 1] = [
     "# a harbour\nversion = 1\nnote = 1979-05-27\nsubjects = [200000001]\n[window]\nstart = 0\ntick = 10\nticks = 40 # ticks\ntock = 1\n[reference]\nlat = 0\nlon = -7\n[log]\ngap = 600\nslack = 60\nmax_speed = 500\nmax_bytes = 1000\n[detect]\nwatch = 5000\nrisk = 501\nclear = 1000\nhorizon = 610\ndoubt = 0\nahead = 100\nreciprocal = 101\n[act]\nsteady_turn = 50\napparent_turn = 200\nsteady_speed = 11\napparent_speed = 51\n[rules]\nsafe = 201\nsafe_other = 'ignored'\novertake = 202\nclose = 300\nt8 = 60\nta = 70\ntl = 20\ntw = 110\nte = 620\n[other]\nsafe = 3\n[[formula]]\nauthor = \"M'\"\nname = \"\\u0075\\x31\"\ntext = '''seen'''\n[[predict]]\nmmsi = 'nobody'\n",
 ];
@@ -64,7 +64,7 @@ static PARTS: [(&str, bool); 17] = [
         true,
     ),
     ("[[formula]]\nname = \"u1\"\ntext = \"seen\"\n", true),
-    // what is gone
+    // what migration drops
     ("#", false),
     ("note", false),
     ("tock", false),
@@ -75,14 +75,14 @@ static PARTS: [(&str, bool); 17] = [
     ("nobody", false),
 ];
 
-/// Compares which of these parts stand in a text.
+/// Compares which of these parts a text contains.
 fn hold(rt: &impl Abort, text: &str, parts: &[(&str, bool)]) {
     for (part, kept) in parts {
         is(rt, (*part, text.contains(*part)), (*part, *kept));
     }
 }
 
-/// The same of the bytes of a text.
+/// Compares the same for the bytes of a text.
 fn bytes_hold(rt: &impl Abort, bytes: &[u8], parts: &[(&str, bool)]) {
     match std::str::from_utf8(bytes) {
         Ok(text) => hold(rt, text, parts),
@@ -120,10 +120,10 @@ fn ranks_are_kept(rt: HostRuntime) -> Result<(), ScenarioFault> {
     Ok(r18?)
 }
 
-/// What is put for a text in a scenario, and the fault of what this gives.
+/// A text in a scenario, its replacement, and the fault of the result.
 type Case = (&'static str, &'static str, &'static str);
 
-/// The scenario in version 2: as it is, and with other faults.
+/// The scenario in version 2: unchanged, and with other faults.
 static NOT_SECOND: [Case; 3] = [
     ("version = 2", "version = 2", "version: range"),
     ("tick = 10", "tick = 0", "version: range"),
@@ -145,7 +145,7 @@ static NOT_WITH_RANKS: [Case; 1] = [(
     "formula.name[0]: range",
 )];
 
-/// Compares the report of a scenario that is changed and then migrated.
+/// Compares the report of migrating a changed scenario.
 fn is_not_migrated(
     rt: &impl Abort,
     alloc: Global,
@@ -159,7 +159,7 @@ fn is_not_migrated(
     Ok(())
 }
 
-/// The same of each of these cases, in these parts of a scenario.
+/// Compares the same for each of these cases, in these parts of a scenario.
 fn are_not_migrated(
     rt: &impl Abort,
     alloc: Global,

@@ -7,10 +7,10 @@ use scenario::{ScenarioFault, read};
 use std::alloc::{AllocError, Global};
 use std::process::Abort;
 
-/// What is put for a part of a scenario, and the fault of what this gives.
+/// A part of a scenario, its replacement, and the fault of the result.
 type Case = (&'static str, &'static str, &'static str);
 
-/// The text of a fault, and an empty one if there is none.
+/// Returns the text of a fault, or an empty one without a fault.
 pub(crate) fn told(alloc: Global, fault: Option<ScenarioFault>) -> Result<String, AllocError> {
     match fault {
         None => Ok(String::new(alloc)),
@@ -18,7 +18,7 @@ pub(crate) fn told(alloc: Global, fault: Option<ScenarioFault>) -> Result<String
     }
 }
 
-/// What is reported for a scenario.
+/// Returns the report for a scenario.
 pub(crate) fn told_of(alloc: Global, text: &str, need_own: bool) -> Result<String, AllocError> {
     told(alloc, read(alloc, text.as_bytes(), need_own).err())
 }
@@ -220,7 +220,7 @@ static SUBJECTS: [Case; 6] = [
     ("version = 1\n", "version = 1\n[[subjects]]\n[a]\n", "subjects[0]: type"),
 ];
 
-/// Faults of `formula`, and formulas that have none.
+/// Faults of `formula`, and formulas without a fault.
 #[rattlefmt::skip]
 static FORMULAS: [Case; 27] = [
     ("version = 1", "version = 1\nformula = 1", "formula: type"),
@@ -260,8 +260,8 @@ static SECOND_FORMULA: [Case; 3] = [
     ("'r18'", "'u2'", ""),
 ];
 
-/// The eleven rules of the good scenario weigh 515. With the first three formulas they weigh 65,535, and with the last, of one
-/// node, 65,536; `!seen` has two.
+/// The eleven rules of the good scenario weigh 515. With the first three formulas they weigh 65,535, and with the last
+/// one, which has one node, 65,536; `!seen` has two nodes.
 #[rattlefmt::skip]
 static WEIGHTS: [Case; 2] = [
     ("version = 1", "version = 1\nformula = [{ name = 'a', text = 'F[0,7200] F[0,7200] F[0,7200] F[0,7200] F[0,7200] F[0,7200] F[0,7200] F[0,7200] seen' }, { name = 'b', text = 'F[0,7200] F[0,7200] seen' }, { name = 'c', text = 'F[0,5450] seen' }, { name = 'd', text = 'seen' }]", ""),
@@ -293,7 +293,7 @@ static RANKS_WITH_OWN: [Case; 3] = [
     ("version = 1", "version = 1\nformula = [{ name = 'a', text = 'F[0,7200] F[0,7200] F[0,7200] F[0,7200] F[0,7200] F[0,7200] F[0,7200] F[0,7200] seen' }, { name = 'b', text = 'F[0,7200] F[0,7200] seen' }, { name = 'c', text = 'F[0,5190] seen' }, { name = 'd', text = 'seen & seen' }]", ""),
 ];
 
-/// The good scenario with a formula of one word and this many spaces.
+/// Returns the good scenario with a formula of one atom and this many spaces.
 fn with_spaces(alloc: Global, spaces: usize) -> Result<String, AllocError> {
     let good = FIRST.concat(alloc)?;
     let spaces = " ".repeat(alloc, spaces)?;
@@ -306,7 +306,7 @@ fn with_spaces(alloc: Global, spaces: usize) -> Result<String, AllocError> {
     .concat(alloc)
 }
 
-/// Numbers of spaces, and what is reported.
+/// Numbers of spaces, and the report.
 static SPACES: [(usize, &str); 2] = [(1020, ""), (1021, "formula.text[0]: range")];
 
 #[test]
@@ -318,7 +318,7 @@ fn a_formula_has_at_most_1024_bytes(rt: HostRuntime) -> Result<(), AllocError> {
     Ok(())
 }
 
-/// Faults of two keys: the first in the order of the keys is reported, wherever they stand.
+/// Faults of two keys: the report has the first in the order of the keys, wherever they are.
 #[rattlefmt::skip]
 static ORDER: [Case; 4] = [
     ("tick = 10", "tick = 61", "window.tick: range"),
@@ -401,7 +401,7 @@ static OWN: [Case; 54] = [
     ("leg_ticks = 30\ntail = 10", "leg_ticks = 7200\ntail = 7201", "own.tail: range"),
 ];
 
-/// Faults of own ship's shape, in the order in which they are tested, and a fault before them.
+/// Faults of own ship's shape, in the order of their tests, and a fault before them.
 #[rattlefmt::skip]
 static SHAPE: [Case; 20] = [
     ("turn_rate = 100", "shape = 1", "own.shape[0]: type"),
@@ -426,7 +426,7 @@ static SHAPE: [Case; 20] = [
     ("turn_rate = 100", "shape = [[300, 0], [150, 100], [-150, 100], [-300, 0], [-150, -100], [150, -100]]", ""),
 ];
 
-/// What stands just within the bounds.
+/// Values just within the bounds.
 #[rattlefmt::skip]
 static WITHIN: [Case; 5] = [
     ("[0, 300, -600]\nspeeds = [0, -5]\nlegs = 3", "[0, 0, 0, 0, 0, 0, 0, 0, 0, 0, 0, 0, 0, 0, 0, 0, 0, 0, 0, 0, 0, 0, 0, 0, 0, 0, 0, 0, 0, 0, 0, 0]\nspeeds = [0, -5]\nlegs = 5", ""),
@@ -443,7 +443,7 @@ fn own_ship_is_not_looked_at_where_she_is_not_needed(rt: HostRuntime) -> Result<
     are_told(&rt, rt.alloc(), &WITH_OWN, false, &NO_LEGS)
 }
 
-/// Faults of `predict`, and predictions that have none.
+/// Faults of `predict`, and predictions without a fault.
 #[rattlefmt::skip]
 static PREDICT: [Case; 34] = [
     ("range = 50000\n", "", "own.range: missing"),
@@ -491,14 +491,14 @@ static NO_PREDICTIONS: [Case; 4] = [
     ("version = 1", "version = 1\npredict = []", ""),
 ];
 
-/// The good scenario with own ship and this many empty tables of `predict`.
+/// Returns the good scenario with own ship and this many empty tables of `predict`.
 fn with_tables(alloc: Global, many: usize) -> Result<String, AllocError> {
     let good = WITH_OWN.concat(alloc)?;
     let tables = "[[predict]]\n".repeat(alloc, many)?;
     [good.as_str(), tables.as_str()].concat(alloc)
 }
 
-/// Numbers of tables, and what is reported.
+/// Numbers of tables, and the report.
 static TABLES: [(usize, &str); 2] = [(64, "predict.mmsi[0]: missing"), (65, "predict: range")];
 
 #[test]
@@ -510,7 +510,7 @@ fn at_most_64_vessels_are_predicted(rt: HostRuntime) -> Result<(), AllocError> {
     Ok(())
 }
 
-/// Compares what is reported for the keys of each scenario.
+/// Compares the reports for the keys of each scenario.
 fn keys_are_told(rt: &impl Abort, alloc: Global) -> Result<(), AllocError> {
     are_told(rt, alloc, &FIRST, false, &FIRST_KEYS)?;
     are_told(rt, alloc, &FIRST, false, &DETECT)?;
@@ -521,7 +521,7 @@ fn keys_are_told(rt: &impl Abort, alloc: Global) -> Result<(), AllocError> {
     are_told(rt, alloc, &SECOND, false, &VERSION_TWO)
 }
 
-/// The same of formulas and of ranks.
+/// Compares the same for formulas and ranks.
 fn formulas_are_told(rt: &impl Abort, alloc: Global) -> Result<(), AllocError> {
     are_told(rt, alloc, &FIRST, false, &FORMULAS)?;
     are_told(rt, alloc, &WITH_FORMULAS, false, &SECOND_FORMULA)?;
@@ -530,7 +530,7 @@ fn formulas_are_told(rt: &impl Abort, alloc: Global) -> Result<(), AllocError> {
     are_told(rt, alloc, &WITH_RANKS_AND_OWN, true, &RANKS_WITH_OWN)
 }
 
-/// The same of own ship, and of what is predicted.
+/// Compares the same for own ship and predictions.
 fn own_is_told(rt: &impl Abort, alloc: Global) -> Result<(), AllocError> {
     are_told(rt, alloc, &WITH_OWN, true, &OWN)?;
     are_told(rt, alloc, &WITH_OWN, true, &SHAPE)?;

@@ -1,7 +1,7 @@
-//! The one scenario of the worked rows, whatever crate they are of, and a log of two vessels. A row that needs another scenario replaces a
-//! part of this.
+//! The scenario of the worked rows of all crates, and a log of two vessels. A row that needs another scenario replaces
+//! a part of this one.
 
-/// A window of 40 ticks of ten seconds, about the place at 0 north and 0 east.
+/// A window of 40 ticks of ten seconds, around the place at 0 north and 0 east.
 pub const SCENARIO: &str = "version = 1
 [window]
 start = 1700000000
@@ -38,7 +38,7 @@ slack = 60
 max_speed = 500
 ";
 
-/// Two vessels that meet head on, each with a report at the beginning and one 400 seconds later.
+/// Two vessels that meet head-on, each with a report at the start and one 400 seconds later.
 pub const HEAD_ON: &[u8] =
     b"\\c:1700000000*5F\\!AIVDM,2,1,3,B,55P5TL01VIaAL@7WKO@mBplU@<PDhh000000001S;AJ::4A80?4i@E53,0*3E
 !AIVDM,2,2,3,B,1@0000000000000,2*55

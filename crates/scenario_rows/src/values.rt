@@ -48,7 +48,7 @@ static ACT: Act = Act {
     apparent_speed: 51,
 };
 
-/// The rule at an index has this name and, printed at a tick of 10 seconds, this text.
+/// Checks that the rule at an index has this name and prints as this text at a tick of 10 seconds.
 pub(crate) fn is_rule(
     rt: &impl Abort,
     alloc: Global,
@@ -77,13 +77,13 @@ static CHANGES: [Change; 2] = [
     },
 ];
 
-/// The scenario that a text in parts has.
+/// Reads the scenario of a text in parts.
 fn scenario_of(alloc: Global, parts: &[&str], need_own: bool) -> Result<Scenario, ScenarioFault> {
     let text = parts.concat(alloc)?;
     read(alloc, text.as_str().as_bytes(), need_own)
 }
 
-/// Own ship is that of the scenario with her.
+/// Checks that own ship is that of the scenario with her.
 fn is_own(rt: &impl Abort, own: &OwnPart) {
     let lattice = &own.lattice;
     let plans = (lattice.choices(), lattice.plans(), lattice.positions());
@@ -99,7 +99,7 @@ fn has_plans(rt: &impl Abort, scenario: &Scenario) {
     }
 }
 
-/// What is predicted of two vessels is that of the scenario with predictions.
+/// Checks that the predictions of two vessels are those of the scenario with predictions.
 fn are_predicted(rt: &impl Abort, own: &OwnPart) {
     let [first, second] = own.predict.as_slice() else {
         return is_true(rt, false);
@@ -109,7 +109,7 @@ fn are_predicted(rt: &impl Abort, own: &OwnPart) {
     is(rt, second.changes.as_slice().len(), 1);
 }
 
-/// Own ship, and what is predicted, are those of the scenario with predictions.
+/// Checks that own ship and the predictions are those of the scenario with predictions.
 pub(crate) fn has_predictions(rt: &impl Abort, scenario: &Scenario) {
     match &scenario.own {
         Some(own) => are_predicted(rt, own),
@@ -142,7 +142,7 @@ static SHAPE: [(i32, i32); 6] = [
     (150, -100),
 ];
 
-/// Own ship's domain is that of the scenario with one.
+/// Checks that own ship's domain is that of the scenario with one.
 pub(crate) fn has_shape(rt: &impl Abort, scenario: &Scenario) {
     let wanted = Shape::new(&SHAPE);
     is_true(rt, wanted.is_some());
@@ -159,7 +159,7 @@ fn a_shape_is_read(rt: HostRuntime) -> Result<(), ScenarioFault> {
     Ok(())
 }
 
-/// The numbers of the good scenario.
+/// Checks the numbers of the good scenario.
 pub(crate) fn has_good_numbers(rt: &impl Abort, scenario: &Scenario) {
     is(rt, &scenario.window, &WINDOW);
     is(rt, &scenario.log, &LOG);
@@ -192,7 +192,7 @@ fn version_two_has_a_safe_distance_for_each_kind(rt: HostRuntime) -> Result<(), 
     Ok(r8d?)
 }
 
-/// The two formulas are rules, after the eleven.
+/// Checks that the two formulas are rules after the eleven.
 fn are_behind_the_rules(rt: &impl Abort, alloc: Global, rules: &RuleSet) -> Result<(), Memory> {
     is(rt, rules.len(), 13);
     is_rule(rt, alloc, rules, 11, "u1", "(F[0,20] risk & !seen)")?;
@@ -207,7 +207,7 @@ fn formulas_stand_behind_the_rules(rt: HostRuntime) -> Result<(), ScenarioFault>
     Ok(formulas?)
 }
 
-/// Whether own ship is needed, and how many rules there are then.
+/// Whether own ship is needed, and the number of rules then.
 static RANKED: [(bool, usize); 2] = [(false, 12), (true, 11)];
 
 #[test]
@@ -220,7 +220,7 @@ fn ranks_count_where_own_ship_is_not_needed(rt: HostRuntime) -> Result<(), Scena
     Ok(())
 }
 
-/// The rule of ranks is the last.
+/// Checks that the rule of ranks is the last one.
 pub(crate) fn has_rule_of_ranks(
     rt: &impl Abort,
     alloc: Global,
@@ -238,12 +238,12 @@ fn the_rule_of_ranks_is_the_last(rt: HostRuntime) -> Result<(), ScenarioFault> {
     Ok(r18?)
 }
 
-/// The greatest value of each key of the first tables, and a key that nobody knows.
+/// The greatest value of each key of the first tables, and an unknown key.
 static GREATEST: [&str; 1] = [
     "version = 1\n[window]\nstart = 9999999999\ntick = 60\nticks = 20000\n[reference]\nlat = 45000000\nlon = -108000000\n[log]\ngap = 3600\nslack = 3600\nmax_speed = 1022\nmax_bytes = 1073741824\nunknown = 1.5\n[detect]\nwatch = 100000\nrisk = 100000\nclear = 100000\nhorizon = 7200\ndoubt = 1124\nahead = 900\nreciprocal = 900\n[act]\nsteady_turn = 1800\napparent_turn = 1800\nsteady_speed = 1022\napparent_speed = 1022\n[rules]\nsafe = 100000\novertake = 100000\nclose = 100000\nt8 = 7200\nta = 7200\ntl = 7200\ntw = 7200\nte = 7200\n",
 ];
 
-/// The numbers of that scenario.
+/// Checks the numbers of that scenario.
 fn has_greatest_values(rt: &impl Abort, scenario: &Scenario) {
     is(rt, scenario.window.start, 9_999_999_999);
     is(
@@ -262,14 +262,14 @@ fn the_greatest_values_are_read(rt: HostRuntime) -> Result<(), ScenarioFault> {
     Ok(())
 }
 
-/// The good scenario with a list of this many subjects, and then one of this text.
+/// Returns the good scenario with a list of this many subjects, and then one of this text.
 fn with_subjects(alloc: Global, many: usize, last: &str) -> Result<String, AllocError> {
     let good = FIRST.concat(alloc)?;
     let others = "200000000, ".repeat(alloc, many)?;
     ["subjects = [", others.as_str(), last, "]\n", good.as_str()].concat(alloc)
 }
 
-/// The scenario with the longest list of subjects.
+/// Returns the scenario with the longest list of subjects.
 fn with_most_subjects(alloc: Global) -> Result<Scenario, ScenarioFault> {
     let text = with_subjects(alloc, 63, "799999999")?;
     read(alloc, text.as_bytes(), false)
@@ -285,7 +285,7 @@ fn a_list_may_have_its_length(rt: HostRuntime) -> Result<(), ScenarioFault> {
     Ok(())
 }
 
-/// How many subjects there are before the last, the last, and what is reported.
+/// The number of subjects before the last one, the last one, and the report.
 static LISTS: [(usize, &str, &str); 3] = [
     (64, "1", "subjects[0]: range"),
     (64, "true", "subjects[64]: type"),

@@ -1,4 +1,4 @@
--- The faults of the tables of `formula`: of each one its name, and then its text.
+-- The faults of the tables of `formula`: in each table first that of its name, and then that of its text.
 use Rattle.std.specs.Prelude.{◌≡◌, ◌⊎◌, ℕ, ◌≤◌, ◌<◌, ◌==◌, nat_le, Bool, false, not, ◌&&◌, ◌||◌, if◌then◌else◌, codes, List, [], ◌∷◌, ◌++◌, length, map, bytes_eq, Option, Some, None}
 use Rattle.std.specs.Char.{is_ascii_digit}
 use Rattle.std.specs.List.{list_all, list_any}
@@ -13,7 +13,7 @@ use Rattle.scenario_keys.specs.declared.key.Key.{Key}
 use Rattle.scenario_keys.specs.declared.cause.Cause.{Cause}
 use Rattle.scenario_keys.specs.declared.cause.Cause.TheVariants as cause
 
--- the text that stands somewhere, empty if there is none
+-- the text of a value, empty if there is none
 
 abbrev pub string_of : Option (List ℕ) → List ℕ
 string_of None = []
@@ -29,7 +29,7 @@ formula_name_in here = string_in (member_at (codes "name") here)
 abbrev pub formula_text_in : Data → List ℕ
 formula_text_in here = string_in (member_at (codes "text") here)
 
--- a name: a small letter, and then small letters, digits and _, 16 bytes at most
+-- a name: a lowercase letter followed by lowercase letters, digits and _, at most 16 bytes
 
 abbrev pub is_small_letter : ℕ → Bool
 is_small_letter b = nat_le 97 b && nat_le b 122
@@ -44,7 +44,7 @@ begins_small (first ∷ rest) = is_small_letter first
 abbrev pub is_rule_name : List ℕ → Bool
 is_rule_name name = nat_le (length name) 16 && (begins_small name && list_all is_name_byte name)
 
--- the names of the eleven rules that stand without ranks and with them
+-- the names of the eleven rules that exist both without and with ranks
 abbrev pub eleven_names : List (List ℕ)
 eleven_names =
     codes "r8b" ∷ codes "r8d" ∷ codes "r13" ∷ codes "r14a" ∷ codes "r14b" ∷ codes "r14p" ∷ codes "r15" ∷ codes "r16" ∷ codes "r17a"
@@ -55,7 +55,7 @@ abbrev pub rule_names : Ranking → List (List ℕ)
 rule_names Ignored = eleven_names
 rule_names Counted = eleven_names ++ codes "r18" ∷ []
 
--- whether a rule has the name, or a formula of the tables before
+-- whether a rule or a formula of an earlier table has the name
 abbrev pub is_name_taken : Ranking → List Data → List ℕ → Bool
 is_name_taken ranks before name = list_any (λ taken. bytes_eq taken name) (rule_names ranks ++ map formula_name_in before)
 
@@ -69,8 +69,8 @@ abbrev pub name_cause : (List ℕ → Bool) → Option Data → Option Cause
 name_cause taken None = Some cause.Missing
 name_cause taken (Some found) = new_name_cause taken (as_str found)
 
--- The fault of a text at a tick of this many seconds: the place of what is no formula, or of a number that is refused, or the
--- text's length, if the formula is too large.
+-- The fault of a text at a tick of this many seconds: the index of the first byte that fits no formula, or of a refused
+-- number, or the text's length if the formula is too large.
 
 abbrev pub formula_cause : ℕ → Meaning → Option Cause
 formula_cause length (tree t) = None
@@ -94,7 +94,7 @@ abbrev pub IsTextCause : ℕ → Option Data → Option Cause → Type 0
 IsTextCause tick None why = why ≡ Some cause.Missing
 IsTextCause tick (Some found) why = IsStringCause tick (as_str found) why
 
--- what the test of a table at an index finds: the fault of its name, otherwise that of its text
+-- the result of the test of a table at an index: the fault of its name, otherwise that of its text
 
 abbrev pub IsTextFault : ℕ → ℕ → Option Cause → Option Data → Option (Key × Cause) → Type 0
 IsTextFault tick item (Some why) text told = told ≡ fault_at 32 item why
@@ -107,6 +107,6 @@ IsFaultBy taken tick item here told =
 abbrev pub IsTableFault : Ranking → ℕ → List Data × Data → Option (Key × Cause) → Type 0
 IsTableFault ranks tick (before, here) told = IsFaultBy (is_name_taken ranks before) tick (length before) here told
 
--- what the tests of all tables find, the first fault or none
+-- the result of the tests of all tables: the first fault or none
 abbrev pub IsFormulaFault : Ranking → ℕ → List Data → Option (Key × Cause) → Type 0
 IsFormulaFault ranks tick tables told = IsFound (IsTableFault ranks tick) (with_before [] tables) told

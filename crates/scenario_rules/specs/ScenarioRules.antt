@@ -1,5 +1,5 @@
--- The rules of a scenario: those of the COLREGs 1972, eleven or with ranks twelve, followed by the formulas of its tables; and what
--- the test of their weight finds.
+-- The rules of a scenario: those of the COLREGs 1972, eleven, or with ranks twelve, followed by the formulas of its
+-- tables; and the result of the test of their weight.
 use Rattle.std.specs.Prelude.{◌≡◌, ℕ, nat_le, if◌then◌else◌, List, [], ◌∷◌, ◌++◌, Option, Some, None}
 use Rattle.toml.specs.Data.{Data}
 use Rattle.mtl_language.specs.FormulaReading.{tree, IsMeaning}
@@ -29,7 +29,7 @@ pub record AreScenarioRules (ranks : Ranking) (tick : ℕ) (numbers : RuleNumber
   pub order : rules ≡ rules_by ranks tick numbers ++ added
   pub are_added : AreAdded tick tables added
 
--- what the test of their weight finds
+-- the result of the test of their weight
 
 abbrev pub weight_cause : ℕ → Option Cause
 weight_cause weight = if nat_le weight greatest_weight then None else Some cause.Product

@@ -36,14 +36,14 @@ fn are_name_bytes(bytes: &[u8]) -> bool
     bytes.iter().all(|byte| is_name_byte(*byte))
 }
 
-/// A small letter, and then small letters, digits and `_`, at most 16 bytes.
+/// Returns whether a name is a lowercase letter followed by lowercase letters, digits and `_`, at most 16 bytes.
 fn is_name(name: &[u8]) -> bool
     ensures { result ≡ is_rule_name name.now }
 {
     name.len() <= 16 && begins_small(name) && are_name_bytes(name)
 }
 
-/// The name of these bytes, which no rule has.
+/// Returns the name of these bytes if no rule has it.
 fn new_name(rules: &RuleSet, name: &[u8]) -> Result<Name, Cause>
     ensures name { IfOk result (λ n. n ≡ name.now) }
     ensures new { IfOk result (λ n. has_rule rules.now name.now ≡ false) }
@@ -59,7 +59,7 @@ fn new_name(rules: &RuleSet, name: &[u8]) -> Result<Name, Cause>
     }
 }
 
-/// The name that stands there, which no rule has, or its fault.
+/// Returns the name in a value, which no rule has, or its fault.
 pub(crate) fn name_in(rules: &RuleSet, found: Option<&Value>) -> Result<Name, Cause>
     ensures name { IfOk result (λ n. n ≡ string_in (option_map (λ v. view v.now) found.entry)) }
     ensures new { IfOk result (λ n. has_rule rules.now n ≡ false) }

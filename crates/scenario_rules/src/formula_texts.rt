@@ -13,7 +13,7 @@ use scenario_keys::{Cause, Key, ScenarioFault};
 use std::alloc::Global;
 use toml::Value;
 
-/// The fault of a text at one of its bytes, or at its end.
+/// Returns the fault of a text at one of its bytes, or at its end.
 fn fault_at_byte(key: Key, index: usize) -> ScenarioFault
     requires { index ≤ 1024 }
     ensures { result ≡ ScenarioFault.Fault key (Cause.Formula index) }
@@ -21,7 +21,7 @@ fn fault_at_byte(key: Key, index: usize) -> ScenarioFault
     ScenarioFault::Fault(key, Cause::Formula(index as u16))
 }
 
-/// The formula of a text, or its fault, at this key.
+/// Returns the formula of a text, or its fault, at this key.
 fn parsed(alloc: Global, tick: u32, text: &[u8], key: Key) -> Result<Formula, ScenarioFault>
     requires tick { IsTick tick }
     requires short { length text.now ≤ 1024 }
@@ -40,7 +40,7 @@ fn parsed(alloc: Global, tick: u32, text: &[u8], key: Key) -> Result<Formula, Sc
     }
 }
 
-/// The same of a text of any length.
+/// Returns the same for a text of any length.
 fn formula_of(alloc: Global, tick: u32, text: &[u8], key: Key) -> Result<Formula, ScenarioFault>
     requires tick { IsTick tick }
     ensures meaning { IfOk result (λ f. IsMeaning text.now tick (tree (tree_of f))) }
@@ -55,7 +55,7 @@ fn formula_of(alloc: Global, tick: u32, text: &[u8], key: Key) -> Result<Formula
     parsed(alloc, tick, text, key)
 }
 
-/// The formula of the text that stands there, or its fault, at this key.
+/// Returns the formula of the text in a value, or its fault, at this key.
 pub(crate) fn formula_in(
     alloc: Global,
     tick: u32,

@@ -19,7 +19,7 @@ use scenario_keys::{Cause, Key, ScenarioFault, member};
 use std::alloc::Global;
 use toml::Value;
 
-/// How much all rules may weigh together.
+/// The greatest weight of all rules together.
 const GREATEST_WEIGHT: u64 = 65_536;
 
 /// Adds the formula of the table with this index, or returns the fault of its name, otherwise that of
@@ -50,7 +50,7 @@ fn add_table(
     }
 }
 
-/// The rules of the COLREGs 1972 without ranks, or with them.
+/// Returns the rules of the COLREGs 1972 without ranks, or with them.
 fn rules_by(
     alloc: Global,
     ranks: Ranking,
@@ -66,7 +66,7 @@ fn rules_by(
     }
 }
 
-/// These rules, followed by the formulas of these tables, or the first fault of a table.
+/// Returns these rules, followed by the formulas of these tables, or the first fault of a table.
 fn all_rules(
     alloc: Global,
     ranks: Ranking,
@@ -90,7 +90,7 @@ fn all_rules(
     Ok(rules)
 }
 
-/// Whether the rules are light enough together.
+/// Returns whether the rules together are light enough.
 fn are_light(rules: &RuleSet) -> bool
     ensures light { result ≡ nat_le (total_weight rules.now) greatest_weight }
     ensures right { AreRules rules.now }
@@ -106,11 +106,10 @@ fn are_light(rules: &RuleSet) -> bool
     true
 }
 
-/// Returns the rules of a scenario: those of the COLREGs 1972 with these numbers, at a tick of this many seconds, eleven or with ranks
-/// twelve,
-/// followed by the formulas of at most five tables, each with a `name` and a `text`. Or returns the first fault: table by table that of
-/// its
-/// name and then that of its text, and last that all rules together weigh more than 65,536.
+/// Returns the rules of a scenario: those of the COLREGs 1972 with these numbers, at a tick of this many seconds,
+/// eleven, or with ranks twelve, followed by the formulas of at most five tables, each with a `name` and a `text`.
+/// Otherwise returns the first fault: in each table first that of its name and then that of its text, and last that all
+/// rules together weigh more than 65,536.
 pub fn rules_with(
     alloc: Global,
     ranks: Ranking,

@@ -1,9 +1,9 @@
--- Rules that are valid, and whose monitor does not take too much memory.
+-- Valid rules with a monitor that does not take too much memory.
 use Rattle.std.specs.Prelude.{ℕ, ◌≤◌, List, sum_by}
 use Rattle.mtl_formulas.specs.FormulaMeasures.{weight_of}
 use Rattle.rule_set.specs.NamedTrees.{NamedTree, AreRules}
 
--- the total weight of rules, which decides a monitor's memory
+-- the total weight of rules, which determines a monitor's memory
 abbrev pub total_weight : List NamedTree → ℕ
 total_weight rules = sum_by (λ (rule : NamedTree). weight_of rule.tree) rules
 

@@ -12,11 +12,11 @@ use Rattle.scenario_values.specs.declared.values.Window.{Window}
 use Rattle.scenario_values.specs.declared.values.LogNumbers.{LogNumbers}
 use Rattle.scenario_values.specs.declared.values.Scenario.{Scenario}
 
--- the greatest length of a log, in bytes, if the scenario names none
+-- the default for the greatest length of a log, in bytes
 abbrev pub greatest_log : ℕ
 greatest_log = 2 ^ 30
 
--- Each value is in its key's range. A reference, a lattice and a shape are so by their types.
+-- Each value is in its key's range. A reference, a lattice and a shape are in range by their types.
 
 pub record IsWindow (window : Window) : Type 0 where
   pub start : window.start ≤ 9999999999

@@ -1,7 +1,7 @@
 //! The vessels whose encounters are audited.
 use std::marker::Model;
 
-/// The MMSIs of the vessels whose encounters are audited, as the scenario lists them. If there are none, all vessels' are.
+/// The MMSIs of the vessels whose encounters are audited, from the scenario's list. An empty list means all vessels.
 #[derive(Drop)]
 pub struct Subjects {
     list: Vec<u32>,
@@ -18,14 +18,14 @@ impl Model for Subjects {
 impl Subjects {
     ghost use Rattle.std.specs.Prelude.{◌≡◌};
 
-    /// The subjects of a list. This takes no memory.
+    /// Returns the subjects of a list. This takes no memory.
     pub fn new(list: Vec<u32>) -> Subjects
         ensures { result ≡ list.items }
     {
         Subjects { list }
     }
 
-    /// The list. This takes no memory.
+    /// Returns the list. This takes no memory.
     pub fn into_list(self) -> Vec<u32>
         ensures { result.items ≡ self }
     {

@@ -12,7 +12,7 @@ pub struct Window {
     pub start: u64,
     /// The length of a tick, 1 to 60 s.
     pub tick: u32,
-    /// How many ticks follow tick 0, 1 to 20,000.
+    /// The number of ticks after tick 0, 1 to 20,000.
     pub ticks: u32,
 }
 
@@ -21,7 +21,7 @@ impl Window {
     ghost use Rattle.scenario_values.specs.ValueRanges.{IsWindow};
     ghost use Rattle.scenario_values.specs.Ticks.{time_of_tick};
 
-    /// The time of a tick, in seconds since the Unix epoch, also of one after the last.
+    /// Returns the time of a tick, in seconds since the Unix epoch, also for a tick after the last one.
     pub fn time(&self, tick: u32) -> u64
         requires { IsWindow self.now }
         ensures { result ≡ time_of_tick self.now tick }
@@ -30,12 +30,12 @@ impl Window {
     }
 }
 
-/// The numbers by which a log's lines are judged.
+/// The numbers for judging a log's lines.
 #[derive(Clone, Copy, Debug, PartialEq, Eq)]
 pub struct LogNumbers {
-    /// How far apart two reports of one leg may lie, from the tick to 3600 s.
+    /// The greatest time between two reports of one leg, from the tick to 3600 s.
     pub gap: u32,
-    /// How much later than the clock a line may come, 0 to 3600 s.
+    /// The most seconds by which a line's time may be before the clock, 0 to 3600 s.
     pub slack: u32,
     /// The greatest speed that is believed, 1 to 1022 tenths of a knot.
     pub max_speed: u16,
@@ -50,11 +50,12 @@ pub struct Scenario {
     /// The origin of the plane.
     pub reference: Reference,
     pub log: LogNumbers,
-    /// When two vessels are in risk of collision, and when they are past and clear.
+    /// The limits for risk of collision, and for past and clear.
     pub detect: Detect,
-    /// What counts as keeping course and speed, and what as a readily apparent alteration.
+    /// The limits for keeping course and speed, and for a readily apparent alteration.
     pub act: Act,
-    /// The rules: those of the COLREGs with the scenario's numbers, eleven or with ranks twelve, followed by at most five formulas.
+    /// The rules: those of the COLREGs with the scenario's numbers, eleven, or with ranks twelve, followed by at most
+    /// five formulas.
     pub rules: RuleSet,
     /// Whether ranks count (Rule 18).
     pub ranks: bool,

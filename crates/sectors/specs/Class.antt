@@ -8,8 +8,8 @@ use Rattle.sectors.specs.declared.angles.Angles.{Angles}
 use Rattle.sectors.specs.declared.class.Class.{Class}
 use Rattle.sectors.specs.declared.class.Class.TheVariants.{Overtaking, Overtaken, HeadOn, CrossingGives, CrossingStands, Passing, Unclassified}
 
--- What two vessels A and B see of each other: B at the bearing beta from A's head, A at the bearing alpha from B's, A's
--- direction `off` from the reverse of B's, and whether they close.
+-- The relative positions of two vessels A and B: B at the bearing beta from A's head, A at the bearing alpha from B's,
+-- A's direction `off` from the reverse of B's, and whether they close.
 pub record Sight : Type 0 where
   pub closing : Bool
   pub beta : ℕ
@@ -22,7 +22,7 @@ pub record Sight : Type 0 where
 abbrev pub is_abaft : ℕ → ℕ → Bool
 is_abaft doubt k = nat_lt (1125 - doubt) k && nat_lt k (2475 + doubt)
 
--- at most so far from right ahead
+-- at most this far from right ahead
 abbrev pub is_ahead : ℕ → ℕ → Bool
 is_ahead most k = nat_le (unsigned_abs (swing_of 0 k)) most
 
@@ -45,7 +45,7 @@ class_seen angles s =
     else (if is_in_starboard_sector s.alpha && is_in_port_sector s.beta then CrossingStands
     else Passing))))
 
--- ---- what they see at a step
+-- ---- the relative positions at a step
 
 -- the displacement from B to A
 abbrev pub opposite : Point → Point
@@ -54,7 +54,7 @@ opposite p = record { x = neg_ℤ p.x; y = neg_ℤ p.y }
 abbrev pub reverse_of : ℕ → ℕ
 reverse_of d = (d + 1800) % 3600
 
--- by the bearings of B from A and of A from B, which they have if they are not in one point
+-- by the bearings of B from A and of A from B, which exist unless they are at the same point
 abbrev pub class_by_bearings : RelativeMove → ℕ → ℕ → Angles → Option ℕ → Option ℕ → Class
 class_by_bearings step a b angles (Some to_b) (Some to_a) = class_seen angles (record {
   closing = int_lt (dot_of step.p step.w) (pos 0);
@@ -68,7 +68,7 @@ class_by_bearings step a b angles _ _ = Unclassified
 unfoldable pub class_between : RelativeMove → ℕ → ℕ → Angles → Class
 class_between step a b angles = class_by_bearings step a b angles (bearing_of step.p) (bearing_of (opposite step.p))
 
--- where a direction may be absent
+-- if a direction may be absent
 abbrev pub class_of : RelativeMove → Option ℕ → Option ℕ → Angles → Class
 class_of step (Some a) (Some b) angles = class_between step a b angles
 class_of step _ _ angles = Unclassified

@@ -8,12 +8,12 @@ use crate::angles::Angles;
 use fixed_geometry::{Point, bearing, dot, relative, swing};
 use motion::Step;
 
-/// What an encounter is to the first of two vessels, A, in relation to the second, B.
+/// The class of an encounter for the first of two vessels, A, in relation to the second, B.
 #[derive(Clone, Copy, Debug, PartialEq, Eq)]
 pub enum Class {
     /// A comes up with B from more than 22.5 degrees abaft B's beam (Rule 13).
     Overtaking,
-    /// B so comes up with A.
+    /// B comes up with A from there.
     Overtaken,
     /// They meet on reciprocal or nearly reciprocal courses, each ahead or nearly ahead of the other (Rule 14).
     HeadOn,
@@ -23,7 +23,7 @@ pub enum Class {
     CrossingStands,
     /// None of these.
     Passing,
-    /// A direction is not known, or both are in one point.
+    /// A direction is unknown, or both are at the same point.
     Unclassified,
 }
 
@@ -92,8 +92,8 @@ fn is_head_on(beta: u16, alpha: u16, off: u16, angles: &Angles) -> bool
     is_ahead(angles.ahead, beta) && is_ahead(angles.ahead, alpha) && off <= angles.reciprocal
 }
 
-/// The class by what the vessels see: B at `beta` from A, A at `alpha` from B, and `off` the angle between A's direction and
-/// the reverse of B's.
+/// Returns the class by the relative bearings: B at `beta` from A, A at `alpha` from B; `off` is the angle between A's
+/// direction and the reverse of B's.
 #[tactic(auto, unfolding(crate::specs::Class::class_seen))]
 fn class_seen(closing: bool, beta: u16, alpha: u16, off: u16, angles: &Angles) -> Class
     requires beta { beta < 3600 }
@@ -117,7 +117,7 @@ fn class_seen(closing: bool, beta: u16, alpha: u16, off: u16, angles: &Angles) -
     }
 }
 
-/// The class if both directions are known.
+/// Returns the class if both directions are known.
 #[tactic(auto, unfolding(crate::specs::Class::class_between))]
 fn class_between(step: &Step, a: u16, b: u16, angles: &Angles) -> Class
     requires a { a < 3600 }
@@ -138,8 +138,8 @@ fn class_between(step: &Step, a: u16, b: u16, angles: &Angles) -> Class
     }
 }
 
-/// The class of A in relation to B at a step: the first row that applies of the table in the definition. The directions of
-/// A and B are tenths of a degree clockwise from north, below 3600; the angle of doubt is at most 1124.
+/// Returns the class of A in relation to B at a step: the first row of the definition's table that applies. The
+/// directions of A and B are tenths of a degree clockwise from north, below 3600; the angle of doubt is at most 1124.
 pub fn class_of(step: &Step, a: Option<u16>, b: Option<u16>, angles: &Angles) -> Class
     requires a { IfSome a (λ d. d < 3600) }
     requires b { IfSome b (λ d. d < 3600) }

@@ -244,7 +244,7 @@ static PARTS: [(InfoRequest, &str); 13] = [
     (InfoRequest::Help, "1 to 20000"),
     (InfoRequest::Help, "0 to 999999"),
     (InfoRequest::Help, "[default: 1]"),
-    (InfoRequest::Help, "  2  the words are no command line\n"),
+    (InfoRequest::Help, "  2  invalid command line\n"),
     (InfoRequest::Help, "colregs audit scenario.toml --ticks 60 < log.nmea\n"),
     (InfoRequest::Summary, "Usage: colregs [OPTIONS] <MODE> <SCENARIO>\n"),
     (InfoRequest::Version, "colregs 0.1.0\n"),

@@ -1,4 +1,4 @@
--- How a clock is compared.
+-- Comparisons with a clock.
 use Rattle.std.specs.Prelude.{ℕ, Bool, false, nat_lt, Option, Some, None}
 
 -- whether the clock is past a time

@@ -1,4 +1,4 @@
--- What is seen at the ticks of a scenario's window: the vessels, and where ranks count theirs.
+-- The sightings at the ticks of a scenario's window: the vessels seen, and their ranks if ranks count.
 use Rattle.std.specs.Prelude.{ℕ, ◌+◌, map, List, [], if◌then◌else◌}
 use Rattle.std.specs.List.{range_with_len}
 use Rattle.motion.specs.declared.leg.TickState.{TickState}
@@ -16,7 +16,7 @@ use Rattle.tracks.specs.VesselsHeld.{Sent, accepted_of}
 unfoldable pub vessel_rank : Scenario → List Sent → ℕ → (ℕ × TickState) → Rank
 vessel_rank scenario messages time vessel = rank_at (noted messages) vessel.0 (accepted_of (numbers_of scenario) messages vessel.0) time
 
--- the ranks of these vessels there, in their order, where the scenario counts ranks; else none
+-- the ranks of these vessels there, in the same order, if ranks count in the scenario; otherwise none
 abbrev pub ranks_of : Scenario → List Sent → ℕ → SeenVessels → List Rank
 ranks_of scenario messages time vessels = if scenario.ranks then map (vessel_rank scenario messages time) vessels else []
 
@@ -24,16 +24,16 @@ ranks_of scenario messages time vessels = if scenario.ranks then map (vessel_ran
 abbrev pub seen_ranked : Scenario → List Sent → ℕ → SeenVessels → Sighting
 seen_ranked scenario messages time vessels = record { vessels = vessels; ranks = ranks_of scenario messages time vessels }
 
--- what is seen at a tick of the window, by the messages
+-- the sighting at a tick of the window, by the messages
 unfoldable pub sighting_by : Scenario → List Sent → ℕ → Sighting
 sighting_by scenario messages k =
     let time = time_of_tick scenario.window k in
     seen_ranked scenario messages time (seen_of (numbers_of scenario) messages time)
 
--- what is seen at each tick of the window
+-- the sighting at each tick of the window
 abbrev pub sighted : Scenario → List Sent → List Sighting
 sighted scenario messages = map (sighting_by scenario messages) (range_with_len 0 (scenario.window.ticks + 1))
 
--- what is seen at the first ticks
+-- the sightings at the first ticks
 abbrev pub seen_first : Scenario → List Sent → ℕ → List Sighting
 seen_first scenario messages k = map (sighting_by scenario messages) (range_with_len 0 k)

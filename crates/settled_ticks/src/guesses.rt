@@ -1,28 +1,28 @@
-//! Where the last reports of vessels were found.
+//! The indices at which the last reports of vessels were found.
 use out_of_memory::Memory;
 use std::alloc::Global;
 
-/// For each vessel, by her index among those held, the index of the report that was her last when it was looked for. It is no more than a
-/// guess, which is tested before it is used.
+/// By the vessel's index in the book: the index of her last report at the last search. It is only a guess, which is
+/// tested before use.
 #[derive(Drop)]
 pub(crate) struct Guesses {
     reports: Vec<usize>,
 }
 
 impl Guesses {
-    /// No guesses. This takes no memory.
+    /// Returns no guesses. This takes no memory.
     pub(crate) fn new(alloc: Global) -> Guesses {
         Guesses {
             reports: Vec::new(alloc),
         }
     }
 
-    /// Makes room for so many vessels.
+    /// Makes room for `vessels` vessels.
     pub(crate) fn make_room(&mut self, vessels: usize) -> Result<(), Memory> {
         Ok(self.reports.resize(vessels, 0)?)
     }
 
-    /// Which report of the vessel at this index may be her last.
+    /// Returns the report of the vessel at this index that may be her last.
     pub(crate) fn at(&self, vessel: usize) -> usize {
         match self.reports.get(vessel) {
             None => 0,
@@ -30,7 +30,7 @@ impl Guesses {
         }
     }
 
-    /// Keeps which report of the vessel at this index was her last, where there is room for her.
+    /// Stores the last report of the vessel at this index, if there is room for her.
     pub(crate) fn note(&mut self, vessel: usize, report: usize) {
         if let Some(guess) = self.reports.get_mut(vessel) {
             *guess = report;

@@ -1,4 +1,4 @@
-//! The last reports of vessels by a time, which are looked for first where they were found before.
+//! The last reports of vessels up to a time. The search starts at the previous result.
 ghost use Rattle.std.specs.Prelude.{◌≡◌, ◌≤◌, ◌<◌, true, length, slice_get, IsSome};
 ghost use Rattle.std.specs.List.Sorted.{IsNonDecreasingBy, IsPartitionPoint};
 ghost use Rattle.ranks.specs.VesselRanks.{report_at};
@@ -6,10 +6,10 @@ ghost use Rattle.tracks.specs.declared.accepted.Accepted.{Accepted};
 
 use tracks::Accepted;
 
-/// So far a report is looked for from where one was found, before the search by halves.
+/// The number of reports to search after the previous result before bisection.
 const NEAR: usize = 8;
 
-/// Whether the report at an index is the last that has come by the time.
+/// Returns whether the report at an index is the last one up to the time.
 fn is_last(points: &[Accepted], at: usize, time: u64) -> bool
     requires order { IsNonDecreasingBy (λ point. point.time) points.now }
     ensures within { result ≡ true → at < length points.now }
@@ -21,7 +21,8 @@ fn is_last(points: &[Accepted], at: usize, time: u64) -> bool
     at + 1 == points.len() || time < points[at + 1].time
 }
 
-/// The first index from a guess on behind which no report has come, if it is near. It is no more than a guess, too.
+/// Returns the first index from a guess after which there is no report up to the time, if it is near. The result is
+/// also only a guess.
 fn walk(points: &[Accepted], time: u64, guess: usize) -> usize {
     for at in guess..guess.saturating_add(NEAR) {
         if points.len() <= at + 1 || time < points[at + 1].time {
@@ -31,7 +32,7 @@ fn walk(points: &[Accepted], time: u64, guess: usize) -> usize {
     guess
 }
 
-/// How many of the reports have come by the time: a search by halves.
+/// Returns the number of reports up to the time, by bisection.
 fn count_by(points: &[Accepted], time: u64) -> usize
     requires { IsNonDecreasingBy (λ point. point.time) points.now }
     ensures bound { result ≤ length points.now }
@@ -41,7 +42,7 @@ fn count_by(points: &[Accepted], time: u64) -> usize
     points.partition_point(|point| point.time <= time)
 }
 
-/// The index of the last report that has come by the time. It is looked for from a guess on, which may be any number.
+/// Returns the index of the last report up to the time. The search starts at a guess, which may be any number.
 pub(crate) fn last_near(points: &[Accepted], time: u64, guess: usize) -> usize
     requires order { IsNonDecreasingBy (λ point. point.time) points.now }
     requires begun { IsSome (report_at points.now time) }
@@ -55,7 +56,7 @@ pub(crate) fn last_near(points: &[Accepted], time: u64, guess: usize) -> usize
     count_by(points, time) - 1
 }
 
-/// The report at an index by itself, where it is the last that has come by the time.
+/// Returns the report at an index as a list, if it is the last one up to the time.
 pub(crate) fn alone(points: &[Accepted], at: usize, time: u64) -> &[Accepted]
     requires within { at < length points.now }
     requires last { slice_get points.now at ≡ report_at points.now time }

@@ -1,4 +1,4 @@
-//! The ticks of a window, one after the other, as the lines of a log settle them.
+//! The ticks of a window, one after the other, when the lines of a log settle them.
 ghost use Rattle.std.specs.Prelude.{◌≡◌, ◌+◌, ◌<◌, ◌≤◌, [], ℕ, List, IfOk, OnOk, true, false};
 ghost use Rattle.log_lines.specs.SentLines.{sent};
 ghost use Rattle.log_lines.specs.Standing.{StandsFor as JudgeStandsFor, keeping_of};
@@ -18,7 +18,7 @@ use ranks::Rank;
 use scenario_values::Scenario;
 use std::alloc::Global;
 
-/// Whether the clock is past a time.
+/// Returns whether the clock is past a time.
 fn is_past(clock: Option<u64>, time: u64) -> bool
     ensures { result ≡ is_past clock time }
 {
@@ -28,21 +28,21 @@ fn is_past(clock: Option<u64>, time: u64) -> bool
     }
 }
 
-/// Hands out the ticks of a window, each once. After an `Err` it may only be dropped.
+/// Returns the ticks of a window, each once. After an `Err` the caller may only drop it.
 #[derive(Drop)]
 pub struct SettledTicks {
-    /// The first tick that was not handed out.
+    /// The first tick that was not returned yet.
     next: u32,
-    /// The vessels that are seen at the one before it.
+    /// The vessels seen at the tick before it.
     seen: Vec<(u32, TickState)>,
-    /// Their ranks in the same order, where ranks count; else none.
+    /// Their ranks in the same order if ranks count, otherwise none.
     ranks: Vec<Rank>,
-    /// Where the last reports of vessels were found, to save the search for them.
+    /// The indices of the vessels' last reports, to save searches.
     guesses: Guesses,
 }
 
 impl SettledTicks {
-    /// No tick was handed out. This takes no memory.
+    /// Returns the state before the first tick. This takes no memory.
     pub fn new(alloc: Global) -> SettledTicks
         ensures { handed_out result ≡ 0 }
     {
@@ -54,28 +54,28 @@ impl SettledTicks {
         }
     }
 
-    /// The vessels that are seen at the tick that was handed out last, in the order of their MMSIs.
+    /// Returns the vessels seen at the latest tick, in the order of their MMSIs.
     pub fn seen(&self) -> &[(u32, TickState)]
         ensures { result.now ≡ (latest_sighting self.now).vessels }
     {
         self.seen.as_slice()
     }
 
-    /// Their ranks there, in the same order, where ranks count; else none.
+    /// Returns their ranks in the same order if ranks count, otherwise none.
     pub fn ranks(&self) -> &[Rank]
         ensures { result.now ≡ (latest_sighting self.now).ranks }
     {
         self.ranks.as_slice()
     }
 
-    /// How many ticks were handed out.
+    /// Returns the number of ticks so far.
     pub fn count(&self) -> u32
         ensures { result ≡ handed_out self.now }
     {
         self.next
     }
 
-    /// Returns the time of the tick that was handed out last, or of the first one if none was. What lies before is not needed again.
+    /// Returns the time of the latest tick, or of the first one before any. Earlier data is not needed again.
     pub fn latest_time(&self, scenario: &Scenario) -> u64
         requires { IsInRange scenario.now }
         ensures { result ≡ latest_time scenario.now (handed_out self.now) }
@@ -83,7 +83,7 @@ impl SettledTicks {
         scenario.window.time(self.next.saturating_sub(1))
     }
 
-    /// Whether the judge's lines settle the next tick.
+    /// Returns whether the judge's lines settle the next tick.
     fn is_settled(&self, scenario: &Scenario, judge: &Judge) -> bool
         requires { IsInRange scenario.now }
         ensures within { result ≡ true → self.now.next ≤ scenario.now.window.ticks }
@@ -99,7 +99,7 @@ impl SettledTicks {
         self.next <= window.ticks && is_past(judge.clock(), window.time(self.next) + behind)
     }
 
-    /// Hands out the next tick, as the judge's lines show it.
+    /// Computes the next tick from the judge's lines.
     fn hand_out(&mut self, scenario: &Scenario, judge: &Judge) -> Result<(), Memory>
         requires in_range { IsInRange scenario.now }
         requires remembers { RemembersTicks (keeping_of judge.now) scenario.now
@@ -128,7 +128,8 @@ impl SettledTicks {
         Ok(())
     }
 
-    /// Hands out the next tick if the judge's lines settle it, and returns whether they do. If they do not, this takes no memory.
+    /// Computes the next tick if the judge's lines settle it; returns whether they do. If they do not, this takes no
+    /// memory.
     pub fn next(&mut self, scenario: &Scenario, judge: &Judge) -> Result<bool, Memory>
         requires in_range { IsInRange scenario.now }
         requires remembers { RemembersTicks (keeping_of judge.now) scenario.now
@@ -153,7 +154,7 @@ impl SettledTicks {
         Ok(true)
     }
 
-    /// Hands out the next tick as the lines of the whole log show it, settled or not, and returns whether one was left.
+    /// Computes the next tick from the lines of the whole log, settled or not; returns whether a tick was left.
     pub fn next_at_end(&mut self, scenario: &Scenario, judge: &Judge) -> Result<bool, Memory>
         requires in_range { IsInRange scenario.now }
         requires remembers { RemembersTicks (keeping_of judge.now) scenario.now

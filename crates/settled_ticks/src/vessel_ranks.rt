@@ -1,4 +1,4 @@
-//! The ranks of vessels that are seen.
+//! The ranks of the vessels seen.
 ghost use Rattle.std.specs.Prelude.{◌≡◌, ℕ, List, OnOk};
 ghost use Rattle.log_lines.specs.JudgedLines.{numbers_of};
 ghost use Rattle.log_lines.specs.SentLines.{sent};
@@ -19,8 +19,8 @@ use out_of_memory::Memory;
 use ranks::{Rank, Ranks};
 use tracks::{Accepted, Book};
 
-/// The index of the first vessel of a book from an index on whose identity is not less: where she is held, this is where she stands. It
-/// is no more than a guess.
+/// Returns the index of the first vessel of a book from `from` whose MMSI is not less. If the book has the vessel, this
+/// is her index. It is only a guess.
 fn place_from(book: &Book, from: usize, mmsi: u32) -> usize {
     for at in from..book.vessels() {
         if mmsi <= book.vessel(at) {
@@ -30,7 +30,7 @@ fn place_from(book: &Book, from: usize, mmsi: u32) -> usize {
     book.vessels()
 }
 
-/// The accepted reports of a vessel that are kept, which are found without a search where she is held at this index.
+/// Returns the stored accepted reports of a vessel, without a search if the book has her at this index.
 fn points_near(judge: &Judge, place: usize, mmsi: u32) -> &[Accepted]
     ensures { (scenario : Scenario) (lines : List (List ℕ))
         → JudgeStandsFor judge.now scenario lines
@@ -47,8 +47,8 @@ fn points_near(judge: &Judge, place: usize, mmsi: u32) -> &[Accepted]
     book.points(mmsi)
 }
 
-/// The rank of a vessel at a time by which she has reported. Where she may stand among those held, and which of her reports was the
-/// last, are guesses.
+/// Returns the rank of a vessel at a time by which she has reported. Her index in the book and the index of her last
+/// report are guesses.
 fn rank_of(
     judge: &Judge,
     types: &Ranks,
@@ -70,7 +70,7 @@ fn rank_of(
     types.rank(vessel.0, alone(points, last, time), time)
 }
 
-/// Puts the ranks of the vessels that are seen at a time in the place of what `ranks` holds, where ranks count; else it holds none.
+/// Replaces the content of `ranks` with the ranks of the vessels seen at a time if ranks count, otherwise empties it.
 pub(crate) fn rank_all(
     judge: &Judge,
     seen: &[(u32, TickState)],

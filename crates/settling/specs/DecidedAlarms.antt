@@ -9,7 +9,7 @@ use Rattle.settled_ticks.specs.Settled.{IsSettled}
 use Rattle.settled_ticks.specs.Sightings.{sighted}
 use Rattle.settling.specs.ScenarioAudit.{audit_numbers}
 
--- They are the alarms by the messages so far whose deciding step ends at a settled tick. No reach counts beside it.
+-- They are the alarms by the messages so far whose deciding step ends at a settled tick. No reach matters in addition.
 pub record AreDecidedAlarms (scenario : Scenario) (lines : List (List ℕ)) (alarms : List Alarm) : Type 0 where
   pub each : (alarm : Alarm) → Contains alarms alarm
       ↔ (IsAlarm (audit_numbers scenario) (sighted scenario (sent scenario lines)) alarm × IsSettled scenario lines (alarm.decided + 1))

@@ -11,8 +11,8 @@ use Rattle.settled_ticks.specs.Settled.{IsSettled}
 use Rattle.settled_ticks.specs.Sightings.{sighted}
 use Rattle.settling.specs.ScenarioAudit.{audit_numbers}
 
--- They are the rows by the messages so far, if the tick that lies the farthest rule's reach and two after their last step is settled:
--- one position more shows that the stretch has ended, and a position ends at the next tick.
+-- They are the rows by the messages so far, once the tick `last step + greatest reach of a rule + 2` is settled: one
+-- more position shows that the stretch has ended, and a position ends at the next tick.
 pub record AreDecided (scenario : Scenario) (lines : List (List ℕ)) (rows : List Row) : Type 0 where
   pub each : (row : Row) → Contains rows row
       ↔ (IsAuditRow (audit_numbers scenario) (sighted scenario (sent scenario lines)) row × IsSettled scenario lines (last_step_of row + audit_reach (audit_numbers scenario) + 2))

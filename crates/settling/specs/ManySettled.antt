@@ -1,4 +1,4 @@
--- When settled ticks begin too many traces.
+-- The case that settled ticks begin too many traces.
 use Rattle.std.specs.Prelude.{ℕ, ◌<◌, List}
 use Rattle.traces.specs.ManyTraces.{HaveMoreThan}
 use Rattle.traces.specs.declared.all_traces.TheConstants.{MOST_TRACES}
@@ -8,7 +8,7 @@ use Rattle.settled_ticks.specs.Settled.{IsSettled}
 use Rattle.settled_ticks.specs.Sightings.{seen_first}
 use Rattle.settling.specs.ScenarioAudit.{audit_numbers}
 
--- More traces begin at settled ticks, the first so many, than there may be.
+-- At the first ticks, which are settled, more traces begin than allowed.
 pub record HaveManySettled (scenario : Scenario) (lines : List (List ℕ)) : Type 0 where
   pub count : ℕ
   pub settled : (i : ℕ) → i < count → IsSettled scenario lines i

@@ -1,4 +1,4 @@
--- What an audit of settled ticks stands for: the lines of a log, and the rows that it has given.
+-- The model of an audit of settled ticks: the lines of a log, and the rows that it has returned.
 use Rattle.std.specs.Prelude.{ℕ, List}
 use Rattle.audit_rows.specs.declared.row.Row.{Row}
 use Rattle.log_lines.specs.declared.judge.Judge.{Judge}
@@ -8,16 +8,16 @@ use Rattle.settling.specs.Inner.AuditedTicks.{audit_taker}
 use Rattle.settling.specs.Inner.TakenTicks.{HasTakenOneLog, HasTakenSettled}
 use Rattle.settling.specs.declared.settled_audit.SettledAudit.{SettledAudit}
 
--- The settled ticks are those that were audited, as these lines show them, and these rows were given.
+-- The audited ticks are the settled ones, by these lines, and it has returned these rows.
 abbrev pub StandsFor : SettledAudit → Scenario → List (List ℕ) → List Row → Type 0
 StandsFor audit scenario lines given =
     HasTakenSettled (audit_taker audit.settled.taker) audit.settled.ticks scenario lines given
 
--- The audit stands for lines that the judge has taken, before further ones.
+-- The audit's model is lines that the judge has taken, before further ones.
 abbrev pub AreOfOneLog : SettledAudit → Scenario → Judge → Type 0
 AreOfOneLog audit scenario judge =
     HasTakenOneLog (audit_taker audit.settled.taker) audit.settled.ticks scenario judge
 
--- how many ticks it has audited: the first ones
+-- the number of audited ticks, which are the first ones
 abbrev pub audited_ticks : SettledAudit → ℕ
 audited_ticks audit = handed_out audit.settled.ticks

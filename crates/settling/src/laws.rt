@@ -1,4 +1,4 @@
-//! Laws of decided rows and alarms, which stand over the definitions alone.
+//! Laws of decided rows and alarms, which follow from the definitions alone.
 ghost use Rattle.std.specs.Prelude.{ℕ, ◌≡◌, ◌+◌, ◌-◌, ◌<◌, ◌≤◌, ◌↔◌, ◌++◌, length, List};
 ghost use Rattle.audit_rows.specs.Order.{last_step_of};
 ghost use Rattle.audit_rows.specs.declared.row.Row.{Row};
@@ -16,13 +16,14 @@ ghost use Rattle.settling.specs.ManySettled.{HaveManySettled};
 ghost use Rattle.settled_ticks.specs.Sightings.{seen_first, sighted};
 ghost use Rattle.settling.specs.ScenarioAudit.{audit_numbers};
 
-/// Where too many traces begin at settled ticks, they do so whatever lines follow.
+/// If too many traces begin at settled ticks, they do so whatever lines follow.
 pub fn many_settled_stay()
     ensures { (scenario : Scenario) (lines more : List (List ℕ)) → HaveManySettled scenario lines
         → HaveManySettled scenario (lines ++ more) }
 {}
 
-/// Whether a row is an audit's depends on the ticks alone up to the farthest rule's reach and two behind its last step.
+/// Whether an audit has a row depends only on the ticks up to the row's last step plus the greatest reach of a rule
+/// plus two.
 pub fn rows_look_so_far_ahead()
     ensures { (numbers : AuditNumbers) (ticks others : List Sighting) (row : Row)
         → last_step_of row + audit_reach numbers + 2 < length ticks
@@ -32,7 +33,8 @@ pub fn rows_look_so_far_ahead()
         → IsAuditRow numbers ticks row → IsAuditRow numbers others row }
 {}
 
-/// Where the first `s` ticks are the settled ones, the rows that an audit of them has decided are those that the lines decide.
+/// If the first `s` ticks are the settled ones, the rows that an audit of them has decided are those that the lines
+/// decide.
 pub fn rows_by_settled_ticks()
     ensures { (scenario : Scenario) (lines : List (List ℕ)) (s : ℕ) (rows : List Row)
         → ((i : ℕ) → IsSettled scenario lines i ↔ (i < s))
@@ -41,21 +43,21 @@ pub fn rows_by_settled_ticks()
         → AreDecided scenario lines rows }
 {}
 
-/// Lines decide one list of rows at most.
+/// Lines decide at most one list of rows.
 pub fn one_list_of_decided_rows()
     ensures { (scenario : Scenario) (lines : List (List ℕ)) (rows others : List Row)
         → AreDecided scenario lines rows → AreDecided scenario lines others
         → rows ≡ others }
 {}
 
-/// The rows that are decided are a front of those that are with further lines.
+/// The decided rows are a prefix of those decided with further lines.
 pub fn decided_rows_are_a_front()
     ensures { (scenario : Scenario) (lines more : List (List ℕ)) (rows later : List Row)
         → AreDecided scenario lines rows
         → AreDecided scenario (lines ++ more) later → (rest : List Row) × (later ≡ rows ++ rest) }
 {}
 
-/// The rows that are decided are a front of the whole report's, whatever lines follow.
+/// The decided rows are a prefix of the whole report's rows, whatever lines follow.
 pub fn decided_rows_begin_the_report()
     ensures { (scenario : Scenario) (lines more : List (List ℕ)) (rows all : List Row)
         → AreDecided scenario lines rows
@@ -63,7 +65,7 @@ pub fn decided_rows_begin_the_report()
         all → (rest : List Row) × (all ≡ rows ++ rest) }
 {}
 
-/// Whether an alarm is one depends on the ticks alone up to that at which its deciding step ends.
+/// Whether a watch has an alarm depends only on the ticks up to the end of its deciding step.
 pub fn alarms_look_so_far_ahead()
     ensures { (numbers : AuditNumbers) (ticks others : List Sighting) (alarm : Alarm)
         → alarm.decided + 1 < length ticks → alarm.decided + 1 < length others
@@ -71,7 +73,7 @@ pub fn alarms_look_so_far_ahead()
         → IsAlarm numbers ticks alarm → IsAlarm numbers others alarm }
 {}
 
-/// Where the first `s` ticks are the settled ones, their alarms are those that the lines decide.
+/// If the first `s` ticks are the settled ones, their alarms are those that the lines decide.
 pub fn alarms_by_settled_ticks()
     ensures { (scenario : Scenario) (lines : List (List ℕ)) (s : ℕ) (alarms : List Alarm)
         → ((i : ℕ) → IsSettled scenario lines i ↔ (i < s))
@@ -79,14 +81,14 @@ pub fn alarms_by_settled_ticks()
         → AreDecidedAlarms scenario lines alarms }
 {}
 
-/// Lines decide one list of alarms at most.
+/// Lines decide at most one list of alarms.
 pub fn one_list_of_decided_alarms()
     ensures { (scenario : Scenario) (lines : List (List ℕ)) (alarms others : List Alarm)
         → AreDecidedAlarms scenario lines alarms
         → AreDecidedAlarms scenario lines others → alarms ≡ others }
 {}
 
-/// The alarms that are decided are a front of those that are with further lines.
+/// The decided alarms are a prefix of those decided with further lines.
 pub fn decided_alarms_are_a_front()
     ensures { (scenario : Scenario) (lines more : List (List ℕ)) (alarms later : List Alarm)
         → AreDecidedAlarms scenario lines alarms
@@ -94,7 +96,7 @@ pub fn decided_alarms_are_a_front()
         → (rest : List Alarm) × (later ≡ alarms ++ rest) }
 {}
 
-/// The alarms that are decided are a front of all alarms, whatever lines follow.
+/// The decided alarms are a prefix of all alarms, whatever lines follow.
 pub fn decided_alarms_begin_the_report()
     ensures { (scenario : Scenario) (lines more : List (List ℕ)) (alarms all : List Alarm)
         → AreDecidedAlarms scenario lines alarms

@@ -1,4 +1,5 @@
-//! The ticks of a window, taken as the lines of a log settle them, by one who gives items with each: an audit rows, a watch alarms.
+//! Passes the ticks of a window to a taker when the lines of a log settle them. The taker returns items for each tick:
+//! an audit returns rows, a watch alarms.
 use crate::lists::add;
 use log_lines::Judge;
 use motion::TickState;
@@ -8,7 +9,7 @@ use settled_ticks::SettledTicks;
 use std::alloc::Global;
 use traces::TickFault;
 
-/// One who takes the ticks of a window in their order, and gives items with each.
+/// A taker of the ticks of a window in order, which returns items for each tick.
 pub trait TickTaker: Drop {
     ghost use Rattle.std.specs.Prelude.{◌≡◌, ◌≤◌, IfOk, Err};
     ghost use Rattle.settling.specs.Inner.TakenTicks.{IsTooManyFor, Taker, TakesNext};
@@ -19,9 +20,9 @@ pub trait TickTaker: Drop {
 
     ghost taker: { Self → Taker Self.Item };
 
-    /// Takes the next tick, of whose vessels these are seen, in the order of their MMSIs, and gives the items that it brings. The ranks
-    /// are those of the vessels seen, in the same order; where ranks do not count, there are none. After an `Err` the taker may only be
-    /// dropped. The limit is met exactly where the tick begins a 4097th trace; memory may run out before.
+    /// Takes the vessels seen at the next tick, in the order of their MMSIs, and their ranks in the same order; no
+    /// ranks if they do not count. Returns the items of the tick. After an `Err` the caller may only drop the taker.
+    /// The limit is exceeded exactly if the tick begins a 4097th trace; memory may run out before.
     fn take_tick(
         &mut self,
         seen: &[(u32, TickState)],
@@ -38,7 +39,7 @@ pub trait TickTaker: Drop {
             → IsTooManyFor (taker self.old) (record { vessels = seen.now; ranks = ranks.now }) };
 }
 
-/// A taker of ticks, to whom each tick of a window is given once the lines of a log settle it.
+/// A taker that gets each tick of a window once the lines of a log settle it.
 #[derive(Drop)]
 pub struct Settled<T: TickTaker> {
     alloc: Global,
@@ -62,7 +63,7 @@ impl<T: TickTaker> Settled<T> {
     ghost use Rattle.traces.specs.declared.all_traces.TheConstants.{MOST_TRACES};
     ghost use Rattle.traces.specs.declared.fault.TickFault.TheVariants.{TooManyPairs};
 
-    /// The taker before the first line.
+    /// Returns the taker before the first line.
     pub fn new(alloc: Global, taker: T) -> Settled<T>
         ensures { (scenario : Scenario) → IsBeforeAll (T.taker taker) scenario
             → HasTakenSettled (T.taker result.taker) result.ticks scenario [] [] }
@@ -74,15 +75,15 @@ impl<T: TickTaker> Settled<T> {
         }
     }
 
-    /// How many ticks were taken.
+    /// Returns the number of ticks taken so far.
     pub fn count(&self) -> u32
         ensures { result ≡ handed_out self.now.ticks }
     {
         self.ticks.count()
     }
 
-    /// Returns the time of the tick that was taken last, or of the first one if none was. Where vessels were before is not needed again,
-    /// and may be forgotten.
+    /// Returns the time of the last tick taken, or of the first tick before any. Earlier places of vessels are not
+    /// needed again and may be forgotten.
     pub fn latest_time(&self, scenario: &Scenario) -> u64
         requires { IsInRange scenario.now }
         ensures { result ≡ latest_time scenario.now (handed_out self.now.ticks) }
@@ -90,8 +91,8 @@ impl<T: TickTaker> Settled<T> {
         self.ticks.latest_time(scenario)
     }
 
-    /// Gives the taker each further tick that the judge's lines settle, and gives the items that they bring, behind those that were given.
-    /// Where no further tick is settled, this takes no memory. After an `Err` it may only be dropped.
+    /// Passes each further tick that the judge's lines settle to the taker, and returns the next items. If no further
+    /// tick is settled, this takes no memory. After an `Err` the caller may only drop it.
     pub fn settle(&mut self, scenario: &Scenario, judge: &Judge) -> Result<Vec<T::Item>, TickFault>
         requires in_range { IsInRange scenario.now }
         requires remembers { RemembersTicks (keeping_of judge.now) scenario.now
@@ -117,7 +118,7 @@ impl<T: TickTaker> Settled<T> {
         Ok(items)
     }
 
-    /// Gives the taker the ticks that are left, as the lines of the whole log show them, and returns the items that they bring.
+    /// Passes the remaining ticks, from the lines of the whole log, to the taker, and returns their items.
     pub fn finish(&mut self, scenario: &Scenario, judge: &Judge) -> Result<Vec<T::Item>, TickFault>
         requires in_range { IsInRange scenario.now }
         requires remembers { RemembersTicks (keeping_of judge.now) scenario.now

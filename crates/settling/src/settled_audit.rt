@@ -1,4 +1,4 @@
-//! The audit of a window's ticks, as the lines of a log settle them.
+//! The audit of a window's ticks when the lines of a log settle them.
 ghost use Rattle.std.specs.Prelude.{◌≡◌, ◌++◌, [], ℕ, List, IfOk, OnOk, Err};
 ghost use Rattle.audit_rows.specs.declared.row.Row.{Row};
 ghost use Rattle.auditor.specs.AuditRows.{AreAuditRows};
@@ -49,7 +49,7 @@ pub struct SettledAudit {
 }
 
 impl SettledAudit {
-    /// The audit of a scenario's window, before the first line.
+    /// Returns the audit of a scenario's window, before the first line.
     pub fn new(alloc: Global, scenario: &Scenario) -> Result<SettledAudit, Memory>
         requires { IsInRange scenario.now }
         ensures { IfOk result (λ audit. StandsFor audit scenario.now [] []) }
@@ -67,15 +67,15 @@ impl SettledAudit {
         })
     }
 
-    /// How many ticks were taken.
+    /// Returns the number of ticks taken so far.
     pub fn count(&self) -> u32
         ensures { result ≡ audited_ticks self.now }
     {
         self.settled.count()
     }
 
-    /// Returns the time of the tick that was taken last, or of the first one if none was. Where vessels were before is not needed again,
-    /// and may be forgotten.
+    /// Returns the time of the last tick taken, or of the first tick before any. Earlier places of vessels are not
+    /// needed again and may be forgotten.
     pub fn latest_time(&self, scenario: &Scenario) -> u64
         requires { IsInRange scenario.now }
         ensures { result ≡ latest_time scenario.now (audited_ticks self.now) }
@@ -83,8 +83,8 @@ impl SettledAudit {
         self.settled.latest_time(scenario)
     }
 
-    /// Audits each further tick that the judge's lines settle, and gives the rows that they decide, behind those that were given.
-    /// Where no further tick is settled, this takes no memory. After an `Err` the audit may only be dropped.
+    /// Audits each further tick that the judge's lines settle, and returns the next rows that they decide. If no
+    /// further tick is settled, this takes no memory. After an `Err` the caller may only drop the audit.
     pub fn settle(&mut self, scenario: &Scenario, judge: &Judge) -> Result<Vec<Row>, AuditFault>
         requires in_range { IsInRange scenario.now }
         requires remembers { RemembersTicks (keeping_of judge.now) scenario.now
@@ -98,7 +98,7 @@ impl SettledAudit {
         ensures decided { IfOk result
             (λ rows. Then (StandsFor self.old scenario.now) scenario.now judge.now
             (λ lines given. AreDecided scenario.now lines (given ++ rows.items))) }
-        // The limit is met exactly where a 4097th trace begins at a settled tick; memory may run out before.
+        // The limit is exceeded exactly if a 4097th trace begins at a settled tick; memory may run out before.
         ensures many { result ≡ Err TooManyPairs
             → Then (StandsFor self.old scenario.now) scenario.now judge.now
             (λ lines given. HaveManySettled scenario.now lines) }
@@ -108,8 +108,8 @@ impl SettledAudit {
         self.settled.settle(scenario, judge)
     }
 
-    /// Audits the ticks that are left, as the lines of the whole log show them, and ends the audit. Returns the rows after those that
-    /// were given, and one total for each rule.
+    /// Audits the remaining ticks, from the lines of the whole log, and ends the audit. Returns the remaining rows, and
+    /// one total per rule.
     pub fn end(self, scenario: &Scenario, judge: &Judge) -> Result<AuditEnd, AuditFault>
         requires in_range { IsInRange scenario.now }
         requires remembers { RemembersTicks (keeping_of judge.now) scenario.now
@@ -124,7 +124,7 @@ impl SettledAudit {
             (λ lines given. AreTotals (audit_numbers scenario.now)
             (sighted scenario.now (sent scenario.now lines))
             (given ++ end.rows.items) end.totals.items)) }
-        // The limit is met exactly where a 4097th trace begins; memory may run out before.
+        // The limit is exceeded exactly if a 4097th trace begins; memory may run out before.
         ensures many { result ≡ Err TooManyPairs
             → Then (StandsFor self scenario.now) scenario.now judge.now
             (λ lines given. HaveMoreThan MOST_TRACES (audit_numbers scenario.now)

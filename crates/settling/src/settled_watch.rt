@@ -1,4 +1,4 @@
-//! The watch over a window's ticks, as the lines of a log settle them.
+//! The watch over a window's ticks when the lines of a log settle them.
 ghost use Rattle.std.specs.Prelude.{◌≡◌, ◌++◌, [], ℕ, List, IfOk, OnOk, Err};
 ghost use Rattle.early_monitor.specs.Alarms.{AreAlarms};
 ghost use Rattle.early_monitor.specs.declared.alarm.Alarm.{Alarm};
@@ -48,7 +48,7 @@ pub struct SettledWatch {
 }
 
 impl SettledWatch {
-    /// The watch over a scenario's window, before the first line.
+    /// Returns the watch over a scenario's window, before the first line.
     pub fn new(alloc: Global, scenario: &Scenario) -> Result<SettledWatch, Memory>
         requires { IsInRange scenario.now }
         ensures { IfOk result (λ watch. StandsFor watch scenario.now [] []) }
@@ -66,15 +66,15 @@ impl SettledWatch {
         })
     }
 
-    /// How many ticks were taken.
+    /// Returns the number of ticks taken so far.
     pub fn count(&self) -> u32
         ensures { result ≡ watched_ticks self.now }
     {
         self.settled.count()
     }
 
-    /// Returns the time of the tick that was taken last, or of the first one if none was. Where vessels were before is not needed again,
-    /// and may be forgotten.
+    /// Returns the time of the last tick taken, or of the first tick before any. Earlier places of vessels are not
+    /// needed again and may be forgotten.
     pub fn latest_time(&self, scenario: &Scenario) -> u64
         requires { IsInRange scenario.now }
         ensures { result ≡ latest_time scenario.now (watched_ticks self.now) }
@@ -82,8 +82,8 @@ impl SettledWatch {
         self.settled.latest_time(scenario)
     }
 
-    /// Watches each further tick that the judge's lines settle, and gives the alarms of these ticks, behind those that were given.
-    /// Where no further tick is settled, this takes no memory. After an `Err` the watch may only be dropped.
+    /// Watches each further tick that the judge's lines settle, and returns the alarms of these ticks. If no further
+    /// tick is settled, this takes no memory. After an `Err` the caller may only drop the watch.
     pub fn settle(&mut self, scenario: &Scenario, judge: &Judge) -> Result<Vec<Alarm>, WatchFault>
         requires in_range { IsInRange scenario.now }
         requires remembers { RemembersTicks (keeping_of judge.now) scenario.now
@@ -97,7 +97,7 @@ impl SettledWatch {
         ensures decided { IfOk result
             (λ alarms. Then (StandsFor self.old scenario.now) scenario.now judge.now
             (λ lines given. AreDecidedAlarms scenario.now lines (given ++ alarms.items))) }
-        // The limit is met exactly where a 4097th trace begins at a settled tick; memory may run out before.
+        // The limit is exceeded exactly if a 4097th trace begins at a settled tick; memory may run out before.
         ensures many { result ≡ Err TooManyPairs
             → Then (StandsFor self.old scenario.now) scenario.now judge.now
             (λ lines given. HaveManySettled scenario.now lines) }
@@ -107,8 +107,7 @@ impl SettledWatch {
         self.settled.settle(scenario, judge)
     }
 
-    /// Watches the ticks that are left, as the lines of the whole log show them, and ends the watch. Returns the alarms after those that
-    /// were given.
+    /// Watches the remaining ticks, from the lines of the whole log, and ends the watch. Returns the remaining alarms.
     pub fn end(mut self, scenario: &Scenario, judge: &Judge) -> Result<Vec<Alarm>, WatchFault>
         requires in_range { IsInRange scenario.now }
         requires remembers { RemembersTicks (keeping_of judge.now) scenario.now
@@ -118,7 +117,7 @@ impl SettledWatch {
             (λ rest. Then (StandsFor self scenario.now) scenario.now judge.now
             (λ lines given. AreAlarms (audit_numbers scenario.now)
             (sighted scenario.now (sent scenario.now lines)) (given ++ rest.items))) }
-        // The limit is met exactly where a 4097th trace begins; memory may run out before.
+        // The limit is exceeded exactly if a 4097th trace begins; memory may run out before.
         ensures many { result ≡ Err TooManyPairs
             → Then (StandsFor self scenario.now) scenario.now judge.now
             (λ lines given. HaveMoreThan MOST_TRACES (audit_numbers scenario.now)

@@ -1,4 +1,4 @@
--- A task: its kind, and what it needs beside the log.
+-- A task: its kind, and its inputs besides the log.
 use Rattle.std.specs.Prelude.{ℕ, Bool, false, List, []}
 use Rattle.tasks.specs.declared.mode.Mode.{Mode}
 use Rattle.tasks.specs.declared.mode.Mode.TheVariants as mode
@@ -23,7 +23,7 @@ task_mode (task.Drill seed) = mode.Drill
 task_mode (task.Recheck rows) = mode.Recheck
 task_mode task.Watch = mode.Watch
 
--- whether the report says why every plan fails, if every plan does
+-- whether the report says why every plan fails, if every plan fails
 abbrev pub says_why : Task → Bool
 says_why (task.Plan why) = why
 says_why _ = false

@@ -1,8 +1,9 @@
-//! The tasks of the program, and what each of them needs.
+//! The tasks of the program, and their inputs.
 //!
-//! A [`Task`] is what is asked of a log, with what it needs beside the log; its [`Mode`] is its kind. `specs/Modes.antt` has the one table: one
-//! row per mode. What the program does for a mode elsewhere follows from its row. A `plan` reads the log that it is given, needs own ship, and
-//! checks no rows. How a report is made is out of scope: that is `sessions`. A migration reports on no log, and so is no task.
+//! A [`Task`] is a request about a log, with its inputs besides the log; its [`Mode`] is its kind. `specs/Modes.antt`
+//! has the only table, with one row per mode, from which the program's behaviour for a mode follows. For example, a
+//! `plan` reads the given log, needs own ship, and checks no rows. Making reports is out of scope: see `sessions`. A
+//! migration reports on no log, so it is not a task.
 #![tactic(auto)]
 
 mod mode;

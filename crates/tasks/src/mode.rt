@@ -1,19 +1,19 @@
-//! The kinds of tasks, and what each of them needs.
+//! The kinds of tasks, and their inputs.
 ghost use Rattle.std.specs.Prelude.{◌≡◌};
 ghost use Rattle.tasks.specs.Modes.{needs_own, needs_rows, reads_log};
 
-/// What kind of report there is to be on a log.
+/// The kind of report on a log.
 #[derive(Clone, Copy, Debug, PartialEq, Eq)]
 pub enum Mode {
-    /// Positions out of a log, as points of the plane.
+    /// Positions from a log, as points of the plane.
     Points,
-    /// How the vessels of a log met, and which duties were broken or stayed undecided.
+    /// The meetings of a log's vessels, and the duties that were broken or stayed undecided.
     Audit,
     /// The first plan of own ship that newly breaks no rule and enters no domain.
     Plan,
-    /// A log of forty vessels that is made for the scenario, and the totals of its audit.
+    /// The totals of an audit of a log of forty vessels, made for the scenario.
     Drill,
-    /// Whether rows say rightly why every plan of own ship fails, without a search.
+    /// A check without a search whether rows give the right reasons why every plan of own ship fails.
     Recheck,
     /// Each breach of a rule at the first step that decides it, as soon as the log settles that step.
     Watch,
@@ -26,7 +26,7 @@ pub fn needs_own(mode: Mode) -> bool
     matches!(mode, Mode::Plan | Mode::Recheck)
 }
 
-/// Returns whether the task checks rows that say why there is no plan.
+/// Returns whether the task checks rows with the reasons why there is no plan.
 pub fn needs_rows(mode: Mode) -> bool
     ensures { result ≡ needs_rows mode }
 {

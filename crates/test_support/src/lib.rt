@@ -1,5 +1,5 @@
-//! What a test compares, in one place: a test that calls this is proved in a fraction of the time that the macros take in it. What fails is
-//! reported with both values, by the name of its test.
+//! The comparisons of tests as functions: proving a test that calls them takes a fraction of the time that the macros
+//! take. A failure shows both values, under the name of the test.
 #![tactic(auto)]
 
 ghost use Rattle.std.specs.Prelude.{◌≡◌, ◌↔◌, IsOk, true};
@@ -7,7 +7,7 @@ ghost use Rattle.std.specs.Prelude.{◌≡◌, ◌↔◌, IsOk, true};
 use std::fmt::Debug;
 use std::test::Fail;
 
-/// What was found is what was wanted.
+/// Checks that the two values are equal.
 pub fn is<T: PartialEq + Debug + Drop>(found: T, wanted: T) -> Result<(), Fail>
     ensures { IsOk result ↔ (T.eq found wanted ≡ true) }
 {
@@ -17,7 +17,7 @@ pub fn is<T: PartialEq + Debug + Drop>(found: T, wanted: T) -> Result<(), Fail>
     Err(Fail::new(format_args!("found {found:?}, and not {wanted:?}")))
 }
 
-/// What is claimed holds.
+/// Checks that the claim holds.
 pub fn is_true(claim: bool) -> Result<(), Fail>
     ensures { IsOk result ↔ (claim ≡ true) }
 {

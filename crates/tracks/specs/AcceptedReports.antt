@@ -1,4 +1,4 @@
--- Which position reports of a vessel are accepted.
+-- The accepted position reports of a vessel.
 use Rattle.std.specs.Prelude.{ℕ, ◌≡◌, ◌+◌, ◌-◌, ◌*◌, ◌==◌, ◌&&◌, ◌↔◌, Bool, true, false, nat_le, nat_lt, nat_eq, List, [], ◌∷◌, length, take, slice_get, Option, Some, None, Result, Ok, Err, IsOk, ℤ, unsigned_abs}
 use Rattle.std.specs.List.{find, last_or}
 use Rattle.std.specs.Option.{option_eq}
@@ -13,21 +13,21 @@ use Rattle.tracks.specs.declared.accepted.Accepted.{Accepted}
 use Rattle.tracks.specs.declared.entry.ReportCause.{ReportCause}
 use Rattle.tracks.specs.declared.entry.ReportCause.TheVariants.{NoPos, Far, Back, Repeat, Jump}
 
--- By these reports are judged: the place at the plane's origin, how many seconds two reports may lie apart and still be joined,
--- and the greatest speed of a vessel, in tenths of a knot.
+-- The numbers for judging reports: the place at the plane's origin, the greatest time between two joined reports in
+-- seconds, and the greatest speed of a vessel in tenths of a knot.
 pub record JudgingNumbers : Type 0 where
   pub reference : Place
   pub gap : ℕ
   pub max_speed : ℕ
 
--- a position report, and when it came, in seconds since 1970
+-- a position report, and its time in seconds since 1970
 pub record Reported : Type 0 where
   pub report : PositionReport
   pub time : ℕ
 
 -- ---- the point of a report
 
--- a report at its point of the plane; one without a place, or with a place that is not in the region, has none
+-- a report at its point of the plane; a report without a place, or with a place outside the region, has none
 abbrev pub at_point : Reported → Option Point → Result Accepted ReportCause
 at_point now None = Err Far
 at_point now (Some point) = Ok (record { time = now.time; point = point; report = now.report })
@@ -39,7 +39,7 @@ at_place reference now (Some place) = at_point now (projection_of reference.lati
 unfoldable pub placed : Place → Reported → Result Accepted ReportCause
 placed reference now = at_place reference now now.report.place
 
--- ---- the causes that look at the latest accepted report
+-- ---- the causes that depend on the latest accepted report
 
 -- The time is not after the latest one's.
 abbrev pub is_back : Accepted → Accepted → Bool
@@ -62,7 +62,8 @@ distance2 latest now = unsigned_abs (norm2_of (displacement latest.point now.poi
 abbrev pub square : ℕ → ℕ
 square n = n * n
 
--- The vessel would have moved faster than the greatest speed: a tenth of a knot is 4630 / 9 tenths of a millimetre a second.
+-- The vessel would have moved faster than the greatest speed: a tenth of a knot is 4630 / 9 tenths of a millimetre per
+-- second.
 abbrev pub is_jump : JudgingNumbers → Accepted → Accepted → Bool
 is_jump numbers latest now =
     nat_le now.time (latest.time + numbers.gap)
@@ -75,7 +76,7 @@ applies numbers latest now Back = is_back latest now
 applies numbers latest now Repeat = is_repeat latest now
 applies numbers latest now Jump = is_jump numbers latest now
 
--- ---- what a report comes to
+-- ---- the result of a report
 
 -- It is accepted, or dropped for the first cause that applies.
 abbrev pub unless : Accepted → Option ReportCause → Result Accepted ReportCause
@@ -91,7 +92,7 @@ abbrev pub judged_at : JudgingNumbers → Option Accepted → Result Accepted Re
 judged_at numbers latest (Err cause) = Err cause
 judged_at numbers latest (Ok now) = judged_after numbers latest now
 
--- what a report comes to, after the latest accepted one of its vessel
+-- the result of a report, after the latest accepted one of its vessel
 unfoldable pub judged : JudgingNumbers → Option Accepted → Reported → Result Accepted ReportCause
 judged numbers latest now = judged_at numbers latest (placed numbers.reference now)
 
@@ -112,8 +113,8 @@ accepted_at_marks reference (mark ∷ marks) [] = []
 accepted_at_marks reference (true ∷ marks) (now ∷ reports) = with_placed (placed reference now) (accepted_at_marks reference marks reports)
 accepted_at_marks reference (false ∷ marks) (now ∷ reports) = accepted_at_marks reference marks reports
 
--- The accepted list of a vessel's reports: a report stands in it exactly if no cause applies to it and to the last report
--- that stands in it before.
+-- The accepted list of a vessel's reports: it has a report exactly if no cause applies to it, given the last report
+-- before it in the list.
 pub record AreAccepted (numbers : JudgingNumbers) (reports : List Reported) (accepted : List Accepted) : Type 0 where
   pub marks : List Bool
   pub one_each : length marks ≡ length reports

@@ -1,4 +1,4 @@
--- What the faults of the book are in words.
+-- The texts of the book's faults.
 use Rattle.std.specs.Prelude.{ℕ, List, codes}
 use Rattle.tracks.specs.declared.entry.BookFault.{BookFault}
 use Rattle.tracks.specs.declared.entry.BookFault.TheVariants.{TooManyVessels, Memory}

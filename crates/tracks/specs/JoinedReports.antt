@@ -6,7 +6,7 @@ use Rattle.ais_messages.specs.declared.message.PositionReport.{PositionReport}
 use Rattle.motion.specs.declared.leg.Leg.{Leg}
 use Rattle.tracks.specs.declared.accepted.Accepted.{Accepted}
 
--- Her direction is her heading, which is reported in whole degrees, or otherwise her course.
+-- Her direction is her heading, which reports have in whole degrees, or otherwise her course.
 abbrev pub reported_direction : PositionReport → Option ℕ
 reported_direction report = option_or (option_map (λ degrees. degrees * 10) report.heading) report.cog
 
@@ -21,7 +21,7 @@ leg_between from to = record {
   speed = from.report.sog;
 }
 
--- Two consecutive reports are joined where they lie at most the gap apart.
+-- Two consecutive reports are joined if they are at most the gap apart.
 abbrev pub joined : ℕ → Accepted → Accepted → Option Leg
 joined gap from to = if nat_le to.time (from.time + gap) then Some (leg_between from to) else None
 

@@ -1,4 +1,4 @@
--- What a list of messages says about the vessels that sent them.
+-- The vessels that sent a list of messages, and their data.
 use Rattle.std.specs.Prelude.{ℕ, ◌==◌, ◌||◌, Bool, nat_lt, List, [], ◌∷◌, length, filter, fold, Option, Some, None, if◌then◌else◌, Result, Ok, Err}
 use Rattle.std.specs.List.{filter_map, last_or}
 use Rattle.std.specs.Option.{option_map}
@@ -15,7 +15,7 @@ use Rattle.tracks.specs.declared.entry.Entry.TheVariants as entry
 use Rattle.tracks.specs.declared.entry.ReportCause.{ReportCause}
 use Rattle.tracks.specs.declared.statics.Statics.{Statics}
 
--- a message, and when it came, in seconds since 1970
+-- a message, and its time in seconds since 1970
 pub record Sent : Type 0 where
   pub message : Message
   pub time : ℕ
@@ -64,17 +64,17 @@ last_told reports = record {
   ship = last_or None (filter_map (λ report. report.ship) reports);
 }
 
--- what she told of herself
+-- her static data
 unfoldable pub statics_of : List Sent → ℕ → Statics
 statics_of sent mmsi = last_told (static_reports_of sent mmsi)
 
--- ---- the vessels that are held
+-- ---- the vessels of the book
 
--- A vessel is held from her first accepted report or static report on.
+-- The book has a vessel from her first accepted report or static report.
 unfoldable pub is_held : JudgingNumbers → List Sent → ℕ → Bool
 is_held numbers sent mmsi = nat_lt 0 (length (accepted_of numbers sent mmsi)) || nat_lt 0 (length (static_reports_of sent mmsi))
 
--- the ascending numbers with one more, where it is not among them
+-- the ascending numbers with one more, if it is not among them
 abbrev pub with_number : ℕ → List ℕ → List ℕ
 with_number n [] = n ∷ []
 with_number n (m ∷ ms) = if nat_lt n m then n ∷ m ∷ ms else (if n == m then m ∷ ms else m ∷ with_number n ms)
@@ -83,11 +83,11 @@ with_number n (m ∷ ms) = if nat_lt n m then n ∷ m ∷ ms else (if n == m the
 abbrev pub senders_of : List Sent → List ℕ
 senders_of sent = fold (λ ms one. with_number (sender_of one.message) ms) [] sent
 
--- the vessels held, ascending
+-- the vessels of the book, ascending
 unfoldable pub held_of : JudgingNumbers → List Sent → List ℕ
 held_of numbers sent = filter (is_held numbers sent) (senders_of sent)
 
--- ---- what a message comes to
+-- ---- the result of a message
 
 abbrev pub entry_by : Result Accepted ReportCause → Entry
 entry_by (Ok accepted) = entry.Point accepted.point

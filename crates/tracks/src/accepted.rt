@@ -9,6 +9,6 @@ pub struct Accepted {
     pub time: u64,
     /// In tenths of a millimetre, at most 2,222,400,000 in each component.
     pub point: Point,
-    /// What she reported.
+    /// Her report.
     pub report: PositionReport,
 }

@@ -38,10 +38,10 @@ use out_of_memory::Memory;
 use std::alloc::Global;
 use std::marker::Model;
 
-/// So many vessels a book holds at most.
+/// The most vessels of a book.
 pub const MOST_VESSELS: usize = 4096;
 
-/// What a message of a vessel that is not held comes to.
+/// Returns the result of a message of a new vessel.
 fn first_entry(numbers: &GivenNumbers, message: &Message, time: u64) -> Entry
     requires numbers { IsNumbers numbers.now }
     requires message { IsMessage message.now }
@@ -57,7 +57,7 @@ fn first_entry(numbers: &GivenNumbers, message: &Message, time: u64) -> Entry
     }
 }
 
-/// Whether a message that comes to this makes its vessel held.
+/// Returns whether a message with this result adds its vessel to the book.
 fn is_holding(message: &Message, entry: Entry) -> bool
     ensures { (numbers : JudgingNumbers) (time : ℕ)
         → entry ≡ entry_at numbers None
@@ -67,7 +67,7 @@ fn is_holding(message: &Message, entry: Entry) -> bool
     static_report(message).is_some() || matches!(entry, Entry::Point(_))
 }
 
-/// Puts a vessel at its place, or leaves all as it was.
+/// Inserts a vessel at an index, or changes nothing if memory runs out.
 fn put(
     held: &mut Vec<u32>,
     vessels: &mut Vec<Vessel>,
@@ -88,7 +88,8 @@ fn put(
     Ok(())
 }
 
-/// Forgets of each vessel the reports before the last one that is earlier than a time, and the legs to them and to that one.
+/// Forgets, for each vessel, the reports before the last one that is earlier than a time, and the legs to these reports
+/// and to that one.
 fn forget_each(vessels: &mut Vec<Vessel>, gap: u32, time: u64)
     requires in_order { All (λ (vessel : VesselValue). AreInOrder vessel.points) vessels.old.items }
     requires legs { All
@@ -100,8 +101,9 @@ fn forget_each(vessels: &mut Vec<Vessel>, gap: u32, time: u64)
     }
 }
 
-/// The vessels that were heard of, with their static data, and with their accepted reports and the legs between them, or with the
-/// latest report alone. It is seen as what it keeps, which stands for its numbers and the list of the messages so far.
+/// The vessels heard so far, with their static data, and with their accepted reports and the legs between them, or with
+/// only the latest report. Its model is the stored data, which stands for its numbers and the list of the messages so
+/// far.
 #[derive(Drop)]
 pub struct Book {
     alloc: Global,
@@ -109,7 +111,7 @@ pub struct Book {
     numbers: GivenNumbers,
     held: Vec<u32>,
     vessels: Vec<Vessel>,
-    /// Where vessels were found last, to save the search for them.
+    /// The indices at which vessels were last found, to save searches.
     guesses: Guesses,
 }
 
@@ -137,8 +139,9 @@ impl Model for Book {
 }
 
 impl Book {
-    /// A book that holds no vessel, about a reference, and keeps all accepted reports, with the legs between them. Reports at most
-    /// `gap` seconds apart are joined, and a vessel moves at most at `max_speed` tenths of a knot. This takes no memory.
+    /// Returns an empty book around a reference that stores all accepted reports and the legs between them. It joins
+    /// reports at most `gap` seconds apart, and a vessel moves at no more than `max_speed` tenths of a knot. This takes
+    /// no memory.
     pub fn new(alloc: Global, reference: Reference, gap: u32, max_speed: u16) -> Book
         requires gap { gap ≤ 3600 }
         requires some_speed { 1 ≤ max_speed }
@@ -150,7 +153,8 @@ impl Book {
         Book::with_keeping(alloc, Keeping::Tracks, reference, gap, max_speed)
     }
 
-    /// The same, for a book that keeps of each vessel's accepted reports what `keeping` says: all, or the latest alone.
+    /// Returns the same, for a book that stores of each vessel's accepted reports what `keeping` says: all, or only the
+    /// latest.
     pub fn with_keeping(
         alloc: Global,
         keeping: Keeping,
@@ -179,10 +183,10 @@ impl Book {
         }
     }
 
-    /// Takes the next message, which came at `time`, and returns its outcome: the position report of a message is accepted, or
-    /// dropped for the first cause that applies, and its static report is kept in any case. `TooManyVessels` comes exactly if
-    /// more than [`MOST_VESSELS`] would be held with this message, and `Memory` if memory ran out; the book is then as before. The
-    /// positions of a vessel more than the gap before `time` stay as they were.
+    /// Takes the next message, received at `time`, and returns its result: the position report of a message is
+    /// accepted, or dropped for the first cause that applies; its static report is stored in either case. Returns
+    /// `TooManyVessels` exactly if this message would add a vessel beyond [`MOST_VESSELS`], and `Memory` if memory runs
+    /// out; the book is then unchanged. The positions of a vessel more than the gap before `time` do not change.
     pub fn take(&mut self, message: &Message, time: u64) -> Result<Entry, BookFault>
         requires { IsMessage message.now }
         ensures entry { IfOk result
@@ -215,7 +219,7 @@ impl Book {
         }
     }
 
-    /// Takes the next message, which is a position report alone: the same as [`Book::take`] of that message.
+    /// Takes the next message, which is only a position report; does the same as [`Book::take`] of that message.
     #[inline(always)]
     pub fn take_report(&mut self, report: &PositionReport, time: u64) -> Result<Entry, BookFault>
         requires { IsReport report.now }
@@ -247,7 +251,7 @@ impl Book {
         }
     }
 
-    /// The index at which a vessel was found last, if she still stands there.
+    /// Returns the index at which a vessel was last found, if she is still there.
     #[inline(always)]
     fn guess(&self, mmsi: u32) -> Option<usize>
         ensures { IfSome result (λ at. slice_get self.now.held at ≡ Some mmsi) }
@@ -260,7 +264,7 @@ impl Book {
         }
     }
 
-    /// Takes a position report of the vessel that is held at this index.
+    /// Takes a position report of the vessel at this index.
     #[inline(always)]
     fn report_further(
         &mut self,
@@ -290,7 +294,7 @@ impl Book {
         vessel.take_report(self.keeping, &self.numbers, report, time)
     }
 
-    /// Takes a message of the vessel that is held at this index.
+    /// Takes a message of the vessel at this index.
     fn take_further(&mut self, at: usize, message: &Message, time: u64) -> Result<Entry, Memory>
         requires message { IsMessage message.now }
         requires sender { slice_get self.old.held at ≡ Some (sender_of message.now) }
@@ -313,7 +317,7 @@ impl Book {
         vessel.take(self.keeping, &self.numbers, message, time)
     }
 
-    /// Takes a message of a vessel that is not held.
+    /// Takes a message of a vessel that is not in the book.
     fn take_first(
         &mut self,
         at: usize,
@@ -355,7 +359,7 @@ impl Book {
         }
     }
 
-    /// Takes a message that makes its vessel held.
+    /// Takes a message that adds its vessel to the book.
     fn hold(&mut self, at: usize, mmsi: u32, message: &Message, time: u64) -> Result<(), Memory>
         requires message { IsMessage message.now }
         requires sender { mmsi ≡ sender_of message.now }
@@ -377,10 +381,10 @@ impl Book {
         put(&mut self.held, &mut self.vessels, at, mmsi, vessel)
     }
 
-    /// Forgets what lies before a time: of each vessel the accepted reports before the last one that is earlier, and the legs to them and
-    /// to that one. What is seen from that time on, the counts and the static data stay, and what further messages come to. A book
-    /// that keeps no tracks, or has forgotten as much, stays as it is. It takes no memory, and time by the vessels and by what is
-    /// kept.
+    /// Forgets data before a time: for each vessel the accepted reports before the last one that is earlier, and the
+    /// legs to these reports and to that one. This changes neither the vessels seen from that time, nor the counts, the
+    /// static data and the results of further messages. A book that stores no tracks, or has already forgotten as much,
+    /// does not change. It takes no memory; its time grows with the vessels and the stored reports.
     pub fn forget(&mut self, time: u64)
         ensures stands { (numbers : JudgingNumbers) (sent : List Sent)
             → StandsFor self.old numbers sent → StandsFor self.new numbers sent }
@@ -394,7 +398,7 @@ impl Book {
         self.keeping = Keeping::Since(earliest);
     }
 
-    /// The vessel of this identity, if she is held.
+    /// Returns the vessel with this MMSI, if the book has her.
     fn vessel_of(&self, mmsi: u32) -> Option<&Vessel>
         ensures value { (numbers : JudgingNumbers) (sent : List Sent)
             → StandsFor self.now numbers sent
@@ -408,7 +412,7 @@ impl Book {
         }
     }
 
-    /// The accepted reports of a vessel that are kept, in the order in which they came.
+    /// Returns the stored accepted reports of a vessel, in the order of arrival.
     pub fn points(&self, mmsi: u32) -> &[Accepted]
         ensures value { (numbers : JudgingNumbers) (sent : List Sent)
             → StandsFor self.now numbers sent
@@ -421,7 +425,7 @@ impl Book {
         }
     }
 
-    /// The latest accepted report of a vessel, if she has one.
+    /// Returns the latest accepted report of a vessel, if she has one.
     pub fn latest(&self, mmsi: u32) -> Option<&Accepted>
         ensures value { self.now.keeping ≡ Tracks → (numbers : JudgingNumbers) (sent : List Sent)
             → StandsFor self.now numbers sent
@@ -431,7 +435,7 @@ impl Book {
         latest(self.points(mmsi))
     }
 
-    /// The legs that are kept between the accepted reports of a vessel, or `None` where she is not held.
+    /// Returns the stored legs between the accepted reports of a vessel, or `None` if the book does not have her.
     pub fn legs(&self, mmsi: u32) -> Option<&Legs>
         ensures value { (numbers : JudgingNumbers) (sent : List Sent)
             → StandsFor self.now numbers sent
@@ -446,7 +450,7 @@ impl Book {
         Some(legs)
     }
 
-    /// The vessel that is held at this index.
+    /// Returns the vessel at this index.
     fn vessel_at(&self, at: usize) -> &Vessel
         requires { at < length self.now.held }
         ensures value { (numbers : JudgingNumbers) (sent : List Sent) (mmsi : ℕ)
@@ -458,7 +462,7 @@ impl Book {
         &self.vessels[at]
     }
 
-    /// The legs of the vessel that is held at this index.
+    /// Returns the legs of the vessel at this index.
     fn legs_at(&self, at: usize) -> &Legs
         requires { at < length self.now.held }
         ensures value { result.now ≡ legs_in self.now (slice_index self.now.held at) }
@@ -469,7 +473,7 @@ impl Book {
         legs
     }
 
-    /// Puts the vessel that is held at this index after the others, if she is seen at the time.
+    /// Appends the vessel at this index to `seen`, if she is seen at the time.
     fn look_at(&self, at: usize, time: u64, seen: &mut Vec<(u32, TickState)>) -> Result<(), Memory>
         requires { at < length self.now.held }
         ensures more { OnOk result
@@ -489,10 +493,10 @@ impl Book {
         Ok(())
     }
 
-    /// Puts the vessels that are seen at a time, each with her state, in the place of what `seen` holds, in the order of their
-    /// identities. In a book that keeps no legs nobody is seen, and at a time that is forgotten perhaps not all. `seen` keeps its
-    /// room, and where that is enough for all vessels held, there is always memory. Where there is none, what `seen` holds is not
-    /// told.
+    /// Replaces the content of `seen` with the vessels seen at a time, each with her state, in the order of their
+    /// MMSIs. A book without legs sees no vessel, and at a forgotten time some vessels may be missing. `seen` keeps its
+    /// capacity; if that suffices for all vessels of the book, memory cannot run out. If memory runs out, the content
+    /// of `seen` is unspecified.
     pub fn look(&self, time: u64, seen: &mut Vec<(u32, TickState)>) -> Result<(), Memory>
         ensures value { OnOk result
             (Remembers self.now.keeping time → (numbers : JudgingNumbers) (sent : List Sent)
@@ -512,8 +516,8 @@ impl Book {
         Ok(())
     }
 
-    /// A law of the book, which does nothing: from one time to another, at most a minute and at most the gap later, a vessel that
-    /// is seen at both moves by less than 2^25 in each component.
+    /// A law of the book, which does nothing at run time: from one time to another, at most a minute and at most the
+    /// gap later, a vessel seen at both moves by less than 2^25 in each component.
     pub fn moves_little(&self)
         ensures { (t u mmsi : ℕ) (before after : TickState) → t ≤ u → u ≤ t + 60
             → u ≤ t + self.now.numbers.gap → Contains (seen_in self.now t) (mmsi, before)
@@ -526,8 +530,9 @@ impl Book {
         }
     }
 
-    /// A law of the book, which does nothing: a vessel that is seen on a leg before her latest accepted report, at most the gap
-    /// before it, moves from there to that report's point by at most 525,763 a second in each component, and by 2 more.
+    /// A law of the book, which does nothing at run time: a vessel seen on a leg before her latest accepted report, at
+    /// most the gap before it, moves from there to that report's point by at most 525,763 per second in each component,
+    /// plus 2.
     pub fn comes_to_latest(&self, mmsi: u32)
         requires { self.now.keeping ≡ Tracks }
         ensures { (numbers : JudgingNumbers) (sent : List Sent) → StandsFor self.now numbers sent
@@ -540,7 +545,7 @@ impl Book {
         let _ = self.legs(mmsi);
     }
 
-    /// What a vessel told of herself, or `None` where she is not held.
+    /// Returns a vessel's static data, or `None` if the book does not have her.
     pub fn statics(&self, mmsi: u32) -> Option<&Statics>
         ensures { (numbers : JudgingNumbers) (sent : List Sent) → StandsFor self.now numbers sent
             → option_copied result
@@ -549,7 +554,7 @@ impl Book {
         Some(self.vessel_of(mmsi)?.statics())
     }
 
-    /// The length of a vessel that is held in metres, from bow to stern, at most 1022, and 0 where she told none.
+    /// Returns the length of a vessel of the book in metres, from bow to stern, at most 1022; 0 if she sent none.
     pub fn length(&self, mmsi: u32) -> u32
         ensures value { (numbers : JudgingNumbers) (sent : List Sent)
             → StandsFor self.now numbers sent → is_held numbers sent mmsi ≡ true
@@ -562,7 +567,7 @@ impl Book {
         }
     }
 
-    /// How many vessels are held.
+    /// Returns the number of vessels.
     pub fn vessels(&self) -> usize
         ensures value { (numbers : JudgingNumbers) (sent : List Sent)
             → StandsFor self.now numbers sent → result ≡ length (held_of numbers sent) }
@@ -572,7 +577,7 @@ impl Book {
         self.held.len()
     }
 
-    /// The identity of the `k`-th vessel that is held, in ascending order from 0.
+    /// Returns the MMSI of the `k`-th vessel, in ascending order from 0.
     pub fn vessel(&self, k: usize) -> u32
         requires { k < length self.now.held }
         ensures { (numbers : JudgingNumbers) (sent : List Sent) → StandsFor self.now numbers sent
@@ -581,7 +586,7 @@ impl Book {
         self.held[k]
     }
 
-    /// The `k`-th vessel that is held, in ascending order of the identities from 0, with all that is kept of her.
+    /// Returns the `k`-th vessel, in ascending order of MMSIs from 0, with all her stored data.
     pub fn held(&self, k: usize) -> HeldVessel<'_>
         requires { k < length self.now.held }
         ensures mmsi { slice_get self.now.held k ≡ Some result.mmsi }
@@ -601,7 +606,7 @@ impl Book {
         }
     }
 
-    /// The vessel of this identity with all that is kept of her, or `None` where she is not held.
+    /// Returns the vessel with this MMSI with all her stored data, or `None` if the book does not have her.
     pub fn find(&self, mmsi: u32) -> Option<HeldVessel<'_>>
         ensures held { (numbers : JudgingNumbers) (sent : List Sent)
             → StandsFor self.now numbers sent → IsTrue (is_held numbers sent mmsi) ↔ IsSome result }

@@ -1,18 +1,18 @@
-//! How much a vessel has reported.
+//! The counts of a vessel's reports.
 ghost use Rattle.std.specs.Prelude.{◌≡◌};
 ghost use Rattle.tracks.specs.Inner.Keeping.{counts_more};
 
-/// How many of a vessel's reports were accepted, and how many legs join them. A count goes to 2^64 - 1 and no further.
+/// The number of a vessel's accepted reports, and the number of legs that join them. Counts saturate at 2^64 - 1.
 #[derive(Clone, Copy, Debug, PartialEq, Eq)]
 pub struct Counts {
-    /// Her accepted reports, whether they are still kept or not.
+    /// Her accepted reports, including forgotten ones.
     pub reports: u64,
     /// The legs between them.
     pub legs: u64,
 }
 
 impl Counts {
-    /// With one report more, which is joined to the one before it or not.
+    /// Returns the counts with one more report, which is joined to the previous one or not.
     pub(crate) fn more(self, joined: bool) -> Counts
         ensures { result ≡ counts_more self joined }
     {

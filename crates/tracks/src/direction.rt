@@ -1,11 +1,12 @@
-//! Which way a vessel points by what she reports.
+//! The direction of a vessel by her reports.
 ghost use Rattle.std.specs.Prelude.{◌≡◌, ◌<◌, IfSome};
 ghost use Rattle.ais_messages.specs.MessageFields.{IsReport};
 ghost use Rattle.tracks.specs.JoinedReports.{reported_direction};
 
 use ais_messages::PositionReport;
 
-/// The direction of a vessel by her report, in tenths of a degree, 0 to 3599: her heading, or else her course, or else none.
+/// Returns the direction of a vessel by her report, in tenths of a degree, 0 to 3599: her heading, otherwise her
+/// course, otherwise none.
 pub fn reported_direction(report: &PositionReport) -> Option<u16>
     requires { IsReport report.now }
     ensures value { result ≡ reported_direction report.now }

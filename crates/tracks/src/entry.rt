@@ -1,10 +1,10 @@
-//! What a message comes to.
+//! The result of a message.
 use fixed_geometry::Point;
 use out_of_memory::Memory;
 use std::error::Error;
 use std::fmt;
 
-/// Why a position report is not accepted; the first that applies is the cause.
+/// Why a position report is not accepted; the first cause that applies counts.
 #[derive(Clone, Copy, Debug, PartialEq, Eq)]
 pub enum ReportCause {
     /// It has no place.
@@ -13,29 +13,29 @@ pub enum ReportCause {
     Far,
     /// Its time is not after that of the vessel's latest accepted report.
     Back,
-    /// It equals the latest accepted one in every field, and comes at most 30 seconds after it.
+    /// It equals the latest accepted one in every field, and is at most 30 seconds later.
     Repeat,
     /// The vessel would have moved faster than the greatest speed since the latest accepted one, at most the gap before.
     Jump,
 }
 
-/// What a message comes to.
+/// The result of a message.
 #[derive(Clone, Copy, Debug, PartialEq, Eq)]
 pub enum Entry {
     /// Its position report is accepted, at this point of the plane.
     Point(Point),
-    /// It is a static report alone.
+    /// It is only a static report.
     Static,
-    /// Its position report is dropped. A static part of it is kept all the same.
+    /// Its position report is dropped; its static part, if any, is still stored.
     Dropped(ReportCause),
 }
 
-/// Why a message could not be taken.
+/// Why the book could not take a message.
 #[derive(Clone, Copy, Debug, PartialEq, Eq)]
 pub enum BookFault {
-    /// There are [`MOST_VESSELS`](crate::MOST_VESSELS) in the book, and the message would make it hold another.
+    /// The book already has [`MOST_VESSELS`](crate::MOST_VESSELS), and the message would add another one.
     TooManyVessels,
-    /// There was no memory.
+    /// Memory ran out.
     Memory,
 }
 

@@ -1,4 +1,4 @@
-//! The numbers by which reports are judged.
+//! The numbers for judging reports.
 use fixed_geometry::Reference;
 use std::marker::Model;
 

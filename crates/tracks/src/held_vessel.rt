@@ -1,20 +1,20 @@
-//! What a book holds of one vessel.
+//! A book's data of one vessel.
 use crate::accepted::Accepted;
 use crate::counts::Counts;
 use crate::statics::Statics;
 use motion::Legs;
 
-/// A vessel that a book holds, with all that it keeps of her.
+/// A vessel of a book, with all her stored data.
 #[derive(Clone, Copy)]
 pub struct HeldVessel<'a> {
-    /// Her identity.
+    /// Her MMSI.
     pub mmsi: u32,
-    /// Her accepted reports that are kept, in the order in which they came.
+    /// Her stored accepted reports, in the order of arrival.
     pub points: &'a [Accepted],
-    /// The legs that are kept between them.
+    /// The stored legs between them.
     pub legs: &'a Legs,
-    /// How many reports she has, and how many legs, with those that are forgotten.
+    /// The numbers of her reports and legs, including forgotten ones.
     pub counts: Counts,
-    /// What she told of herself.
+    /// Her static data.
     pub statics: &'a Statics,
 }

@@ -1,4 +1,4 @@
-//! Which position reports are accepted.
+//! Judges which position reports are accepted.
 ghost use Rattle.std.specs.Prelude.{◌≡◌, ◌+◌, ◌-◌, ◌*◌, ◌^◌, ◌<◌, ◌≤◌, ◌&&◌, IfOk, IfSome, nat_le, nat_lt, unsigned_abs};
 ghost use Rattle.std.specs.Option.{option_copied};
 ghost use Rattle.fixed_geometry.specs.Displacement.{displacement};
@@ -15,7 +15,7 @@ use crate::given::GivenNumbers;
 use ais_messages::PositionReport;
 use fixed_geometry::{Point, Reference, displacement, norm2, project, square};
 
-/// The point of the plane of a report, or why it has none.
+/// Returns the point of the plane of a report, or why it has none.
 #[inline(always)]
 #[tactic(auto, unfolding(crate::specs::AcceptedReports::placed))]
 fn point_of(reference: Reference, report: &PositionReport, time: u64) -> Result<Point, ReportCause>
@@ -33,7 +33,7 @@ fn point_of(reference: Reference, report: &PositionReport, time: u64) -> Result<
     }
 }
 
-/// Whether a report repeats the latest accepted one: it equals it, and comes at most half a minute later.
+/// Returns whether a report repeats the latest accepted one: it is equal, and at most half a minute later.
 fn is_repeat(latest: &Accepted, report: &PositionReport, time: u64) -> bool
     ensures { result ≡ (nat_le time (latest.now.time + 30)
         && same_report report.now latest.now.report) }
@@ -41,7 +41,7 @@ fn is_repeat(latest: &Accepted, report: &PositionReport, time: u64) -> bool
     time.saturating_sub(latest.time) <= 30 && *report == latest.report
 }
 
-/// Whether a vessel would have moved so far faster than the greatest speed, in tenths of a knot.
+/// Returns whether a vessel would have moved this far faster than the greatest speed, in tenths of a knot.
 fn outruns(max_speed: u16, seconds: u64, by: Point) -> bool
     requires short { seconds ≤ 3600 }
     requires small { IsWithin 4444800000 by }
@@ -51,8 +51,8 @@ fn outruns(max_speed: u16, seconds: u64, by: Point) -> bool
     square(4630 * u64::from(max_speed) * seconds) < 81 * norm2(by)
 }
 
-/// Whether a vessel would have moved too fast from the latest accepted report to this point, if the two are close enough in time to
-/// be joined.
+/// Returns whether a vessel would have moved too fast from the latest accepted report to this point, if the two are
+/// close enough in time to be joined.
 fn is_jump(numbers: &GivenNumbers, latest: &Accepted, point: Point, time: u64) -> bool
     requires numbers { IsNumbers numbers.now }
     requires latest { IsAccepted latest.now }
@@ -109,7 +109,7 @@ fn judge_after(
     Ok(point)
 }
 
-/// Judges a report of this time, after the vessel's latest accepted one, and gives its point of the plane.
+/// Judges a report of this time, after the vessel's latest accepted one; returns its point of the plane.
 #[inline(always)]
 #[tactic(auto, unfolding(crate::specs::AcceptedReports::judged))]
 pub(crate) fn judge(

@@ -1,21 +1,23 @@
-//! What a book keeps.
+//! The data that a book stores.
 ghost use Rattle.std.specs.Prelude.{◌≡◌, MatchOption};
 ghost use Rattle.tracks.specs.Standing.{forgetting};
 ghost use Rattle.tracks.specs.declared.keeping.Keeping.TheVariants.{Since};
 
-/// What a book keeps of a vessel's accepted reports.
+/// The part of a vessel's accepted reports that a book stores.
 #[derive(Clone, Copy, PartialEq, Eq)]
 pub enum Keeping {
-    /// The latest alone, and no legs.
+    /// Only the latest, without legs.
     Latest,
     /// All, and the legs between them.
     Tracks,
-    /// Those from the last one before this time on, and the legs between them. The time is in seconds since the Unix epoch.
+    /// Those from the last one before this time, and the legs between them. The time is in seconds since the Unix
+    /// epoch.
     Since(u64),
 }
 
 impl Keeping {
-    /// From when on tracks are kept, once what lies before a time is forgotten; `None` where no tracks are kept.
+    /// Returns the time from which tracks are stored after forgetting those before `time`; `None` if no tracks are
+    /// stored.
     pub(crate) fn since(self, time: u64) -> Option<u64>
         ensures { MatchOption result (forgetting self time ≡ self)
             (λ earliest. forgetting self time ≡ Since earliest) }

@@ -1,4 +1,4 @@
-//! Laws of accepted reports and of the vessels held, which stand over the definitions alone.
+//! Laws of accepted reports and of the vessels of a book, which follow from the definitions alone.
 ghost use Rattle.std.specs.Prelude.{ℕ, ◌≡◌, ◌↔◌, ◌+◌, ◌<◌, ◌++◌, ◌∷◌, [], Bool, Contains, List, true};
 ghost use Rattle.std.specs.List.Sorted.{IsStrictlyIncreasing};
 ghost use Rattle.ais_messages.specs.declared.message.PositionReport.{PositionReport};
@@ -7,7 +7,7 @@ ghost use Rattle.tracks.specs.AcceptedReports.{AreAccepted, JudgingNumbers, Repo
 ghost use Rattle.tracks.specs.VesselsHeld.{Sent, held_of, is_held, legs_of};
 ghost use Rattle.tracks.specs.declared.accepted.Accepted.{Accepted};
 
-/// For each list of a vessel's reports there is exactly one accepted list, and the function gives it.
+/// For each list of a vessel's reports there is exactly one accepted list, which the function returns.
 pub fn one_accepted_list()
     ensures exists { (numbers : JudgingNumbers) (reports : List Reported)
         → AreAccepted numbers reports (accepted_list numbers reports) }
@@ -21,7 +21,7 @@ pub fn equal_reports()
     ensures { (a b : PositionReport) → (same_report a b ≡ true) ↔ (a ≡ b) }
 {}
 
-/// The vessels held are listed in ascending order, each once.
+/// The book lists its vessels in ascending order, each once.
 pub fn vessels_are_listed()
     ensures ascending { (numbers : JudgingNumbers) (sent : List Sent)
         → IsStrictlyIncreasing (held_of numbers sent) }
@@ -29,7 +29,7 @@ pub fn vessels_are_listed()
         → Contains (held_of numbers sent) mmsi ↔ (is_held numbers sent mmsi ≡ true) }
 {}
 
-/// Where a vessel was more than the gap before a message came, that message does not change.
+/// A message does not change the places of a vessel more than the gap before it.
 pub fn the_past_stays()
     ensures { (numbers : JudgingNumbers) (sent : List Sent) (one : Sent) (mmsi t : ℕ)
         → t + numbers.gap < one.time

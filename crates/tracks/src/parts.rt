@@ -6,7 +6,7 @@ ghost use Rattle.tracks.specs.VesselsHeld.{report_in, sender_of, static_in};
 
 use ais_messages::{Message, PositionReport, StaticReport};
 
-/// Who sent the message.
+/// Returns the MMSI of the sender.
 pub(crate) fn sender(message: &Message) -> u32
     ensures { result ≡ sender_of message.now }
 {
@@ -17,7 +17,7 @@ pub(crate) fn sender(message: &Message) -> u32
     }
 }
 
-/// Its position report.
+/// Returns the position report, if the message has one.
 pub(crate) fn position_report(message: &Message) -> Option<&PositionReport>
     ensures { option_copied result ≡ report_in message.now }
 {
@@ -28,7 +28,7 @@ pub(crate) fn position_report(message: &Message) -> Option<&PositionReport>
     }
 }
 
-/// Its static report.
+/// Returns the static report, if the message has one.
 pub(crate) fn static_report(message: &Message) -> Option<&StaticReport>
     ensures value { option_copied result ≡ static_in message.now }
     ensures ranges { IsMessage message.now → IfSome (option_copied result) IsStatic }

@@ -1,11 +1,11 @@
-//! Where a number stands in an ascending list.
+//! The index of a number in an ascending list.
 ghost use Rattle.std.specs.Prelude.{◌≡◌, ◌<◌, ◌≤◌, length, slice_get, Some, IfOk, IfErr, Contains};
 ghost use Rattle.std.specs.List.{insert};
 ghost use Rattle.std.specs.List.Sorted.{IsPartitionPoint};
 ghost use Rattle.tracks.specs.Inner.AscendingNumbers.{Ascends};
 ghost use Rattle.tracks.specs.VesselsHeld.{with_number};
 
-/// How many of the numbers are below `number`: a search by halves.
+/// Returns how many of the numbers are below `number`, by bisection.
 fn count_below(numbers: &[u32], number: u32) -> usize
     requires { Ascends numbers.now }
     ensures bound { result ≤ length numbers.now }
@@ -14,7 +14,7 @@ fn count_below(numbers: &[u32], number: u32) -> usize
     numbers.partition_point(|n| *n < number)
 }
 
-/// The index of a number in an ascending list, or where it would be inserted.
+/// Returns the index of a number in an ascending list, or the index for inserting it.
 pub(crate) fn index_of(numbers: &[u32], number: u32) -> Result<usize, usize>
     requires { Ascends numbers.now }
     ensures found { IfOk result (λ at. slice_get numbers.now at ≡ Some number) }

@@ -1,11 +1,11 @@
-//! What a ship reports about herself.
+//! A ship's static data.
 ghost use Rattle.std.specs.Prelude.{◌≡◌, ◌≤◌, IfSome};
 ghost use Rattle.ais_messages.specs.MessageFields.{IsShipData};
 ghost use Rattle.tracks.specs.Lengths.{length_of};
 
 use ais_messages::{ShipData, Text20};
 
-/// Her length in metres, from bow to stern, 0 where she told none.
+/// Returns her length in metres, from bow to stern; 0 if she sent none.
 pub(crate) fn length_of(ship: Option<ShipData>) -> u32
     ensures value { result ≡ length_of ship }
     ensures short { IfSome ship IsShipData → result ≤ 1022 }
@@ -16,17 +16,17 @@ pub(crate) fn length_of(ship: Option<ShipData>) -> u32
     }
 }
 
-/// What a ship told of herself, each part as she told it last.
+/// A ship's static data, each part from her last report of it.
 #[derive(Debug, Drop, PartialEq)]
 pub struct Statics {
-    /// Her name, if she told one.
+    /// Her name, if she sent one.
     pub name: Option<Text20>,
-    /// Her type and size, if she told them.
+    /// Her type and size, if she sent them.
     pub ship: Option<ShipData>,
 }
 
 impl Statics {
-    /// Her length in metres, from bow to stern, 0 where she told none.
+    /// Returns her length in metres, from bow to stern; 0 if she sent none.
     pub fn length(&self) -> u32
         ensures { result ≡ length_of self.now.ship }
     {

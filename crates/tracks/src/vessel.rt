@@ -1,4 +1,4 @@
-//! What is kept of one vessel.
+//! The stored data of one vessel.
 ghost use Rattle.std.specs.Prelude.{◌≡◌, ◌+◌, ◌≤◌, ◌<◌, ◌∷◌, [], All, None, IfOk, IfSome, OnOk, OnErr, Some, drop, length, nat_le};
 ghost use Rattle.std.specs.List.{last_or};
 ghost use Rattle.std.specs.Option.{option_copied};
@@ -26,14 +26,14 @@ use out_of_memory::Memory;
 use std::alloc::Global;
 use std::marker::Model;
 
-/// Whether a report comes at most the gap after another.
+/// Returns whether a report is at most the gap after another.
 fn are_joined(gap: u32, from: &Accepted, to: &Accepted) -> bool
     ensures { result ≡ nat_le to.now.time (from.now.time + gap) }
 {
     to.time <= from.time.saturating_add(u64::from(gap))
 }
 
-/// The leg from one report to the next, if they lie at most the gap apart.
+/// Returns the leg from one report to the next, if they are at most the gap apart.
 fn leg_between(gap: u32, from: &Accepted, to: &Accepted) -> Option<Leg>
     requires gap { gap ≤ 3600 }
     requires from { IsAccepted from.now }
@@ -55,7 +55,7 @@ fn leg_between(gap: u32, from: &Accepted, to: &Accepted) -> Option<Leg>
     })
 }
 
-/// The latest of her accepted reports.
+/// Returns the latest of her accepted reports.
 pub(crate) fn latest(points: &[Accepted]) -> Option<&Accepted>
     requires { All IsAccepted points.now }
     ensures value { option_copied result ≡ last_or None points.now }
@@ -64,7 +64,7 @@ pub(crate) fn latest(points: &[Accepted]) -> Option<&Accepted>
     points.last()
 }
 
-/// The leg to a report that is accepted after these, if it is joined to the latest of them.
+/// Returns the leg to a report accepted after these, if it is joined to the latest of them.
 fn leg_to(gap: u32, points: &[Accepted], accepted: &Accepted) -> Option<Leg>
     requires gap { gap ≤ 3600 }
     requires points { All IsAccepted points.now }
@@ -80,14 +80,14 @@ fn leg_to(gap: u32, points: &[Accepted], accepted: &Accepted) -> Option<Leg>
     }
 }
 
-/// How many of a vessel's first reports and legs are forgotten.
+/// The numbers of a vessel's first reports and legs to forget.
 #[derive(Clone, Copy)]
 struct Gone {
     reports: usize,
     legs: usize,
 }
 
-/// What stands before the last report that is earlier than a time.
+/// Returns what is before the last report that is earlier than a time.
 fn gone_before(gap: u32, points: &[Accepted], time: u64) -> Gone
     requires { AreInOrder points.now }
     ensures within { result.reports ≤ length points.now }
@@ -109,8 +109,8 @@ fn gone_before(gap: u32, points: &[Accepted], time: u64) -> Gone
     gone
 }
 
-/// Her accepted reports or the latest alone, the legs between those that are kept, how many reports and legs there were, and what
-/// she told of herself.
+/// Her accepted reports or only the latest, the legs between the stored reports, the numbers of reports and legs so
+/// far, and her static data.
 #[derive(Drop)]
 pub(crate) struct Vessel {
     points: Vec<Accepted>,
@@ -129,7 +129,7 @@ impl Model for Vessel {
 }
 
 impl Vessel {
-    /// Returns a vessel about which nothing is known yet. This takes no memory.
+    /// Returns a vessel without any data. This takes no memory.
     pub(crate) fn new(alloc: Global) -> Vessel
         ensures { result ≡ untold }
     {
@@ -147,7 +147,7 @@ impl Vessel {
         }
     }
 
-    /// Puts an accepted report after the others, with the leg that it ends.
+    /// Appends an accepted report and the leg that it ends.
     fn add(&mut self, gap: u32, accepted: &Accepted) -> Result<(), Memory>
         requires gap { gap ≤ 3600 }
         requires kept { IsKept Tracks gap self.old }
@@ -172,8 +172,8 @@ impl Vessel {
         Ok(())
     }
 
-    /// Puts an accepted report in the place of the one that is kept, if there is one; else it takes memory for one. It
-    /// stands apart, so that adding is as fast as without it.
+    /// Replaces the stored report with an accepted one, or allocates memory if there is none. It is a separate
+    /// function, so that it does not slow down `add`.
     #[inline(never)]
     fn replace(&mut self, accepted: &Accepted) -> Result<(), Memory>
         requires { self.old.points ≡ kept_points Latest self.old.points }
@@ -189,7 +189,8 @@ impl Vessel {
         Ok(())
     }
 
-    /// Forgets the reports before the last one that is earlier than a time, and the legs to them and to that one.
+    /// Forgets the reports before the last one that is earlier than a time, and the legs to these reports and to that
+    /// one.
     pub(crate) fn forget(&mut self, gap: u32, time: u64)
         requires in_order { AreInOrder self.old.points }
         requires legs { self.old.legs ≡ legs_between gap self.old.points }
@@ -200,7 +201,7 @@ impl Vessel {
         self.legs.forget(gone.legs);
     }
 
-    /// Keeps an accepted report, after the others or in their place.
+    /// Stores an accepted report, after the others or instead of them.
     fn accept(&mut self, keeping: Keeping, gap: u32, accepted: &Accepted) -> Result<(), Memory>
         requires gap { gap ≤ 3600 }
         requires kept { IsKept keeping gap self.old }
@@ -224,7 +225,7 @@ impl Vessel {
         }
     }
 
-    /// Takes a position report of hers.
+    /// Takes a position report of this vessel.
     #[inline(always)]
     pub(crate) fn take_report(
         &mut self,
@@ -264,7 +265,7 @@ impl Vessel {
         }
     }
 
-    /// Keeps what she reports about herself, over what she reported before.
+    /// Stores her static data, over the earlier data.
     fn keep(&mut self, report: &StaticReport)
         ensures told { self.new ≡ told self.old (Some report.now) }
         ensures ship { IfSome self.old.statics.ship IsShipData → IfSome report.now.ship IsShipData
@@ -278,7 +279,7 @@ impl Vessel {
         }
     }
 
-    /// Takes the position report of a message of hers, if it has one.
+    /// Takes the position report of a message of this vessel, if it has one.
     fn take_position(
         &mut self,
         keeping: Keeping,
@@ -305,7 +306,7 @@ impl Vessel {
         }
     }
 
-    /// Keeps the static report of a message of hers, if it has one.
+    /// Stores the static report of a message of this vessel, if it has one.
     fn keep_static(&mut self, message: &Message)
         requires { IsMessage message.now }
         ensures told { self.new ≡ told self.old (static_in message.now) }
@@ -317,7 +318,7 @@ impl Vessel {
         }
     }
 
-    /// Takes a message of hers. Where there is no memory, the vessel is as before.
+    /// Takes a message of this vessel. If memory runs out, the vessel is unchanged.
     #[tactic(auto, unfolding(crate::specs::Inner::Keeping::vessel_after))]
     pub(crate) fn take(
         &mut self,

@@ -15,7 +15,7 @@ def read_bytes(path: str) -> bytes:
         with open(path, "rb") as source:
             return source.read()
     except OSError as error:
-        raise Fault(f"{path} cannot be read: {reason(error)}") from None
+        raise Fault(f"cannot read {path}: {reason(error)}") from None
 
 
 def read_text(path: str) -> str:
@@ -25,7 +25,7 @@ def read_text(path: str) -> str:
             raise Fault(f"{path} is a device, and no file")
         return read_bytes(path).decode("utf-8")
     except OSError as error:
-        raise Fault(f"{path} cannot be read: {reason(error)}") from None
+        raise Fault(f"cannot read {path}: {reason(error)}") from None
     except UnicodeDecodeError:
         raise Fault(f"{path}: not a text in UTF-8") from None
 
@@ -39,7 +39,7 @@ def sum_of(path: str) -> tuple[str, int]:
                 total.update(block)
                 size += len(block)
     except OSError as error:
-        raise Fault(f"{path} cannot be read: {reason(error)}") from None
+        raise Fault(f"cannot read {path}: {reason(error)}") from None
     return total.hexdigest(), size
 
 

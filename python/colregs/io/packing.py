@@ -55,7 +55,7 @@ def packing(path: str) -> str:
     except IsADirectoryError:
         raise Fault(f"{path} is a folder, and no log") from None
     except OSError as error:
-        raise Fault(f"{path} cannot be read: {reason(error)}") from None
+        raise Fault(f"cannot read {path}: {reason(error)}") from None
     if head.startswith(captures.MAGIC):
         return CAPTURE
     return next((name for magic, name in MAGIC if head.startswith(magic)), "plain")
@@ -147,7 +147,7 @@ def told(path: str, packed: str) -> Iterator[None]:
     except DAMAGE:
         raise Fault(f"{path} is compressed by {packed}, and damaged or cut off") from None
     except OSError as error:
-        raise Fault(f"{path} cannot be read: {reason(error)}") from None
+        raise Fault(f"cannot read {path}: {reason(error)}") from None
 
 
 def whole_lines(path: str, stream: Any, part: Part) -> Iterator[bytes]:

@@ -471,7 +471,7 @@ def gather(paths: Sequence[str], out: str, *, mmsi: int | None = None, offset: i
     """
     reading = reading or Reading(offset)
     if any(os.path.exists(path) and os.path.exists(out) and os.path.samefile(path, out) for path in paths):
-        raise Fault(f"{out} is a log that is read, and cannot be written too")
+        raise Fault(f"{out} is also an input: name another file for the output")
     gathered = Gathered()
     try:
         with open(out, "wb", buffering=1 << 20) as made, tempfile.TemporaryFile() as untimed:
@@ -482,7 +482,7 @@ def gather(paths: Sequence[str], out: str, *, mmsi: int | None = None, offset: i
         ended(out, gathered, log, mmsi)
         compare_clocks(out, gathered, reading.align)
     except OSError as error:
-        raise Fault(f"{out} cannot be written: {reason(error)}") from None
+        raise Fault(f"cannot write {out}: {reason(error)}") from None
     return gathered
 
 

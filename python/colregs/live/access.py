@@ -1,4 +1,4 @@
-"""Who may ask the server what: tokens, origins, rates, and the headers of every answer."""
+"""Access control of the server: tokens, origins, rate limits, and the headers of every response."""
 import hashlib
 import hmac
 import os
@@ -23,7 +23,7 @@ HEADERS = {
 
 @dataclass(frozen=True)
 class Address:
-    """Where the server listens: a host and a port, or the path of a socket."""
+    """The address on which the server listens: a host and a port, or the path of a socket."""
 
     host: str = ""
     port: int = 0
@@ -31,32 +31,33 @@ class Address:
 
     @property
     def is_private(self) -> bool:
-        """Returns whether only programs of this machine reach it."""
+        """Returns whether only programs on this machine can reach it."""
         return bool(self.socket) or self.host in LOOPBACK
 
 
 def address_of(words: str) -> Address:
-    """Returns the address of words as 127.0.0.1:8080 or [::1]:8080."""
+    """Parses an address such as 127.0.0.1:8080 or [::1]:8080."""
     host, colon, port = words.rpartition(":")
     host = host[1:-1] if host.startswith("[") and host.endswith("]") else host
     if not colon or not host or not port.isdecimal() or not 0 <= int(port) <= 65535:
-        raise Fault(f"--listen {words}: an address is HOST:PORT, as 127.0.0.1:8080")
+        raise Fault(f"--listen {words}: write HOST:PORT, such as 127.0.0.1:8080")
     return Address(host, int(port))
 
 
 def token_in(path: str) -> str:
-    """Returns the token in a file."""
+    """Reads the token from a file."""
     token = read_text(path).strip()
     if len(token) < LEAST_TOKEN or not token.isascii() or not token.isprintable() or " " in token:
-        raise Fault(f"{path}: a token is a word of {LEAST_TOKEN} or more letters, as `openssl rand -hex 32` writes one")
+        raise Fault(f"{path}: a token is one word of at least {LEAST_TOKEN} letters; make one with "
+                    "`openssl rand -hex 32`")
     if os.stat(path).st_mode & 0o077:
-        raise Fault(f"{path}: others can read the token: `chmod 600 {path}`")
+        raise Fault(f"{path}: other users can read the token; run `chmod 600 {path}`")
     return token
 
 
 @dataclass
 class Bucket:
-    """Lets through so many requests a second, and so many at once."""
+    """Limits the requests per second, and those that arrive at once."""
 
     rate: float
     most: float
@@ -67,7 +68,7 @@ class Bucket:
         self.left = self.most
 
     def takes(self) -> bool:
-        """Returns whether one more request is let through."""
+        """Returns whether one more request may pass."""
         now = time.monotonic()
         self.left, self.at = min(self.most, self.left + (now - self.at) * self.rate), now
         if self.left < 1:
@@ -77,7 +78,7 @@ class Bucket:
 
 
 class Access:
-    """The rules of one server. `origins` are those of proxies before it, as https://live.example.org."""
+    """The access rules of one server. `origins` are those of proxies in front of it: https://live.example.org."""
 
     def __init__(self, address: Address, token: str | None, origins: list[str], tiles: str | None) -> None:
         self.address, self.token, self.origins, self.tiles = address, token, [
@@ -87,8 +88,8 @@ class Access:
         self.logins = Bucket(0.5, 5)
 
     def is_host(self, host: str) -> bool:
-        """Returns whether the header Host names this server. On loopback another name is a page elsewhere that had its
-        own name point here."""
+        """Returns whether the header Host names this server. On loopback, any other name means that a foreign page made
+        its own host name resolve to this machine."""
         if any(urlsplit(origin).netloc == host.lower() for origin in self.origins):
             return True
         name = urlsplit(f"//{host}").hostname or ""
@@ -102,11 +103,11 @@ class Access:
         return origin.lower() in self.origins or parts.scheme in ("http", "https") and parts.netloc == host.lower()
 
     def is_token(self, given: str) -> bool:
-        """Returns whether a token is the one, in a time that does not depend on where they differ."""
+        """Returns whether a token is right, in a time that does not depend on where the two differ."""
         return self.token is not None and hmac.compare_digest(given.encode("utf-8", "replace"), self.token.encode())
 
     def sign(self, until: int) -> str:
-        """Returns the cookie of a browser that gave the token; it holds until a time."""
+        """Returns the cookie for a browser that gave the token, valid until a time."""
         assert self.token is not None
         return f"{until}.{hmac.new(self.token.encode(), f'colregs-live {until}'.encode(), hashlib.sha256).hexdigest()}"
 
@@ -115,23 +116,22 @@ class Access:
         return self.sign(int(time.time()) + COOKIE_DAYS * 86400)
 
     def is_cookie(self, given: str) -> bool:
-        """Returns whether a cookie is one that this server made with this token, and still holds."""
+        """Returns whether this server made a cookie with this token, and the cookie is still valid."""
         until, _, _ = given.partition(".")
         if not until.isdecimal() or len(until) > 12 or int(until) < time.time():
             return False
         return hmac.compare_digest(given.encode("utf-8", "replace"), self.sign(int(until)).encode())
 
     def may(self, authorization: str, cookie: str) -> bool:
-        """Returns whether a request has what it needs: nothing if there is no token, otherwise the token or a
-        cookie."""
+        """Returns whether a request is authorized: always if there is no token, otherwise by the token or a cookie."""
         if self.token is None:
             return True
         scheme, _, given = authorization.partition(" ")
         return scheme.lower() == "bearer" and self.is_token(given.strip()) or bool(cookie) and self.is_cookie(cookie)
 
     def policy(self) -> str:
-        """Returns the policy of the page: its own scripts and styles, and of other addresses only the tiles that the
-        user named."""
+        """Returns the page's content security policy: its own scripts and styles, and from other addresses only the
+        tiles that the user named."""
         parts = urlsplit(self.tiles or "")
         tiles = f" {parts.scheme}://{parts.netloc.replace('{s}', '*')}" if self.tiles else ""
         return ("default-src 'none'; script-src 'self'; style-src 'self'; connect-src 'self'; frame-src 'self'; "
@@ -140,8 +140,8 @@ class Access:
 
 
 def access_of(listen: str, socket: str | None, token_file: str | None, origins: list[str], tiles: str | None) -> Access:
-    """Returns the rules for the arguments of the command line; a Fault if other machines could reach the server without
-    a token."""
+    """Returns the access rules that the arguments ask for. Raises Fault if other machines could reach the server
+    without a token."""
     address = Address(socket=os.path.abspath(socket)) if socket else address_of(listen)
     token = token_in(token_file) if token_file else None
     if not address.is_private and token is None:
@@ -150,7 +150,7 @@ def access_of(listen: str, socket: str | None, token_file: str | None, origins: 
     for origin in origins:
         parts = urlsplit(origin)
         if parts.scheme not in ("http", "https") or not parts.netloc or parts.path not in ("", "/"):
-            raise Fault(f"--origin {origin}: an origin is https://HOST")
+            raise Fault(f"--origin {origin}: write https://HOST")
     if tiles and not (TILES.match(tiles) and all(part in tiles for part in ("{x}", "{y}", "{z}"))):
-        raise Fault(f"--tiles {tiles}: an address as https://HOST/{{z}}/{{x}}/{{y}}.png")
+        raise Fault(f"--tiles {tiles}: write https://HOST/{{z}}/{{x}}/{{y}}.png")
     return Access(address, token, origins, tiles)

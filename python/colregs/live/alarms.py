@@ -1,9 +1,9 @@
 """The alarms that a page shows: one item from a rule's first broken step to its last, preliminary first, then settled
 or withdrawn.
 
-A settled item is of alarms of `watch`: no later line changes them. A preliminary one is of the answer of the same
-program to the window so far, as if the log ended now. Each new answer confirms it or not; if not, the item stays and
-says that it was withdrawn.
+A settled item comes from alarms of `watch`, which no later line changes. A preliminary one comes from the same
+program's answer to the window so far, as if the log ended now. If a newer answer no longer has it, the item stays in
+the list, marked as withdrawn.
 """
 from collections.abc import Callable, Iterator, Mapping
 from dataclasses import dataclass, field
@@ -13,10 +13,10 @@ from colregs.live.notes import Notes
 from colregs.stream.stretches import AGAIN, BOTH, OVER, AlarmStretch, Key, Stretches
 
 PRELIMINARY, SETTLED, WITHDRAWN = "preliminary", "settled", "withdrawn"
-DAY = 86400                     # s of the clock after its last step for which an item is listed
-MOST_ITEMS = 5000               # items that are listed at most: the latest
+DAY = 86400                     # s of the clock for which an item is listed after its last step
+MOST_ITEMS = 5000               # the latest items, which are listed
 WITHDRAWN_FOR = 3600            # s of the clock for which a withdrawn item is listed
-Span = tuple[int, int]          # when a stretch's first step begins and its last one ends
+Span = tuple[int, int]          # the time when a stretch's first step begins, and when its last one ends
 About = dict[str, Any]
 
 
@@ -29,14 +29,14 @@ class Item:
     first: int
     last: int
     settled: AlarmStretch | None = None
-    expected: Span | None = None            # as the last answer has it
-    expected_at: int | None = None          # when an answer had it first
-    confirmed_at: int = 0                   # when an answer had it last
+    expected: Span | None = None            # the span in the last answer
+    expected_at: int | None = None          # the time of the first answer with it
+    confirmed_at: int = 0                   # the time of the latest answer with it
     settled_at: int | None = None
     withdrawn_at: int | None = None
     over: bool = False
     about: About = field(default_factory=dict)
-    looked_at: int = 0                      # when names, types, place and marks were noted
+    looked_at: int = 0                      # the time when names, types, place and marks were noted
     sent_at: int = 0
 
     @property
@@ -54,7 +54,7 @@ class Item:
         return self.first <= last and first <= self.last
 
     def fit(self) -> None:
-        """Sets the item's steps from what is settled and what is expected."""
+        """Sets the item's steps from the settled and the expected ones."""
         spans = [
             span for span in ((self.settled.first, self.settled.last) if self.settled else None, self.expected) if span
         ]
@@ -66,7 +66,7 @@ class Alarms:
     """All items, in the order in which they came."""
 
     def __init__(self, stretches: Stretches, notes: Notes, about: Callable[[Key, int, int, About], About]) -> None:
-        """Takes what returns names, types, place and marks of a stretch, given what it returned before."""
+        """`about` returns names, types, place and marks of a stretch; its last argument is what it returned before."""
         self.stretches, self.notes, self.about = stretches, notes, about
         self.items: dict[str, Item] = {}
         self.by_key: dict[Key, list[Item]] = {}
@@ -74,15 +74,15 @@ class Alarms:
         self.lasting: set[str] = set()          # items that can still grow or change their state
         self.changed: set[str] = set()
         self.dropped: set[str] = set()
-        self.counts = {PRELIMINARY: 0, SETTLED: 0, WITHDRAWN: 0}        # how many came to be so since the start
-        # seconds after the first step's end, and of how many
+        self.counts = {PRELIMINARY: 0, SETTLED: 0, WITHDRAWN: 0}        # items that entered each state since the start
+        # sum of the delays after the first step's end, in seconds, and their number
         self.delays = {PRELIMINARY: [0, 0], SETTLED: [0, 0]}
         self.clock = 0
 
-    # what settles
+    # settled alarms
 
     def settle(self, one: AlarmStretch) -> None:
-        """Takes a stretch that an alarm has joined."""
+        """Handles a stretch that a new alarm belongs to."""
         for number in one.absorbed:
             self.absorb(number, one)
         item = self.by_number.get(one.number) or self.matched(one.key, one.first, one.last,
@@ -103,7 +103,7 @@ class Alarms:
         self.grow(item, is_new)
 
     def absorb(self, number: int, one: AlarmStretch) -> None:
-        """Takes a stretch that turned out to be a part of another one."""
+        """Handles a stretch that turned out to be a part of another one."""
         item = self.by_number.pop(number, None)
         if item and one.number not in self.by_number:
             self.by_number[one.number], item.settled = item, one
@@ -111,7 +111,7 @@ class Alarms:
             self.join(self.by_number[one.number], item)
 
     def join(self, item: Item, other: Item) -> None:
-        """Makes one item of two."""
+        """Merges two items."""
         if other.expected:
             first, last = item.expected or other.expected
             item.expected = min(first, other.expected[0]), max(last, other.expected[1])
@@ -120,7 +120,7 @@ class Alarms:
         item.fit()
 
     def told(self, told: Mapping[str, Any]) -> None:
-        """Takes a line about a stretch: its names, place and marks, and perhaps that it is over."""
+        """Handles a line about a stretch: its names, place and marks, and possibly that it is over."""
         key = told["subject"], told["other"], told["rule"]
         item = self.matched(key, told["first"], told["last"], lambda item: item.settled is not None)
         if item:
@@ -132,17 +132,17 @@ class Alarms:
             self.touch(item)
 
     def restore(self, told: Mapping[str, Any]) -> None:
-        """Takes a stretch that is over, as a file has it."""
+        """Loads a stretch that is over from its line in a file."""
         key = told["subject"], told["other"], told["rule"]
         item = self.new(key, told["first"], told["last"])
         item.settled, item.settled_at = AlarmStretch(0, key, told["first"], told["last"], 0), None
         self.told(told)
 
-    # what is preliminary
+    # preliminary alarms
 
     def answer(self, spans: Mapping[Key, list[Span]], settled_to: int, is_whole: bool = True) -> None:
-        """Takes the broken stretches of an answer. Alarms before `settled_to` are settled: there the answer adds no
-        item. Only an answer about all pairs withdraws the items that it does not have."""
+        """Handles the broken stretches of an answer. It adds no item before `settled_to`, because alarms there are
+        settled. Only an answer about all pairs withdraws the items that it lacks."""
         confirmed: set[str] = set()
         for key, own in spans.items():
             for first, last in own:
@@ -152,7 +152,7 @@ class Alarms:
             self.doubt(item)
 
     def expect(self, key: Key, first: int, last: int) -> Item:
-        """Takes one broken stretch of an answer; returns its item."""
+        """Handles one broken stretch of an answer; returns its item."""
         item = self.matched(key, first, last, lambda item: item.id in self.lasting or item.state == WITHDRAWN)
         if item is None:
             item = self.new(key, first, last)
@@ -176,7 +176,7 @@ class Alarms:
         item.about, item.looked_at = self.about(item.key, item.first, item.last, item.about), self.clock
 
     def doubt(self, item: Item) -> None:
-        """Takes that the last answer does not have an item, or no longer what goes beyond its settled steps."""
+        """Handles an item that the last answer lacks: withdraws it, or cuts it back to its settled steps."""
         if item.settled is None:
             item.withdrawn_at, item.expected = self.clock, None
             self.count(WITHDRAWN, None)
@@ -206,8 +206,8 @@ class Alarms:
                     None)
 
     def grow(self, item: Item, is_new: bool) -> None:
-        """Notes that an item has another step. Of two vessels at rest, which are many and hidden, that is sent once a
-        minute."""
+        """Notes that an item has another step. Items of two vessels at rest are many and hidden, so their growth is
+        sent once a minute."""
         self.lasting.add(item.id)
         if is_new or not item.is_at_rest or self.clock >= item.sent_at + AGAIN:
             self.touch(item)
@@ -234,7 +234,7 @@ class Alarms:
         self.dropped.add(item.id)
 
     def count(self, state: str, delay: int | None) -> None:
-        """Counts an item that came to be in a state, and how long after its first step."""
+        """Counts an item that entered a state, and its delay after the item's first step."""
         self.counts[state] += 1
         if delay is not None:
             self.delays[state][0] += delay
@@ -251,7 +251,7 @@ class Alarms:
             elif item.settled is None and clock > max(item.last, item.confirmed_at) + self.stretches.wait:
                 self.doubt(item)
             elif item.settled is None and not item.about.get("position"):
-                self.look(item)                         # the answer was there before the points
+                self.look(item)                         # the answer came before the points
                 if item.about.get("position"):
                     self.touch(item)
         for item in list(self.old(clock)):
@@ -265,12 +265,12 @@ class Alarms:
                 yield item
 
     def note(self, item: Item) -> dict[str, Any] | None:
-        """Returns the acknowledgement of an item as the page has it, or None."""
+        """Returns the acknowledgement of an item in the page's form, or None."""
         note = self.notes.of(item.key, item.first, item.last)
         return {"acknowledged": note.acknowledged, "note": note.note, "at": note.at} if note else None
 
     def values(self, item: Item) -> dict[str, Any]:
-        """Returns an item as the page and the API have it."""
+        """Returns an item in the form of the page and the API."""
         subject, other, rule = item.key
         return {
             "id": item.id, "state": item.state, "subject": subject, "other": other, "rule": rule, "first": item.first,

@@ -1,4 +1,4 @@
-"""What the server answers besides the page: JSON, GeoJSON (RFC 7946), and numbers for Prometheus."""
+"""The server's responses besides the page: JSON, GeoJSON (RFC 7946), and metrics for Prometheus."""
 import time
 from collections.abc import Iterable, Iterator
 from typing import Any
@@ -12,14 +12,14 @@ COMPUTED = (
 
 
 def vessels(state: State) -> list[Values]:
-    """Returns the vessels, each with what she says of herself."""
+    """Returns the vessels, each with the static data that she sends."""
     with state.lock:
         return [{**state.said_of(mmsi, known), **dict(zip(VESSEL, state.vessel(state.fleet.ships[mmsi])))}
                 for mmsi, known in state.fleet.all_about()]
 
 
 def encounters(state: State) -> list[Values]:
-    """Returns the encounters that last, with the newest places of both vessels."""
+    """Returns the current encounters, with the newest positions of both vessels."""
     with state.lock:
         found = state.encounters.all_values(state.clock or 0)
         return [
@@ -68,13 +68,13 @@ LISTS = {"vessels": vessels, "encounters": encounters, "alarms": alarms}
 
 
 def as_json(state: State, kind: str) -> Any:
-    """Returns a list as JSON has it, with the time of the stream's clock."""
+    """Returns a list for JSON, with the time of the stream's clock."""
     told: Values = {"clock": state.clock, kind: LISTS[kind](state)}
     return {**told, "computed": COMPUTED} if kind == "encounters" else told
 
 
 def metrics(state: State, health: Values) -> str:
-    """Returns the numbers for Prometheus, in its text format."""
+    """Returns the metrics in the text format of Prometheus."""
     lines: list[str] = []
 
     def add(name: str, kind: str, words: str, values: Iterable[tuple[str, float | None]]) -> None:
@@ -93,14 +93,14 @@ def metrics(state: State, health: Values) -> str:
     add("clock_lag_seconds", "gauge", "how far the stream's clock is behind this machine's", [("", health.get("lag"))])
     add("quiet_seconds", "gauge", "since the last line came", [("", health.get("quiet"))])
     add("rows_total", "counter", "rows written since the start", [("", health.get("rows"))])
-    add("alarms_total", "counter", "alarms that came to be in a state since the start",
+    add("alarms_total", "counter", "alarms that entered a state since the start",
         [(f'{{state="{name}"}}', count) for name, count in counts.items()])
     add("alarm_delay_seconds_sum", "counter", "from the end of an alarm's first step to its item, by the stream's "
                                               "clock",
         [(f'{{state="{name}"}}', total) for name, (total, _) in delays.items()])
-    add("alarm_delay_seconds_count", "counter", "how many alarms that is of",
+    add("alarm_delay_seconds_count", "counter", "alarms in alarm_delay_seconds_sum",
         [(f'{{state="{name}"}}', count) for name, (_, count) in delays.items()])
-    add("restarts_total", "counter", "runs of the program that were killed and began again",
+    add("restarts_total", "counter", "runs of the program that were killed and restarted",
         [("", health.get("restarts"))])
     add("browsers", "gauge", "browsers that are connected", [("", health.get("browsers"))])
     add("vessels", "gauge", "vessels with a position", [("", vessels_now)])
@@ -112,5 +112,5 @@ def metrics(state: State, health: Values) -> str:
 
 
 def lag(clock: int | None) -> float | None:
-    """Returns how far a time is behind this machine's clock, or None."""
+    """Returns by how many seconds a time is behind this machine's clock, or None."""
     return None if clock is None else round(time.time() - clock, 1)

@@ -1,4 +1,4 @@
-"""Makes a case of an alarm by colregs-case: of the pair alone to look at, or of all vessels around to store."""
+"""Makes a case of an alarm with colregs-case: of the pair alone for viewing, or of all vessels around for storing."""
 import io
 import os
 import re
@@ -19,7 +19,7 @@ from colregs.run.pipes import PACKAGE
 from colregs.stream.day_files import DayFiles
 
 BEFORE, AFTER = 1800, 600       # s before an alarm's first step and after its last one
-SECONDS = 120                   # s after which a case that is not made is given up
+SECONDS = 120                   # s after which an unfinished case is abandoned
 SCRIPT = re.compile(r"<script>(.*?)</script>", re.S)
 START = f"import sys; sys.path.insert(0, {PACKAGE!r}); from colregs.cli.case import command; command()"
 
@@ -60,7 +60,7 @@ class Cases:
         try:
             done = subprocess.run([sys.executable, "-c", START, *words], capture_output=True, timeout=SECONDS, cwd=room)
         except subprocess.TimeoutExpired:
-            raise Fault(f"the case was not made in {SECONDS} s") from None
+            raise Fault(f"colregs-case did not finish in {SECONDS} s") from None
         if done.returncode:
             raise Fault(done.stderr.decode("utf-8", "replace").strip())
         return out
@@ -81,8 +81,8 @@ class Cases:
 
 
 def policy_of(page: str) -> str:
-    """Returns the policy of a case's page: only its own scripts run, by their sums, and without the origin of this
-    server."""
+    """Returns the content security policy of a case's page: only its own scripts run, named by their hashes, and
+    without the origin of this server."""
     sums = " ".join(
         f"'sha256-{b64encode(sha256(script.encode()).digest()).decode()}'" for script in SCRIPT.findall(page))
     return ("sandbox allow-scripts; default-src 'none'; base-uri 'none'; form-action 'none'; frame-ancestors 'self'; "

@@ -2,12 +2,11 @@
 missed."""
 import collections
 
-MOST_CHANGES, MOST_BYTES = 1200, 8 << 20        # changes that are stored at most: two minutes of them, and 8 MiB
+MOST_CHANGES, MOST_BYTES = 1200, 8 << 20        # the limits of what is stored: two minutes of changes, and 8 MiB
 
 
 class Changes:
-    """The last changes as JSON texts. They are numbered from 1 on; a snapshot has the number of the last change that it
-    holds."""
+    """The last changes as JSON texts, numbered from 1. A snapshot has the number of the last change in it."""
 
     def __init__(self) -> None:
         self.number, self.bytes = 0, 0
@@ -22,8 +21,8 @@ class Changes:
             self.bytes -= len(self.texts.popleft())
 
     def after(self, number: int, most: int = MOST_CHANGES) -> list[str] | None:
-        """Returns the changes after a number; None if one of them is no longer stored, if they are more than `most`, or
-        if the number is none of ours."""
+        """Returns the changes after a number. Returns None if one of them is no longer stored, if they are more than
+        `most`, or if this server did not give the number."""
         count = self.number - number
         if not 0 <= count <= min(most, len(self.texts)):
             return None

@@ -1,8 +1,7 @@
-"""The encounters that last: their kinds for both vessels, as the program's last answer has them, and how near the two
-are.
+"""The current encounters: their kinds for both vessels from the program's last answer, and the distance of the two.
 
-Distance, closest point and the time to it are computed here, from the newest accepted reports. They are not rows of the
-program, and not proved.
+This module computes the distance, the closest point of approach and the time to it from the newest accepted reports.
+They are not rows of the program, and not proved.
 """
 import math
 from collections.abc import Iterable
@@ -24,16 +23,16 @@ DUTIES = {
     "crossing_gives": "Rules 15 and 16: gives way",
     "crossing_stands": "Rule 17: stands on",
     "passing": "no duty from the geometry",
-    "unclassified": "not classed: Rule 8 alone",
+    "unclassified": "not classified: Rule 8 alone",
 }
 RANKS = "; ranks count (Rule 18)"
-BEHIND = 2                      # steps by which a meeting may end before the last common report and still last
+BEHIND = 2                      # a meeting is current if it ends at most this many steps before the last common report
 Pair = tuple[int, int]
 
 
 @dataclass
 class Encounter:
-    """An encounter of two vessels: when it began, what it is for each, and the least distance so far in metres."""
+    """An encounter of two vessels: its start, its kind for each, and the least distance so far in metres."""
 
     pair: Pair
     first: int
@@ -48,13 +47,13 @@ def name_of(pair: Pair) -> str:
 
 
 def lasts(fleet: Fleet, pair: Pair, end: int, tick: int) -> bool:
-    """Returns whether a meeting that ends at a time has not ended: no later report of both is there."""
+    """Returns whether a meeting whose row ends at a time is still current: both vessels have no later report."""
     ships = [fleet.ships.get(mmsi) for mmsi in pair]
     return all(ship is not None and end + BEHIND * tick >= min(one.latest for one in ships if one) for ship in ships)
 
 
 def encounters_of(fleet: Fleet, meetings: Iterable[Meeting], start: int, tick: int) -> dict[Pair, Encounter]:
-    """Returns the encounters that last, of the meetings of an answer whose window begins at a time."""
+    """Returns the current encounters among the meetings of an answer whose window begins at a time."""
     found: dict[Pair, Encounter] = {}
     for row in meetings:
         pair, first, last = row.both, start + row.first * tick, start + (row.last + 1) * tick
@@ -67,8 +66,8 @@ def encounters_of(fleet: Fleet, meetings: Iterable[Meeting], start: int, tick: i
 
 
 def distance_now(one: Track, two: Track, clock: int, gap: int) -> float | None:
-    """Returns how far apart two vessels are by now if both keep the course and speed of their last reports; None if
-    these are unknown."""
+    """Returns the distance of two vessels now, assuming that both keep the course and speed of their last reports; None
+    if these are unknown."""
     places = []
     for track in (one, two):
         way = lost.velocity(track, len(track.times) - 1, gap)
@@ -80,20 +79,20 @@ def distance_now(one: Track, two: Track, clock: int, gap: int) -> float | None:
 
 
 class Encounters:
-    """The encounters that last, and how each was sent last."""
+    """The current encounters, and the values of each that were sent last."""
 
     def __init__(self, fleet: Fleet, tick: int, ranks: bool) -> None:
         self.fleet, self.tick, self.ranks = fleet, tick, ranks
         self.known: dict[Pair, Encounter] = {}
         self.sent: dict[str, dict[str, Any]] = {}
-        self.looked_at = 0              # the clock when those of vessels at rest were computed last
+        self.looked_at = 0              # the clock when the encounters of vessels at rest were last computed
 
     def answer(self, meetings: Iterable[Meeting], start: int) -> None:
-        """Takes the meetings of an answer."""
+        """Handles the meetings of an answer."""
         self.known = encounters_of(self.fleet, meetings, start, self.tick)
 
     def values(self, one: Encounter, clock: int) -> dict[str, Any]:
-        """Returns an encounter as the page and the API have it."""
+        """Returns an encounter in the form of the page and the API."""
         ships = [self.fleet.ships.get(mmsi) for mmsi in one.pair]
         tracks = [ship.track for ship in ships if ship]
         near = distance = None
@@ -112,14 +111,14 @@ class Encounters:
         }
 
     def rested(self, one: Encounter, clock: int) -> dict[str, Any] | None:
-        """Returns what was sent last of an encounter of two vessels at rest, which are many and hidden, if that was
-        lately; otherwise None."""
+        """Returns the values that were sent last if both vessels are at rest and the values are recent; otherwise None.
+        Such encounters are many and hidden, so they are computed less often."""
         sent = self.sent.get(name_of(one.pair))
         is_lately = self.looked_at <= clock < self.looked_at + AGAIN
         return sent if sent and sent["at_rest"] == BOTH and is_lately else None
 
     def settled(self, pair: Pair, rows: Iterable[dict[str, Any]], clock: int) -> dict[str, Any]:
-        """Returns an encounter of settled rows of the stream as it was at a time."""
+        """Returns the encounter that settled rows of the stream describe, at a time."""
         found: Encounter | None = None
         for row in rows:
             start, told = int(row["run"]), row_of(str(row["row"]).split(","))
@@ -130,11 +129,11 @@ class Encounters:
         return self.values(found or Encounter(pair, clock, clock, 0), clock)
 
     def all_values(self, clock: int) -> list[dict[str, Any]]:
-        """Returns all encounters that last."""
+        """Returns all current encounters."""
         return [self.values(one, clock) for one in self.known.values()]
 
     def changes(self, clock: int) -> tuple[list[dict[str, Any]], list[str]]:
-        """Returns the encounters that are not as they were sent last, and the names of those that are over."""
+        """Returns the encounters that changed since they were sent last, and the names of those that are over."""
         now = {name_of(one.pair): self.rested(one, clock) or self.values(one, clock) for one in self.known.values()}
         if not self.looked_at <= clock < self.looked_at + AGAIN:
             self.looked_at = clock

@@ -1,5 +1,5 @@
-"""Follows the stream for the live page in threads of its own: the lines of a log at a speed, the rows into the state,
-and the answers to it so far."""
+"""Follows the stream for the live page in threads of its own. It replays a log at a speed, feeds the rows to the state,
+and asks for preliminary answers."""
 import argparse
 import threading
 import time
@@ -13,18 +13,18 @@ from colregs.model.scenario import Scenario
 from colregs.stream.follow import Follow
 from colregs.stream.sources import Lines, Mark, Source
 
-LONGEST_WAIT = 5                # s that a line of a replayed log waits at most after the one before
-EACH = 1.0                      # s between two times that the place in a replayed log is stored
+LONGEST_WAIT = 5                # the longest pause between two lines of a replayed log, in seconds
+EACH = 1.0                      # s after which the position in a replayed log is stored again
 
 
 class Paced:
-    """A source whose lines come as their times ask, some times as fast: a log that is replayed."""
+    """A source that replays a log: its lines arrive at the pace of their times, multiplied by `speed`."""
 
     def __init__(self, source: Source, speed: float) -> None:
         self.source, self.speed = source, speed
         self.due, self.latest = time.monotonic(), 0     # when the line with the latest time was due
         self.stopped = threading.Event()
-        # the place after the lines taken, until it is stored, and when one was stored last
+        # the position after the lines taken, until it is stored; and when a position was stored last
         self.mark: Mark = None
         self.stored = 0.0
 
@@ -37,7 +37,7 @@ class Paced:
                 yield part, {**mark, "offset": offset} if mark else None
 
     def parts(self, lines: list[bytes]) -> Iterator[list[bytes]]:
-        """Yields the lines in parts of one time, after the wait that each asks for."""
+        """Yields the lines in parts of one time each, after the wait that each part needs."""
         part: list[bytes] = []
         for line in lines:
             at = stamp(line)
@@ -58,12 +58,12 @@ class Paced:
         if left > 0:
             self.stopped.wait(left)
         else:
-            self.due = max(self.due, time.monotonic() - 1)          # what the stream lost in a stop is not made up for
+            self.due = max(self.due, time.monotonic() - 1)          # it does not catch up after a stop
 
     def done(self, mark: Mark) -> None:
         """Notes that the lines up to a mark are taken.
 
-        It is stored once a second, because a fast replay has many marks and the disk takes its time for each. A restart
+        The mark is stored once a second, because a fast replay has many marks and each disk write takes time. A restart
         may repeat the lines of that second, which changes no row.
         """
         self.mark = mark
@@ -77,29 +77,29 @@ class Paced:
             self.mark, self.stored = None, time.monotonic()
 
     def stop(self) -> None:
-        """Stops what writes the stream."""
+        """Stops the process or thread that writes the stream."""
         self.stopped.set()
         self.store()
         self.source.stop()
 
 
 class LiveFollow(Follow):
-    """A stream that is followed for the page: after each block of lines it says where it is."""
+    """A stream that is followed for the page: it publishes its position after each block of lines."""
 
     view: View | None = None
 
     def restart(self) -> None:
-        """Continues from the day files, and notes where the stream is."""
+        """Continues from the day files, and publishes the position of the stream."""
         super().restart()
         self.look()
 
     def take(self, lines: list[bytes]) -> None:
-        """Takes lines, and notes where the stream is."""
+        """Takes lines, and publishes the position of the stream."""
         super().take(lines)
         self.look()
 
     def look(self) -> None:
-        """Notes where the stream is."""
+        """Publishes the position of the stream."""
         if self.clock.time is not None and self.files.out is not None:
             vessels = tuple(sorted(self.scenario.subjects or self.heard))
             self.view = View(self.clock.time, self.files.place(), tuple(self.windows.values()), vessels)
@@ -110,8 +110,8 @@ class LiveFollow(Follow):
 
 
 class Follower:
-    """The threads that feed a state: one follows the stream, one asks for answers. `ended` is called when the stream
-    ends, with what failed or nothing."""
+    """The threads that feed a state: one follows the stream, one asks for answers. When the stream ends, it calls
+    `ended` with the failure, or with an empty text."""
 
     def __init__(self, given: argparse.Namespace, scenario: Scenario, program: str, state: State) -> None:
         self.state, self.stop = state, threading.Event()
@@ -137,8 +137,8 @@ class Follower:
         except OSError as error:
             fault = f"{error.filename}: {reason(error)}"
         except Exception as error:
-            # a defect of ours: the page says that the stream is not followed any more, and the server ends
-            fault = f"a defect: {error!r}"
+            # the page says that nothing follows the stream any more, and the server ends
+            fault = f"a defect of colregs-live: {error!r}"
         ended(fault)
 
     def ask(self) -> None:

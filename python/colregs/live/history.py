@@ -1,5 +1,5 @@
-"""What the day files hold of an earlier moment: who was where, and which encounters and alarms there were. It is
-computed when a page asks."""
+"""An earlier moment from the day files: the vessels' positions, the encounters and the alarms. It is computed when a
+page asks."""
 import bisect
 import os
 import subprocess
@@ -17,14 +17,13 @@ from colregs.stream.fleet import About
 from colregs.stream.stretches import rows_in
 
 BEFORE = 1800                   # s before the moment whose tracks and alarms are shown
-NEAR = 1 << 14                  # bytes to which the beginning of a time is sought in a day file
-MOST_BYTES = 64 << 20           # bytes of a day file that one question reads
+NEAR = 1 << 14                  # the search for a time in a day file stops at this many bytes before it
+MOST_BYTES = 64 << 20           # bytes of a day file that one request reads at most
 DAY = 86400
 
 
 def offset_of(path: str, at: int) -> int:
-    """Returns an offset of a day file before which no line has a time as late as this, and not much before the first
-    such line."""
+    """Returns an offset in a day file shortly before the first line of a time; every line before it is earlier."""
     def time_after(k: int) -> int:
         with open(path, "rb") as source:
             source.seek(k * NEAR)
@@ -35,7 +34,7 @@ def offset_of(path: str, at: int) -> int:
 
 
 def lines_between(files: DayFiles, first: int, last: int, slack: int) -> Iterator[bytes]:
-    """Yields the lines of the day files with times between two, and some more."""
+    """Yields the lines of the day files with times between two, and some lines around them."""
     left = MOST_BYTES
     for day in files.days():
         if not first - DAY < begin_of(day) <= last:
@@ -52,7 +51,8 @@ def lines_between(files: DayFiles, first: int, last: int, slack: int) -> Iterato
                     break
                 left -= len(line)
                 if left < 0:
-                    raise Fault(f"more than {MOST_BYTES >> 20} MiB of lines lie between {iso(first)} and {iso(last)}")
+                    raise Fault(f"the day files have more than {MOST_BYTES >> 20} MiB of lines between {iso(first)} "
+                                f"and {iso(last)}")
                 if at is None or at <= last:
                     yield line
 
@@ -64,7 +64,7 @@ class History:
         self.program, self.scenario, self.files, self.notes, self.live = program, scenario, files, notes, live
 
     def at(self, moment: int) -> dict[str, Any]:
-        """Returns a snapshot of an earlier moment, as the page has one of now."""
+        """Returns a snapshot of an earlier moment, in the form of a snapshot of now."""
         state = State(self.files.folder, self.scenario, self.notes)
         state.set_clock(moment)
         lines = list(lines_between(self.files, moment - BEFORE, moment, self.scenario.slack))
@@ -77,7 +77,7 @@ class History:
         return {**state.snapshot(), "encounters": list(self.encounters(state, moment))}
 
     def add_names(self, state: State) -> None:
-        """Adds the names of now for vessels whose names were not sent in the half hour."""
+        """Adds the names known now for vessels that sent none in the half hour."""
         with self.live.lock:
             for mmsi in state.fleet.ships:
                 known, now = state.fleet.about.setdefault(mmsi, About()), self.live.fleet.about.get(mmsi, About())
@@ -88,7 +88,7 @@ class History:
                 )
 
     def points(self, lines: list[bytes], moment: int) -> Iterator[str]:
-        """Yields the rows of `points` of some lines."""
+        """Yields the rows of `points` for some lines."""
         tick = self.scenario.tick
         start = (moment - BEFORE) // tick * tick
         window = [f"--start={start}", f"--ticks={BEFORE // tick + 1}"]
@@ -100,13 +100,12 @@ class History:
         return (line for line in done.stdout.decode().splitlines() if line.startswith("point,"))
 
     def rows(self, name: str, moment: int) -> Iterator[dict[str, Any]]:
-        """Yields the rows in the day files of a kind that may be of about a moment: those of the day, and of the day
-        before."""
+        """Yields the rows of a kind that may concern a moment: those in the files of its day and of the day before."""
         for day in (day_of(moment - DAY), day_of(moment), day_of(moment + DAY)):
             yield from rows_in(os.path.join(self.files.folder, f"{day}.{name}"))
 
     def take_rows(self, state: State, moment: int) -> None:
-        """Takes the stretches of alarms that lie in the half hour before a moment, as they were when they were over."""
+        """Loads the alarm stretches in the half hour before a moment, in their final form."""
         latest: dict[tuple[Any, ...], dict[str, Any]] = {}
         for told in self.rows("stretches", moment):
             if told["first"] <= moment and told["last"] >= moment - BEFORE:
@@ -115,7 +114,7 @@ class History:
             state.alarms.restore(told)
 
     def encounters(self, state: State, moment: int) -> Iterator[dict[str, Any]]:
-        """Yields the encounters that lasted at a moment, of the settled rows of `audit`."""
+        """Yields the encounters at a moment from the settled rows of `audit`."""
         now = iso(moment)
         found: dict[tuple[int, int], list[dict[str, Any]]] = {}
         for row in self.rows("rows", moment):

@@ -1,5 +1,5 @@
-"""Acknowledgements of alarms with their notes, in SQLite beside the day files. Each change is a row of its own, and
-none is removed."""
+"""Acknowledgements of alarms with their notes, in an SQLite database next to the day files. Each change adds a row; no
+row is removed."""
 import os
 import sqlite3
 import threading
@@ -11,7 +11,7 @@ NAME = "live.db"
 LONGEST = 2000                  # letters of a note
 SCHEMA = """create table if not exists acknowledgement(
   subject integer not null, other integer not null, rule text not null,   -- whose alarm it is
-  -- the alarm's steps as they were then, s since the Unix epoch
+  -- the alarm's steps at that time, s since the Unix epoch
   first integer not null, last integer not null,
   acknowledged integer not null, note text not null, at integer not null) -- 1 or 0, and when, s since the Unix epoch
 """
@@ -20,7 +20,7 @@ Key = tuple[int, int, str]
 
 @dataclass(frozen=True)
 class Note:
-    """An acknowledgement, or that it was taken back: the steps of its alarm, the note, and when it was made."""
+    """An acknowledgement or its withdrawal: the steps of its alarm, the note, and its time."""
 
     first: int
     last: int

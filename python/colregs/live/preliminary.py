@@ -1,8 +1,9 @@
-"""Asks the program what it would say if the log ended now: the same scenario and window as of the settled rows, over
-the lines so far.
+"""Asks the program for preliminary rows: it runs the scenario and window of the settled rows over the lines so far, as
+if the log ended now.
 
-An answer costs as much as the window is long. So there is one at a time, at most one per tick of the stream's clock,
-and after each a pause of four times its length: all answers together take at most a fifth of one processor.
+The cost of an answer grows with the length of the window. So only one runs at a time, at most one per tick of the
+stream's clock, and a pause of four times its duration follows each. All answers together take at most a fifth of one
+processor.
 """
 import subprocess
 import tempfile
@@ -19,23 +20,23 @@ from colregs.stream.day_files import DayFiles, Mark
 from colregs.stream.follow import Numbers
 from colregs.stream.runs import Window, is_of
 
-PAUSES = 4                      # times the length of an answer until the next one
+PAUSES = 4                      # the pause after an answer, as a multiple of its duration
 LEAST_PAUSE = 0.2               # s
 
 
 @dataclass(frozen=True)
 class View:
-    """The stream at a moment: its clock, the place after its lines in the day files, and the windows that are open."""
+    """The stream at a moment: its clock, the offset after its lines in the day files, and the open windows."""
 
     clock: int
     place: Mark
     windows: tuple[Window, ...]
-    vessels: tuple[int, ...] = ()       # who can be a subject
+    vessels: tuple[int, ...] = ()       # the vessels that can be subjects
 
 
 def window_of(view: View, numbers: Numbers) -> Window | None:
-    """Returns the open window among whose own steps the clock's is, so that its settled rows are those that an answer
-    foresees; else the longest."""
+    """Returns the open window whose own steps contain the clock's step, because an answer foresees its settled rows;
+    otherwise the longest open window."""
     def is_own(window: Window) -> bool:
         return numbers.behind < (view.clock - window.start) // numbers.tick <= numbers.last
 
@@ -44,13 +45,13 @@ def window_of(view: View, numbers: Numbers) -> Window | None:
 
 
 def groups_of(vessels: tuple[int, ...], size: int) -> list[tuple[int, ...]]:
-    """Returns vessels in groups of a size."""
+    """Splits vessels into groups of at most `size`."""
     return [vessels[k:k + size] for k in range(0, len(vessels), size)]
 
 
 @dataclass
 class Said:
-    """What a run of the program wrote, and how it ended."""
+    """The output of a run of the program, and its exit status."""
 
     text: str
     status: int
@@ -58,7 +59,7 @@ class Said:
 
     @property
     def is_crowded(self) -> bool:
-        """Returns whether more pairs came into contact than a run takes."""
+        """Returns whether more pairs came into contact than one run allows."""
         return self.status == STATUS and "pairs" in self.words
 
 
@@ -67,7 +68,7 @@ class Preliminary:
 
     def __init__(self, program: str, scenario: Scenario, numbers: Numbers, files: DayFiles) -> None:
         self.program, self.scenario, self.numbers, self.files = program, scenario, numbers, files
-        # subjects of a group, once a window had more pairs than a run takes
+        # subjects per group, after a window had more pairs than one run allows
         self.size: int | None = None
 
     def lines(self, view: View, window: Window) -> Iterator[bytes]:
@@ -76,7 +77,7 @@ class Preliminary:
         yield from self.files.blocks(window.place, lambda: view.place)
 
     def answer(self, view: View) -> Answer | None:
-        """Returns the program's answer to the stream as it is; None if no window is open."""
+        """Returns the program's answer to the stream so far; None if no window is open."""
         window = window_of(view, self.numbers)
         if window is None:
             return None
@@ -90,7 +91,7 @@ class Preliminary:
         return found
 
     def ask_group(self, view: View, window: Window, group: tuple[int, ...] | None, found: Answer) -> None:
-        """Asks about the subjects of a group, or about all pairs; if they are too many, about smaller groups."""
+        """Asks about the subjects of a group, or about all pairs. If these are too many, asks about smaller groups."""
         said = self.ask(view, window, group)
         vessels = view.vessels if group is None else group
         if said.is_crowded and len(vessels) > 1:
@@ -114,7 +115,7 @@ class Preliminary:
         return Said(text, child.returncode, words)
 
     def take(self, said: Said, group: tuple[int, ...] | None, found: Answer) -> None:
-        """Takes the rows of a run whose subjects are in its group, or that it failed."""
+        """Handles the result of a run: its failure, or its rows whose subjects are in the group."""
         if said.status == 0:
             self.read(said.text, group, found)
         else:
@@ -131,7 +132,7 @@ class Preliminary:
             pass                                        # the program has ended, and its status says why
 
     def read(self, text: str, group: tuple[int, ...] | None, found: Answer) -> None:
-        """Takes the rows of a run whose subjects are in its group."""
+        """Adds the rows of a run whose subjects are in the group to `found`."""
         tick, own = self.scenario.tick, None if group is None else frozenset(group)
         for line in text.splitlines():
             if not line.startswith(("meeting,", "verdict,", "lines,")):
@@ -149,7 +150,7 @@ class Preliminary:
                 found.counts[row.outcome] = row.count
 
     def run(self, view: Callable[[], View | None], take: Callable[[Answer], None], stop: threading.Event) -> None:
-        """Asks at each tick of the stream's clock, and hands on the answers, until `stop` is set."""
+        """Asks at each tick of the stream's clock, and passes the answers to `take`, until `stop` is set."""
         asked = None
         pause = LEAST_PAUSE
         while not stop.wait(pause):

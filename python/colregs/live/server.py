@@ -1,5 +1,5 @@
-"""The server of the live page, on aiohttp: the page, the socket of its state, lists for other programs, and the few
-things that a page may ask for."""
+"""The server of the live page, built on aiohttp: the page, a web socket with its state, lists for other programs, and
+the few requests that a page makes."""
 import asyncio
 import json
 import os
@@ -23,11 +23,11 @@ from colregs.page.page import coast, leaflet
 WEB = os.path.join(os.path.dirname(os.path.abspath(__file__)), "web")
 TYPES = {".js": "text/javascript", ".css": "text/css", ".html": "text/html", ".svg": "image/svg+xml"}
 TICK = 0.1                      # s between two changes
-BEHIND = 50                     # changes by which a browser may be behind before it gets a snapshot instead
-SENDING, CLOSING = 30, 5        # s that a browser may take for one message, and to say goodbye
-IDLE = 15                       # s between two looks for connections that have made no request
+BEHIND = 50                     # a browser that is more changes behind gets a snapshot instead
+SENDING, CLOSING = 30, 5        # s that a browser may take for one message, and for closing
+IDLE = 15                       # s between two checks for connections without a request
 MOST_BODY, MOST_MESSAGE = 8192, 1024
-CONNECTIONS = 100               # beside those of browsers
+CONNECTIONS = 100               # in addition to those of browsers
 OPEN = ("/login", "/web/login.css", "/web/login.js")
 Handler = Callable[[web.Request], Awaitable[web.StreamResponse]]
 
@@ -62,9 +62,9 @@ class Server:
         self.most_browsers, self.quiet = most_browsers, quiet
         self.changes, self.news, self.snapshot = Changes(), asyncio.Event(), (-1, "")
         self.epoch = f"{time.time_ns():x}"
-        # the rates of addresses; that of a proxy on a socket, which has none, is the rate of all its users
+        # one rate limit per address; the users of a proxy on a socket have no address and share one
         self.browsers, self.peers = 0, {"": Bucket(500, 2000)}
-        self.asked_once: set[asyncio.BaseProtocol] = set()      # connections that have made a request
+        self.asked_once: set[asyncio.BaseProtocol] = set()      # connections that have already made a request
         self.heavy, self.heavy_rate = asyncio.Semaphore(1), Bucket(1, 8)
         self.restarts: Callable[[], int] = lambda: 0
         self.fault = ""
@@ -90,10 +90,10 @@ class Server:
         made.on_response_prepare.append(self.add_headers)
         return made
 
-    # what holds for every request
+    # for every request
 
     async def add_headers(self, request: web.Request, response: web.StreamResponse) -> None:
-        """Adds the headers of every answer; a case's page brings a policy of its own."""
+        """Adds the headers of every response. A case's page brings its own policy."""
         for name, value in HEADERS.items():
             response.headers.setdefault(name, value)
         response.headers.setdefault("Content-Security-Policy", self.access.policy())
@@ -101,7 +101,7 @@ class Server:
 
     @web.middleware
     async def guard(self, request: web.Request, handler: Handler) -> web.StreamResponse:
-        """Refuses requests to another host, from another page, without the token, or too many of them."""
+        """Refuses requests for another host, from another page, without the token, or over the rate limit."""
         self.asked_once.add(request.protocol)
         refusal = self.refusal(request)
         if refusal:
@@ -112,7 +112,7 @@ class Server:
                 await asyncio.wait_for(request.read(), SENDING)
             return await handler(request)
         except asyncio.TimeoutError:
-            raise web.HTTPRequestTimeout(text="the rest of the request did not come\n") from None
+            raise web.HTTPRequestTimeout(text="timeout: the rest of the request did not arrive\n") from None
         except Fault as fault:
             return web.json_response({"fault": str(fault)}, status=500)
 
@@ -124,15 +124,15 @@ class Server:
         if not self.bucket(request.remote or "").takes():
             return web.HTTPTooManyRequests(text="too many requests\n")
         if not access.is_origin(headers.get("Origin"), request.host):
-            return web.HTTPForbidden(text="a page of another origin\n")
+            return web.HTTPForbidden(text="the request comes from a page of another origin\n")
         if request.path in OPEN or access.may(headers.get("Authorization", ""), request.cookies.get(COOKIE, "")):
             return None
         if request.path == "/":
             return web.HTTPSeeOther("/login")
-        return web.HTTPUnauthorized(text="a token is needed\n", headers={"WWW-Authenticate": "Bearer"})
+        return web.HTTPUnauthorized(text="the request needs a token\n", headers={"WWW-Authenticate": "Bearer"})
 
     def bucket(self, peer: str) -> Bucket:
-        """Returns the rate of an address; of very many addresses, all together have one."""
+        """Returns the rate limit of an address. Beyond a number of addresses, all others share one."""
         if peer not in self.peers and len(self.peers) > 1000:
             self.peers = {
                 "": self.peers[""],
@@ -177,7 +177,7 @@ class Server:
         raise answer
 
     async def get_settings(self, request: web.Request) -> web.StreamResponse:
-        """Answers what the page needs to know once."""
+        """Answers the settings, which the page asks for once."""
         return web.json_response({
             **self.settings, "map": self.site.has_map, "chart": self.site.chart is not None, "tiles": self.access.tiles
         })
@@ -206,7 +206,7 @@ class Server:
                 before.set()
 
     def health(self) -> Values:
-        """Returns what the server knows of itself and of the stream."""
+        """Returns the health of the server and of the stream."""
         state, now = self.state, time.time()
         answered = state.answered
         with state.lock:
@@ -230,7 +230,8 @@ class Server:
         return self.snapshot
 
     async def socket(self, request: web.Request) -> web.StreamResponse:
-        """Sends a browser a snapshot or what it missed, and then each change. A slow one gets a newer snapshot."""
+        """Sends a browser a snapshot or the changes that it missed, and then each new change. A slow browser gets a
+        newer snapshot."""
         if self.browsers >= self.most_browsers:
             raise web.HTTPServiceUnavailable(text="too many browsers\n")
         answer = web.WebSocketResponse(heartbeat=20, max_msg_size=MOST_MESSAGE, compress=False)
@@ -240,7 +241,7 @@ class Server:
         try:
             await self.send(answer, self.asked(request))
         except (ConnectionError, asyncio.TimeoutError, RuntimeError):
-            pass                                        # the browser is gone, or takes nothing
+            pass                                        # the browser is gone, or does not read
         finally:
             self.browsers -= 1
             listener.cancel()
@@ -249,7 +250,7 @@ class Server:
 
     @staticmethod
     async def leave(request: web.Request, answer: web.WebSocketResponse) -> None:
-        """Ends the connection of a browser, also if it takes nothing more."""
+        """Ends the connection of a browser, even if the browser no longer reads."""
         try:
             await asyncio.wait_for(answer.close(), CLOSING)
         except (ConnectionError, asyncio.TimeoutError, RuntimeError):
@@ -264,14 +265,14 @@ class Server:
             since) if request.query.get("epoch") == self.epoch and since.isdecimal() and len(since) < 16 else None
 
     async def listen(self, answer: web.WebSocketResponse) -> None:
-        """Reads what a browser sends, which is nothing but that it is there, until it is gone."""
+        """Reads the browser's messages, which only show that it is still there, until it is gone."""
         async for _ in answer:
             pass
         await answer.close()
 
     async def send(self, answer: web.WebSocketResponse, sent: int | None) -> None:
         """Sends changes as they come, until the browser is gone."""
-        most = len(self.changes.texts)                  # a browser that comes back gets all that it missed
+        most = len(self.changes.texts)                  # a browser that reconnects gets every missed change
         while not answer.closed:
             texts = None if sent is None else self.changes.after(sent, most)
             most = BEHIND
@@ -285,7 +286,7 @@ class Server:
                 await self.news.wait()
 
     async def end_idle(self, connections: Callable[[], list[web.RequestHandler]]) -> None:
-        """Ends connections that are there at two looks and have made no request."""
+        """Ends connections that two checks in a row find without a request."""
         before: set[asyncio.BaseProtocol] = set()
         while True:
             await asyncio.sleep(IDLE)
@@ -297,7 +298,7 @@ class Server:
                     one.transport.abort()
             before = now
 
-    # lists and numbers
+    # lists and metrics
 
     async def get_list(self, request: web.Request) -> web.StreamResponse:
         """Answers vessels, encounters or alarms as JSON or GeoJSON."""
@@ -308,27 +309,27 @@ class Server:
         return web.json_response(answers.as_json(self.state, kind))
 
     async def get_metrics(self, request: web.Request) -> web.StreamResponse:
-        """Answers the numbers for Prometheus."""
+        """Answers the metrics for Prometheus."""
         return web.Response(text=answers.metrics(self.state, self.health()), content_type="text/plain")
 
     async def get_health(self, request: web.Request) -> web.StreamResponse:
-        """Answers whether lines come; with status 503 if none came for a while, or if the stream is no longer
-        followed."""
+        """Answers whether lines arrive: with status 503 if none came for a while, or if nothing follows the stream any
+        more."""
         health = self.health()
-        why = self.fault or (f"no line came for {health['quiet']} s" if health["quiet"] > self.quiet else "")
+        why = self.fault or (f"no line arrived for {health['quiet']} s" if health["quiet"] > self.quiet else "")
         return web.json_response({"ok": not why, "why": why, **health}, status=503 if why else 200)
 
-    # what takes a while
+    # slow requests
 
     async def get_history(self, request: web.Request) -> web.StreamResponse:
-        """Answers what the day files hold of an earlier moment."""
+        """Answers the state of an earlier moment, from the day files."""
         at = request.query.get("at", "")
         if not at.isdecimal() or len(at) > 11:
-            raise web.HTTPBadRequest(text="at=SECONDS since the Unix epoch\n")
+            raise web.HTTPBadRequest(text="write at=SECONDS, in seconds since the Unix epoch\n")
         return web.json_response(await self.alone(lambda: self.history.at(int(at))))
 
     def wanted(self, request: web.Request) -> Wanted:
-        """Returns the alarm of a request as cases need it."""
+        """Returns the alarm of a request in the form that cases need."""
         with self.state.lock:
             item = self.state.alarms.items.get(request.match_info["id"])
             if item is None:
@@ -351,21 +352,21 @@ class Server:
                             headers={"Content-Disposition": f'attachment; filename="{name}.zip"'})
 
     async def alone(self, work: Callable[[], Any]) -> Any:
-        """Returns the result of work that takes a while, one at a time."""
+        """Returns the result of slow work; only one such request runs at a time."""
         if not self.heavy_rate.takes():
             raise web.HTTPTooManyRequests(text="too many requests\n")
         async with self.heavy:
             return await asyncio.to_thread(work)
 
     async def acknowledge(self, request: web.Request) -> web.StreamResponse:
-        """Stores an acknowledgement of an alarm with its note: the one request that changes anything."""
+        """Stores an acknowledgement of an alarm with its note. No other request changes anything."""
         if request.content_type != "application/json":
-            raise web.HTTPUnsupportedMediaType(text="application/json is needed\n")
+            raise web.HTTPUnsupportedMediaType(text="send application/json\n")
         try:
             given = await request.json()
             acknowledged, words = given["acknowledged"], given.get("note", "")
         except (ValueError, KeyError, TypeError, AttributeError):
-            raise web.HTTPBadRequest(text='{"acknowledged": true, "note": ".."}\n') from None
+            raise web.HTTPBadRequest(text='send {"acknowledged": true, "note": ".."}\n') from None
         if not isinstance(acknowledged, bool) or not isinstance(words, str) or len(words) > LONGEST:
             raise web.HTTPBadRequest(text=f"acknowledged is true or false, and note a text of at most {LONGEST} "
                                           "letters\n")
@@ -377,7 +378,7 @@ class Server:
 
 
 class Refused(asyncio.Protocol):
-    """A connection beyond those that are allowed: it is closed at once."""
+    """A connection over the limit, which is closed at once."""
 
     def connection_made(self, transport: asyncio.BaseTransport) -> None:
         """Closes the connection."""
@@ -386,7 +387,7 @@ class Refused(asyncio.Protocol):
 
 
 async def listening(server: Server, runner: web.AppRunner) -> asyncio.base_events.Server:
-    """Returns what listens at the address of a server, with a limit of connections."""
+    """Returns a listener at the server's address, with a limit of connections."""
     address, loop = server.access.address, asyncio.get_running_loop()
     assert runner.server is not None
     handlers: web.Server = runner.server
@@ -426,7 +427,7 @@ async def serve(server: Server, stop: asyncio.Event) -> None:
     ]
     done, _ = await asyncio.wait(tasks, return_when=asyncio.FIRST_COMPLETED)
     for task in done:
-        task.result()                                   # a defect of ours ends the server with its traceback
+        task.result()                                   # a defect ends the server with its traceback
     for task in tasks:
         task.cancel()
     listener.close()

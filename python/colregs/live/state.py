@@ -1,6 +1,6 @@
-"""The state of a stream that pages show: vessels, encounters, alarms, verdicts and health, and what changed of it.
+"""The state of a stream that pages show: vessels, encounters, alarms, verdicts and health, and its changes.
 
-The thread that follows the stream feeds it, and the server's thread asks it; a lock keeps them apart.
+The thread that follows the stream writes it and the server's thread reads it; a lock protects it.
 """
 import collections
 import json
@@ -25,16 +25,15 @@ from colregs.stream.lately import rest_of
 from colregs.stream.stretches import AT_REST, BOTH, FORGOTTEN, Key, StretchBook, about, rows_in
 
 ROWS, MARKS = ("meeting", "verdict"), (BEFORE, AFTER, DOUBT)
-MOST_ROWS = 500                 # settled rows of `audit` that are listed: the latest
-EACH, MOST_PLACES = 30, 60      # s between two places of a track in a snapshot, and how many it has at most
-SECOND = 1.0                    # s of this machine's clock between two looks at encounters, and at what is over
+MOST_ROWS = 500                 # the latest settled rows of `audit`, which are listed
+EACH, MOST_PLACES = 30, 60      # s between two places of a track in a snapshot, and their number at most
+SECOND = 1.0                    # s of this machine's clock between two checks of encounters, and of what is over
 Values = dict[str, Any]
 
 
 @dataclass
 class Answer:
-    """The answer of the program to a window so far: meetings, broken stretches, and the lines by outcome; or why there
-    is none."""
+    """The program's answer to a window so far: meetings, broken stretches, lines by outcome; or why it failed."""
 
     start: int
     clock: int
@@ -73,7 +72,7 @@ def first_time(lines: Iterable[bytes]) -> int | None:
 
 
 class State:
-    """All that a page shows. It is a listener of the stream, and the sink of its rows."""
+    """Everything that a page shows. It listens to the stream and receives its rows."""
 
     def __init__(self, folder: str, scenario: Scenario, notes: Notes) -> None:
         self.folder, self.scenario, self.notes, self.lock = folder, scenario, notes, threading.RLock()
@@ -94,7 +93,7 @@ class State:
     # the listener
 
     def load(self, days: list[str]) -> None:
-        """Takes what an earlier run wrote on these days."""
+        """Loads the files that an earlier run wrote on these days."""
         with self.lock:
             every = (lines_of(f"{self.folder}/{day}.log") for day in days_in(self.folder))
             self.first = first_time(line for lines in every for line in lines)
@@ -134,7 +133,7 @@ class State:
             self.book.pass_time(clock)
 
     def ended(self) -> None:
-        """Takes the end of a stream that ended for good."""
+        """Handles the end of a stream that does not continue."""
         with self.lock:
             self.book.finish(True)
             self.is_over = True
@@ -152,11 +151,11 @@ class State:
                 self.rows.add(row, (self.fleet.name(row["subject"]), self.fleet.name(row["other"])))
 
     def close(self) -> None:
-        """Joins the alarms that wait."""
+        """Joins the alarms that still wait."""
         with self.lock:
             self.book.finish(False)
 
-    # the book of stretches
+    # called by the stretches
 
     def joined(self, one: Any) -> None:
         """Takes a stretch that an alarm has joined."""
@@ -167,8 +166,8 @@ class State:
         self.alarms.told(told)
 
     def about_of(self, key: Key, first: int, last: int, before: Values) -> Values:
-        """Returns names, types, place and marks of a stretch. Marks take a while to compute: until it settles, it has
-        those of before, and one of two vessels at rest, which are many and hidden, has that mark alone."""
+        """Returns names, types, place and marks of a stretch. Marks take a while to compute, so a stretch has its old
+        marks until it settles. Stretches of two vessels at rest are many and hidden, so they get that mark alone."""
         still = rest_of(self.fleet, key[:2], first, last)
         marks = [AT_REST] if still == BOTH else before.get("marks") if before.get("at_rest") == still else None
         known = None if marks is None else (still, marks)
@@ -177,16 +176,16 @@ class State:
     # the answers and the browsers
 
     def answer(self, answer: Answer) -> None:
-        """Takes an answer of the program to the window so far."""
+        """Handles an answer of the program to the window so far."""
         with self.lock:
             self.answered = answer
             self.encounters.answer(answer.meetings, answer.start)
-            # a step is decided as late as the rules look ahead, and settles after that
+            # a step is decided only after the rules' look-ahead, and settles after that
             self.alarms.answer(answer.broken, answer.clock - self.book.stretches.wait, not answer.fault)
             self.looked = 0.0
 
     def acknowledge(self, name: str, acknowledged: bool, words: str, at: int) -> Values | None:
-        """Stores an acknowledgement of an alarm; returns the alarm, or None if there is none of this name."""
+        """Stores an acknowledgement of an alarm; returns the alarm, or None if no alarm has this name."""
         with self.lock:
             item = self.alarms.items.get(name)
             if item is None:
@@ -198,18 +197,18 @@ class State:
             return self.alarms.values(item)
 
     def set_health(self, health: Values) -> None:
-        """Takes what the server knows of itself and of the stream."""
+        """Sets the health of the server and of the stream."""
         with self.lock:
             self.health = health
 
-    # what is sent
+    # for snapshots and changes
 
     def place(self, ship: Ship, k: int = -1) -> list[float]:
-        """Returns longitude and latitude at a report."""
+        """Returns longitude and latitude of a report."""
         return self.earth.degrees(ship.track.xs[k], ship.track.ys[k])
 
     def vessel(self, ship: Ship) -> list[Any]:
-        """Returns a vessel as a change has her: MMSI, time, longitude, latitude, speed in knots, course and heading in
+        """Returns a vessel for a change: MMSI, time, longitude, latitude, speed in knots, course and heading in
         degrees."""
         track, known = ship.track, self.fleet.about.get(ship.mmsi)
         speed, course = track.speeds[-1], track.courses[-1]
@@ -219,8 +218,8 @@ class State:
         ]
 
     def track(self, ship: Ship) -> list[float]:
-        """Returns the track of a vessel as a snapshot has it: time, longitude and latitude of each of its last places,
-        one after the other."""
+        """Returns the track of a vessel for a snapshot: time, longitude and latitude of each of its last places, in one
+        flat list."""
         found: list[float] = []
         before, times = None, ship.track.times
         for k in range(len(times) - 1, -1, -1):
@@ -232,14 +231,14 @@ class State:
         return found
 
     def said_of(self, mmsi: int, known: About) -> Values:
-        """Returns what a vessel says of herself."""
+        """Returns the static data that a vessel sends."""
         return {
             "mmsi": mmsi, "name": known.name, "type": self.fleet.kind_words(mmsi), "length": known.length,
             "status": self.fleet.status_words(mmsi)
         }
 
     def snapshot(self) -> Values:
-        """Returns all of the state."""
+        """Returns the whole state."""
         with self.lock:
             ships = list(self.fleet.ships.values())
             return {
@@ -253,7 +252,7 @@ class State:
             }
 
     def change(self) -> Values:
-        """Returns what changed since the last call; an empty dictionary if nothing did."""
+        """Returns the changes since the last call; an empty dictionary if there are none."""
         with self.lock:
             fleet, alarms, clock = self.fleet, self.alarms, self.clock
             encounters = self.pass_time(clock)
@@ -275,7 +274,7 @@ class State:
             return {"clock": clock, **found} if found else {}
 
     def pass_time(self, clock: int | None) -> Values:
-        """Ends what is over by now, at most once a second; returns the encounters that changed."""
+        """Ends encounters and alarms that are over, at most once a second; returns the encounters that changed."""
         now = time.monotonic()
         if clock is None or now < self.looked + SECOND:
             return {}

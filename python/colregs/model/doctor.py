@@ -98,7 +98,7 @@ def read_scenario(path: str) -> dict[str, Any]:
 def refusal(mode: str, run: Run) -> Finding:
     """Returns the finding for a run that the program refused."""
     more = next_step(run.status, run.words)[2:] or REFUSED.get(run.status, "docs/ROWS.md has the status")
-    return Finding("refused run", f"the program ends `{mode}` with status {run.status}, {run.words}: {more}")
+    return Finding("refused run", f"`{mode}` ended with status {run.status}, {run.words}: {more}")
 
 
 def refused(patient: Patient) -> Iterator[Finding]:

@@ -258,7 +258,7 @@ def guessed(log: str, program: str, reasons: list[str], asked: Asked = Asked()) 
     try:
         found, latest = look(log, program, reasons)
     except OSError as error:
-        raise Fault(f"{log} cannot be read: {reason(error)}") from None
+        raise Fault(f"cannot read {log}: {reason(error)}") from None
     if not found.times:
         raise Fault("the program accepts no position report of the log")
     start, tick, ticks, interval = window(found, latest, reasons, asked)

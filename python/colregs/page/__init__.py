@@ -1,1 +1,1 @@
-"""What is made of a case: its folder, page, map, database and pictures."""
+"""Writes a case: its folder, page, map, database and pictures."""

@@ -1,4 +1,4 @@
-"""A case as an SQLite database: a table for each kind of row, in metres, knots, degrees and UTC (docs/ROWS.md)."""
+"""A case as an SQLite database: one table per kind of row, in metres, knots, degrees and UTC (docs/ROWS.md)."""
 import sqlite3
 from collections.abc import Iterator
 from typing import Any
@@ -60,8 +60,8 @@ def ends(case: Case, row: Stretch) -> tuple[str, str]:
 
 
 def lost_fields(case: Case, row: Stretch) -> tuple[str | None, float | None, str | None]:
-    """Returns when contact was lost at the end of a meeting, and the least distance in metres and its moment if both
-    had gone on."""
+    """Returns when contact was lost at the end of a meeting, and the least distance in metres and its time on the
+    assumption that both kept course and speed."""
     found = case.lost(row)
     if found is None or found.ahead is None:
         return iso(case.start + found.at) if found else None, None, None
@@ -69,7 +69,7 @@ def lost_fields(case: Case, row: Stretch) -> tuple[str | None, float | None, str
 
 
 def marked(marks: Marks, row: Stretch) -> tuple[Any, ...]:
-    """Returns the fields of a row's marks, and what the subject and the other vessel are, by type and status."""
+    """Returns the fields of a row's marks, and the subject's and the other vessel's kind by type and status."""
     found = set(marks.of(row))
     return (*(int(name in found) for name in COLUMNS), *(marks.words(mmsi, row.last) for mmsi in row.pair))
 
@@ -105,7 +105,7 @@ def total_fields(total: Total) -> tuple[str, int, int, int, int, int]:
 
 
 def write(path: str, case: Case, marks: Marks, about: dict[str, str], files: list[tuple[str, str, int]]) -> None:
-    """Writes the database; `about` has words by keys, `files` the name, sum and size of each file."""
+    """Writes the database; `about` has texts by keys, `files` the name, hash and size of each file."""
     totals = (total_fields(case.totals[rule]) for rule in case.rules if rule in case.totals)
     rows: dict[str, Any] = {
         "about": about.items(), "file": files, "point": points(case), "vessel": vessels(case), "meeting": meetings(

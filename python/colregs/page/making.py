@@ -1,5 +1,5 @@
-"""Makes a case: the log, the scenario and the reports, then map, database and page, and case.json with the sums of all
-files."""
+"""Makes a case: the log, the scenario and the reports, then map, database and page, and case.json with the hashes of
+all files."""
 import argparse
 import json
 import platform
@@ -25,7 +25,7 @@ from colregs.run.program import known_run, programs_of, version_of, window_optio
 
 
 class Making:
-    """A case that is being made: what was given, the folder, and what is known so far."""
+    """A case in the making: the arguments, the folder, and the results so far."""
 
     def __init__(self, given: argparse.Namespace, reading: Reading, program: str, folder: Folder) -> None:
         self.given, self.program, self.folder, self.version = given, program, folder, version_of(program)
@@ -65,7 +65,7 @@ class Making:
         return case, audited
 
     def findings(self) -> list[Finding]:
-        """Returns what the doctor finds."""
+        """Returns the findings of the doctor."""
         known = known_run(self.audited.text), known_run(self.folder.text(POINTS))
         return doctor.findings(self.folder.path(SCENARIO), self.folder.path(LOG), self.folder.path(REPORT),
                                self.program, window_options(self.chosen.start, self.chosen.ticks), known)
@@ -96,7 +96,7 @@ class Making:
             self.doubts.append(page.NO_MAP + ".")
 
     def page_words(self, files: Sums) -> dict[str, Any]:
-        """Returns what the page shows beside the case itself."""
+        """Returns what the page shows in addition to the case itself."""
         return {
             "title": self.title(), "summary": self.summary, "doubts": self.doubts, "reasons": self.chosen.reasons,
             "scenario": self.folder.text(SCENARIO), "sources": list(self.logs.gathered.words()), "files": files,
@@ -105,11 +105,11 @@ class Making:
         }
 
     def title(self) -> str:
-        """Returns the title that is given, or the names of the logs."""
+        """Returns the title that the user gave, or the names of the logs."""
         return self.given.title or "Case of " + ", ".join(name for name, _, _ in self.logs.sums)
 
     def about(self) -> dict[str, Any]:
-        """Returns what case.json holds."""
+        """Returns the content of case.json."""
         case, audited = self.case, self.audited
         return {
             "title": self.title(), "version": self.version,
@@ -128,13 +128,13 @@ class Making:
 
 
 def listed(sums: Sums) -> list[dict[str, Any]]:
-    """Returns sums of files as values of JSON."""
+    """Returns the hashes of files as values of JSON."""
     return [{"name": name, "sha256": total, "bytes": size} for name, total, size in sums]
 
 
 def make(given: argparse.Namespace, reading: Reading, program: str) -> tuple[list[str], list[str]]:
-    """Makes the folder of a case; returns its summary, and what is doubtful."""
-    page.coast(given.chart)         # a file that is no chart stops the command before its work
+    """Makes the folder of a case; returns its summary and its warnings."""
+    page.coast(given.chart)         # fails early if the file is not a chart
     with new_folder(given.out) as folder:
         making = Making(given, reading, program, folder)
         making.draw()

@@ -19,7 +19,8 @@ def tenths(value: int) -> str:
 
 
 def points(case: Case, earth: Earth, kept: Kept) -> Iterator[str]:
-    """A point for each accepted report that stays. Most of a file is these, so they are written without a detour."""
+    """Yields a point for each accepted report that stays. Most of a file is points, so this builds their text directly.
+    """
     moments: dict[int, str] = {}
     values = {value: tenths(value) for value in range(NONE, 3600)}
     for mmsi, track in case.tracks.items():
@@ -41,7 +42,7 @@ def points(case: Case, earth: Earth, kept: Kept) -> Iterator[str]:
 
 
 def tracks(case: Case, earth: Earth, kept: Kept) -> Iterator[str]:
-    """A line for each part of a track, and a point where it begins and where it ends."""
+    """Yields a line for each part of a track, and a point at its start and at its end."""
     for mmsi, track in sorted(case.tracks.items()):
         about = {"mmsi": mmsi, "name": case.name(mmsi)}
         for part in kept[mmsi]:
@@ -54,7 +55,7 @@ def tracks(case: Case, earth: Earth, kept: Kept) -> Iterator[str]:
 
 
 def about(case: Case, row: Stretch, marks: Marks | None) -> dict[str, Any]:
-    """Returns who a row is of, and when."""
+    """Returns the vessels and the times of a row."""
     marked = {"marks": ", ".join(marks.of(row, isinstance(row, Meeting)))} if marks else {}
     return {
         "subject": row.subject, "subject_name": case.name(row.subject), "other": row.other,
@@ -64,7 +65,7 @@ def about(case: Case, row: Stretch, marks: Marks | None) -> dict[str, Any]:
 
 
 class Ways:
-    """The ways of stretches: through each tick, or through the reports that stay if some do not."""
+    """The lines of stretches: through each tick, or through the remaining reports if some are left out."""
 
     def __init__(self, case: Case, earth: Earth, kept: Kept) -> None:
         self.case, self.earth, self.is_whole = case, earth, is_whole(case, kept)
@@ -83,7 +84,7 @@ class Ways:
         return [ticks[0], *((track.xs[k], track.ys[k]) for k in self.numbers[row.subject][low:high]), ticks[-1]]
 
     def words(self, row: Stretch) -> str | None:
-        """Returns the subject's way in a stretch, as text; None if she is not seen at two ticks of it."""
+        """Returns the subject's line in a stretch, as text; None if she is seen at fewer than two of its ticks."""
         if row.subject not in self.case.places:
             return None
         seen = self.places(row)
@@ -91,7 +92,7 @@ class Ways:
 
 
 def meetings(case: Case, ways: Ways, marks: Marks | None) -> Iterator[str]:
-    """The subject's way in each meeting; and where the two were nearest, a line between them and the subject's
+    """Yields the subject's line in each meeting; and at the closest approach a line between the two, and the subject's
     point."""
     for row in case.meetings:
         more = {**about(case, row, marks), "encounter": row.encounter, "least": row.metres}
@@ -108,7 +109,7 @@ def meetings(case: Case, ways: Ways, marks: Marks | None) -> Iterator[str]:
 
 
 def verdicts(case: Case, ways: Ways, marks: Marks | None) -> Iterator[str]:
-    """Yields the subject's way in each verdict."""
+    """Yields the subject's line in each verdict."""
     for row in case.verdicts:
         way = ways.words(row)
         if way:
@@ -117,10 +118,10 @@ def verdicts(case: Case, ways: Ways, marks: Marks | None) -> Iterator[str]:
 
 def geojson(case: Case, marks: Marks | None = None, kept: Kept | None = None,
             kept_in_ways: Kept | None = None) -> Iterator[str]:
-    """Yields the text of the whole, piece by piece; with the marks of meetings and verdicts if they are given.
+    """Yields the text of the whole file in pieces, with the marks of meetings and verdicts if they are given.
 
-    `kept` are the reports that stay as points and tracks, `kept_in_ways` those in the ways of meetings and verdicts; by
-    default all do.
+    `kept` are the reports that stay in points and tracks, `kept_in_ways` those that stay in the lines of meetings and
+    verdicts. By default all stay.
     """
     earth, before = Earth(case.reference), '{"type":"FeatureCollection","features":[\n'
     shown = kept or whole(case)

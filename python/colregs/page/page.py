@@ -1,8 +1,7 @@
-"""The page of a case: one file of HTML that needs no network. Leaflet is taken in from Debian's libjs-leaflet when the
-page is made.
+"""The page of a case: one HTML file that needs no network. It embeds Leaflet from Debian's package libjs-leaflet.
 
-The page holds the accepted reports, the rows of the audit and the texts that belong to them as JSON, and its own
-JavaScript draws map, charts and tables from these. It judges nothing: each verdict is a row of the report.
+The page contains the accepted reports, the rows of the audit and their texts as JSON, and its own JavaScript draws map,
+charts and tables from these. It judges nothing: each verdict is a row of the report.
 """
 import html
 import itertools
@@ -28,12 +27,12 @@ from colregs.page.thinning import Kept
 HERE = os.path.join(os.path.dirname(os.path.abspath(__file__)), "web")
 LEAFLET = "/usr/share/javascript/leaflet"
 SCRIPTS = ("state.js", "playback.js", "map.js", "charts.js", "times.js", "tables.js", "page.js")
-NO_MAP = "Leaflet is not here, so the page has no map: install Debian's package libjs-leaflet and make the page again"
+NO_MAP = "the page has no map: Leaflet is missing; install Debian's package libjs-leaflet and make the page again"
 
 
 def leaflet(folder: str = LEAFLET) -> tuple[str, str]:
-    """Returns the script and the style of Leaflet without the pictures that the page does not use, or two empty texts
-    if Leaflet is not installed."""
+    """Returns the script of Leaflet, and its style without the pictures that the page does not use. Returns two empty
+    texts if Leaflet is not installed."""
     try:
         with open(os.path.join(folder, "leaflet.min.js"), encoding="utf-8") as script, \
                 open(os.path.join(folder, "leaflet.css"), encoding="utf-8") as style:
@@ -45,7 +44,7 @@ def leaflet(folder: str = LEAFLET) -> tuple[str, str]:
 
 
 def deltas(values: Iterable[int]) -> list[int]:
-    """Returns the first value, and then how much each differs from the one before, which is short to write."""
+    """Returns the first value, and then the difference of each value from the one before, which makes a short text."""
     before, found = 0, []
     for value in values:
         found.append(value - before)
@@ -54,8 +53,8 @@ def deltas(values: Iterable[int]) -> list[int]:
 
 
 def vessels(case: Case, kept: Kept, said: Said) -> list[dict[str, Any]]:
-    """Returns the vessels with the reports that stay, column by column, and the numbers of those with which a part of
-    the track begins."""
+    """Returns the vessels, with their remaining reports column by column, and the index of the first report of each
+    part of a track."""
     found = []
     for mmsi in sorted(set(case.tracks) | set(case.vessels)):
         vessel, track = case.vessels.get(mmsi), case.tracks.get(mmsi)
@@ -84,12 +83,12 @@ def vessels(case: Case, kept: Kept, said: Said) -> list[dict[str, Any]]:
 
 
 def headings(case: Case, told: Sequence[tuple[int, int]]) -> list[list[int]]:
-    """Returns times after the window's start and headings from then on; -1 for none."""
+    """Returns times after the window's start, and the heading from each on; -1 for none."""
     return [[at - case.start for at, _ in told], [-1 if heading == NO_HEADING else heading for _, heading in told]]
 
 
 def meetings(case: Case, marks: Marks, numbers: Mapping[int, int]) -> list[dict[str, Any]]:
-    """Returns one entry for each two vessels and stretch, with what it is for either, in the order of their first
+    """Returns one entry per two vessels and stretch, with its kind for each of the two, in the order of the first
     steps."""
     found: dict[tuple[int, int, int, int], list[Meeting]] = {}
     for row in case.meetings:
@@ -112,14 +111,14 @@ def meetings(case: Case, marks: Marks, numbers: Mapping[int, int]) -> list[dict[
 
 
 def ahead(case: Case, row: Meeting) -> float | None:
-    """Returns the least distance in metres if both went on after contact was lost, or None if it was not or the
-    distance is unknown."""
+    """Returns the least distance in metres on the assumption that both kept course and speed after contact was lost.
+    Returns None if contact was not lost or the distance is unknown."""
     found = case.lost(row)
     return round(found.ahead.least, 1) if found and found.ahead else None
 
 
 def resting(case: Case, rows: Sequence[Meeting], key: tuple[int, ...]) -> list[int]:
-    """Returns which of the two vessels of an entry lie still: 0, 1 or both."""
+    """Returns the indices of the vessels of an entry that are at rest: 0, 1 or both."""
     still: set[int] = set()
     for row in rows:
         who: dict[str, tuple[int, ...]] = {"subject": (row.subject,), "other": (row.other,), "both": row.pair}
@@ -130,7 +129,7 @@ def resting(case: Case, rows: Sequence[Meeting], key: tuple[int, ...]) -> list[i
 def verdicts(
     case: Case, marks: Marks, numbers: Mapping[int, int], entries: list[dict[str, Any]]
 ) -> list[dict[str, Any]]:
-    """Returns the verdicts, each with the number of the meeting that it overlaps, if there is one."""
+    """Returns the verdicts, each with the number of the meeting that it overlaps, if any."""
     by_pair: dict[tuple[int, ...], list[tuple[int, int, int]]] = {}
     rules = {rule: k for k, rule in enumerate(case.rules)}
     for number, entry in enumerate(entries):
@@ -161,11 +160,11 @@ def coast(path: str | None) -> Any:
             return found
     except (ValueError, TypeError, KeyError):
         pass
-    raise Fault(f"{path}: not a map of lines or areas in GeoJSON")
+    raise Fault(f"{path}: this file is not a GeoJSON map of lines or areas")
 
 
 def words_of(case: Case, rule: str) -> str:
-    """Returns what a rule asks; for a formula of the scenario, its text."""
+    """Returns what a rule requires; for a formula of the scenario, its text."""
     formulas = case.values.get("formula")
     for entry in formulas if isinstance(formulas, list) else []:
         if isinstance(entry, dict) and entry.get("name") == rule:
@@ -174,13 +173,13 @@ def words_of(case: Case, rule: str) -> str:
 
 
 def total_words(case: Case, rule: str) -> list[int] | None:
-    """Returns the counts of a rule, as the page shows them."""
+    """Returns the counts of a rule for the page."""
     total = case.totals.get(rule)
     return [total.positions, total.yes, total.no, total.open, total.broken] if total else None
 
 
 def content(case: Case, marks: Marks, kept: Kept, said: Said, about: Mapping[str, Any]) -> dict[str, Any]:
-    """Returns all that the page shows. `about` has title, summary, findings, reasons, scenario, sources, files,
+    """Returns the whole content of the page. `about` has title, summary, findings, reasons, scenario, sources, files,
     commands, version and chart."""
     listed, earth = vessels(case, kept, said), Earth(case.reference)
     numbers = {vessel["mmsi"]: k for k, vessel in enumerate(listed)}
@@ -200,7 +199,7 @@ def content(case: Case, marks: Marks, kept: Kept, said: Said, about: Mapping[str
 
 
 def sweep_of(case: Case, sweep: Sweep | None, lines: Sequence[Line]) -> dict[str, Any] | None:
-    """Returns the table of a sweep, or None if there is none."""
+    """Returns the table of a sweep, or None without a sweep."""
     if sweep is None:
         return None
     rows = [[case.name(line.subject),
@@ -209,14 +208,14 @@ def sweep_of(case: Case, sweep: Sweep | None, lines: Sequence[Line]) -> dict[str
 
 
 def early(case: Case) -> int:
-    """Returns for how many seconds from a meeting's beginning action is early, by the scenario."""
+    """Returns how many seconds after a meeting's start action still counts as early in this scenario."""
     rules = case.values.get("rules")
     value = rules.get("ta") if isinstance(rules, dict) else None
     return value if isinstance(value, int) else 0
 
 
 def window_words(case: Case) -> str:
-    """Returns the window in words."""
+    """Returns the window as text."""
     begin, end = case.moment(0), case.moment(case.steps)
     day = "" if date(begin) == date(end) else f"{date(end)}, "
     return f"{date(begin)}, {iso(begin)[11:19]} to {day}{iso(end)[11:19]} UTC"

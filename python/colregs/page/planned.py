@@ -12,19 +12,19 @@ from colregs.model.tracks import NONE, Place, Track, along, least_part, toward
 from colregs.page.svg import Coloured, Point
 from colregs.page.tracks import QUIET, TRACK, Chart, draw_frame, draw_head, draw_scale, seen_parts
 
-KNOT = 1852 / 36000     # metres a second of 1/10 knot
+KNOT = 1852 / 36000     # metres per second in 1/10 knot
 LEGS = ["#0072b2", "#009e73"]
 OTHERS = ["#d55e00", "#7b3294", "#8c564b", "#c79a00", "#cc3d8f", "#01665e"]
 
 
 def moved(place: Place, course: float, speed: float, seconds: float) -> Place:
-    """Returns where a vessel is after a time on a course in 1/10 degree at a speed in 1/10 knot."""
+    """Returns a vessel's place after a time on a course in 1/10 degree at a speed in 1/10 knot."""
     angle, way = math.radians(course / 10), speed * KNOT * seconds
     return place[0] + way * math.sin(angle), place[1] + way * math.cos(angle)
 
 
 class Planned(Case):
-    """What is drawn of a plan: places at the ticks up to now, and from now on those of own ship and of each target."""
+    """The contents of a plan's picture: places at the ticks up to now, and then those of own ship and each target."""
 
     def __init__(self, scenario: str, points: str, plan: str, start: int | None = None,
                  ticks: int | None = None) -> None:
@@ -33,7 +33,7 @@ class Planned(Case):
         self.refused: int | None = None
         super().__init__(scenario, points, plan, start, ticks)
         if self.refused is None and not self.legs:
-            raise Fault("the report is none of `plan`")
+            raise Fault("this report does not come from `plan`")
         try:
             self.predict_all(self.values["own"])
         except (KeyError, TypeError, StopIteration) as error:
@@ -45,14 +45,14 @@ class Planned(Case):
         self.targets = [mmsi for mmsi in self.names if mmsi != self.own]
         self.last_tick = own["legs"] * own["leg_ticks"] + own["tail"]
         if not 0 < self.last_tick <= 7200:
-            raise Fault(f"own.legs, own.leg_ticks and own.tail come to {self.last_tick} ticks")
+            raise Fault(f"own.legs, own.leg_ticks and own.tail add up to {self.last_tick} ticks")
         self.paths = {mmsi: self.predicted(mmsi) for mmsi in self.names}
         if self.legs:
             self.paths[self.own] = self.planned(self.paths[self.own][0])
         self.radii = {mmsi: own["base"] + own["lengths"] * self.lengths[mmsi] for mmsi in self.targets}
 
     def take(self, row: Row) -> None:
-        """Takes one row, also those of a plan."""
+        """Handles one row; this includes the rows of a plan."""
         super().take(row)
         if isinstance(row, Vessel):
             self.lengths[row.mmsi] = row.length
@@ -62,12 +62,12 @@ class Planned(Case):
             self.refused = row.plans
 
     def check_lines(self) -> None:
-        """Checks nothing: a plan reads no line after now, and `points` reads those of a gap more, so their counts may
+        """Checks nothing. A plan reads no line after now and `points` reads one gap more, so their counts may
         differ."""
 
     def predicted(self, mmsi: int) -> list[Place]:
-        """Returns places at each tick from now on, on the course and speed of the last report with the changes that the
-        scenario predicts."""
+        """Returns the places at each tick from now on: on the course and speed of the last report, with the changes
+        that the scenario predicts."""
         track = self.last_report_of(mmsi)
         time, course, speed = float(self.start + track.times[-1]), float(track.courses[-1]), float(track.speeds[-1])
         if NONE in (course, speed):
@@ -84,18 +84,18 @@ class Planned(Case):
     def last_report_of(self, mmsi: int) -> Track:
         """Returns the track of a vessel of the plan."""
         if mmsi not in self.tracks:
-            raise Fault(f"the plan is of {mmsi}, and the points are not")
+            raise Fault(f"the plan has {mmsi}, but the points do not; give points and plan of the same log")
         return self.tracks[mmsi]
 
     def reached(self, place: Place, parts: Sequence[tuple[float, float, float]], until: float) -> Place:
-        """Returns where a vessel is at a time after parts of (begin, course, speed)."""
+        """Returns a vessel's place at a time after parts of (start, course, speed)."""
         for (begin, course, speed), following in zip(parts, [*parts[1:], (until, 0.0, 0.0)]):
             place = moved(place, course, speed, max(0, min(until, following[0]) - begin))
         return place
 
     def planned(self, place: Place) -> list[Place]:
-        """Returns own ship's places from now on: each tick she turns and changes speed toward what the leg asks, and
-        moves on so."""
+        """Returns own ship's places from now on. At each tick she turns and changes speed toward the leg's order, and
+        then moves."""
         track, own = self.last_report_of(self.own), self.values["own"]
         course, speed, path = float(track.courses[-1]), float(track.speeds[-1]), [place]
         for tick in range(self.steps, self.steps + self.last_tick):
@@ -106,8 +106,8 @@ class Planned(Case):
         return path
 
     def nearest_to(self, mmsi: int) -> tuple[float, float, Place, Place]:
-        """Returns the least distance to a target from now on, its moment in ticks, and both places; straight between
-        ticks."""
+        """Returns the least distance to a target from now on, its time in ticks, and both places. Both move straight
+        between ticks."""
         best: tuple[float, float, Place, Place] | None = None
         mine, hers = (zip(self.paths[m], self.paths[m][1:]) for m in (self.own, mmsi))
         for k, ((a, b), (c, d)) in enumerate(zip(mine, hers)):
@@ -119,7 +119,7 @@ class Planned(Case):
         return best
 
     def extent(self) -> list[Place]:
-        """What the picture is to hold: the tracks, the paths and the domains round them."""
+        """Returns the places that must fit in the picture: tracks, paths, and the domains around them."""
         every = super().extent() + [place for path in self.paths.values() for place in path]
         for mmsi, radius in self.radii.items():
             for x, y in self.paths[mmsi]:
@@ -128,12 +128,12 @@ class Planned(Case):
 
 
 def minutes_apart(case: Planned) -> int:
-    """Returns how many minutes lie between the moments that are drawn, so that there are about four to eight."""
+    """Returns the minutes between two drawn moments, chosen to draw four to eight moments."""
     return next((k for k in (1, 2, 3, 5, 10, 15, 30) if case.last_tick * case.tick <= k * 60 * 8), 60)
 
 
 def draw_past(chart: Chart[Planned]) -> None:
-    """The tracks, and the way from the last report to now where a vessel is own ship or a target."""
+    """Draws the tracks, and the line from the last report to now for own ship and each target."""
     for mmsi, places in chart.case.places.items():
         parts = list(seen_parts(places))
         if parts and mmsi in chart.case.paths:
@@ -148,7 +148,7 @@ def draw_past(chart: Chart[Planned]) -> None:
 
 
 def draw_domains(chart: Chart[Planned], ticks: Iterable[int]) -> None:
-    """A circle round each target at each of these moments, and her predicted way through them."""
+    """Draws a circle around each target at each of these moments, and her predicted path through them."""
     case = chart.case
     for k, mmsi in enumerate(case.targets):
         fill, path = OTHERS[k % len(OTHERS)], case.paths[mmsi]
@@ -164,8 +164,8 @@ def draw_domains(chart: Chart[Planned], ticks: Iterable[int]) -> None:
 
 
 def draw_own(chart: Chart[Planned]) -> list[tuple[Point, Coloured]]:
-    """Draws own ship's legs, each in its colour, or her present way if there is no plan; returns the words of each leg
-    with their places."""
+    """Draws own ship's legs, each in its colour, or her path on her present course if there is no plan. Returns the
+    text of each leg with its place."""
     case = chart.case
     words: list[tuple[Point, Coloured]] = []
     path = [chart.at(place) for place in case.paths[case.own]]
@@ -183,7 +183,7 @@ def draw_own(chart: Chart[Planned]) -> list[tuple[Point, Coloured]]:
 
 
 def draw_moments(chart: Chart[Planned], ticks: Iterable[int]) -> list[tuple[Point, int, str]]:
-    """Draws a mark on each way at these ticks; returns its place, its minutes and its colour."""
+    """Draws a mark on each path at these ticks; returns its place, its minutes and its colour."""
     case, marks = chart.case, []
     for mmsi, path in case.paths.items():
         if len({(round(x), round(y)) for x, y in path}) > 1:
@@ -196,7 +196,7 @@ def draw_moments(chart: Chart[Planned], ticks: Iterable[int]) -> list[tuple[Poin
 
 
 def draw_nearest(chart: Chart[Planned]) -> list[tuple[Point, str]]:
-    """Draws where own ship is nearest to each target; returns the words of it."""
+    """Draws the closest approach to each target; returns its place and text."""
     case, words = chart.case, []
     for mmsi in case.targets:
         far, moment, one, two = case.nearest_to(mmsi)
@@ -212,7 +212,7 @@ def draw_nearest(chart: Chart[Planned]) -> list[tuple[Point, str]]:
 
 
 def draw_names(chart: Chart[Planned]) -> None:
-    """Puts the name of each vessel at her beginning."""
+    """Writes each vessel's name at the start of her track."""
     case = chart.case
     for mmsi, places in case.places.items():
         known = [place for place in places if place] + case.paths.get(mmsi, [])[:1]
@@ -222,14 +222,14 @@ def draw_names(chart: Chart[Planned]) -> None:
 
 
 def radii_words(case: Planned) -> str:
-    """Returns the radii of the targets' domains in words."""
+    """Returns the radii of the targets' domains as text."""
     if len(case.targets) <= 4:
         return " and ".join(f"{int(case.radii[mmsi])} m ({case.names[mmsi]})" for mmsi in case.targets)
     return f"{int(min(case.radii.values()))} m to {int(max(case.radii.values()))} m"
 
 
 def draw_legend(chart: Chart[Planned], minutes: int) -> None:
-    """Draws what the lines and circles mean."""
+    """Draws the legend of lines and circles."""
     case, y = chart.case, chart.bottom + 54
     each = "each minute" if minutes == 1 else f"each {minutes} minutes"
     lines = [f"Marks {each}, with minutes since {clock(case.now)} UTC, which is now. Thin lines: the tracks up to now.",

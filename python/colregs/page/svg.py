@@ -1,12 +1,12 @@
-"""Lines, shapes and words of an SVG picture, and labels that keep clear of each other."""
+"""Lines, shapes and texts of an SVG picture, and labels that do not overlap."""
 import math
 from collections.abc import Iterable, Sequence
 from xml.sax.saxutils import escape
 
-CELL, CROWDED = 20, 60      # the side of a cell of the grid of labels, and how many points of one count
+CELL, CROWDED = 20, 60      # the side of a cell in the grid of labels, and the most points of a cell that count
 Point = tuple[float, float]
 Box = tuple[float, float, float, float]      # left, top, right, bottom
-Coloured = list[tuple[str, str]]             # words, each with its colour
+Coloured = list[tuple[str, str]]             # texts, each with its colour
 FONT = "Helvetica, Arial, 'Liberation Sans', 'DejaVu Sans', sans-serif"
 
 
@@ -16,18 +16,18 @@ def number(value: float) -> str:
 
 
 def width_of(words: str, size: float, weight: str = "normal") -> float:
-    """About how wide words are; seldom less, in the usual fonts."""
+    """Returns an estimate of the width of a text; the usual fonts are seldom wider."""
     return (0.74 if weight == "bold" else 0.62) * size * len(words)
 
 
 def cells(box: Box) -> list[tuple[int, int]]:
-    """The cells of the grid that a box lies in."""
+    """Returns the cells of the grid that a box overlaps."""
     x, y, u, v = (int(value // CELL) for value in box)
     return [(a, b) for a in range(x, u + 1) for b in range(y, v + 1)]
 
 
 def apart(points: Sequence[Point], least: float) -> list[Point]:
-    """The line without points that lie nearer than this to the one before, but for its last."""
+    """Returns the line without points that are nearer than `least` to the previous one; the last point stays."""
     kept = [points[0]]
     x, y = points[0]
     for a, b in points:
@@ -38,9 +38,9 @@ def apart(points: Sequence[Point], least: float) -> list[Point]:
 
 
 def thinned(points: Sequence[Point], most: float = 0.35) -> list[Point]:
-    """The line without points that lie on it as far as can be seen: Douglas and Peucker's, `most` from it.
+    """Returns the line without points that are visibly on it: by Douglas and Peucker, within `most` of it.
 
-    Of a long line, those go first that lie within a part of this of the one before.
+    From a long line, it first removes the points within a quarter of `most` of the previous one.
     """
     if len(points) > 500:
         points = apart(points, most / 4)
@@ -62,7 +62,7 @@ def thinned(points: Sequence[Point], most: float = 0.35) -> list[Point]:
 
 
 class Picture:
-    """A picture of a width and a height in pixels, which grows by parts."""
+    """A picture of a width and a height in pixels, built from parts."""
 
     def __init__(self, width: float, height: float, title: str) -> None:
         self.width, self.height = width, height
@@ -94,7 +94,7 @@ class Picture:
 
     def words(self, x: float, y: float, words: str | Coloured, size: float = 11, fill: str = "#222222",
               anchor: str = "start", weight: str = "normal", halo: bool = False) -> None:
-        """Adds words of one colour, or a list of words, each with its colour."""
+        """Adds a text of one colour, or several texts, each with its colour."""
         around = ' stroke="#ffffff" stroke-width="3" paint-order="stroke" stroke-linejoin="round"' if halo else ""
         inner = escape(words) if isinstance(words, str) else " ".join(
             f'<tspan fill="{own}">{escape(word)}</tspan>' for word, own in words)
@@ -111,9 +111,9 @@ class Picture:
 
 
 class Labels:
-    """Puts words near a place where they cover as little as can be: other words, and the points that are known.
+    """Places labels near a point so that they cover as few other labels and known points as possible.
 
-    Boxes and points are kept by the cells of a grid, so that a picture with many of both is drawn in time.
+    A grid indexes boxes and points by cell, because a picture can have many of both.
     """
 
     def __init__(self, picture: Picture, frame: Box) -> None:
@@ -122,7 +122,7 @@ class Labels:
         self.points: dict[tuple[int, int], list[Point]] = {}
 
     def keep_clear(self, points: Sequence[Point]) -> None:
-        """Keeps words off a line."""
+        """Keeps labels off a line."""
         for (x, y), (u, v) in zip(points, points[1:]):
             parts = max(1, int(math.hypot(u - x, v - y) / 5))
             for k in range(parts + 1):
@@ -132,12 +132,12 @@ class Labels:
                     cell.append((a, b))
 
     def keep_box(self, box: Box) -> None:
-        """Keeps words off a box."""
+        """Keeps labels off a box."""
         for cell in cells(box):
             self.boxes.setdefault(cell, set()).add(box)
 
     def cost(self, box: Box) -> float:
-        """Returns how much a box would cover."""
+        """Returns the cost of what a box would cover."""
         x, y, u, v = box
         left, top, right, bottom = self.frame
         out = max(0, left - x) + max(0, top - y) + max(0, u - right) + max(0, v - bottom)
@@ -148,14 +148,14 @@ class Labels:
                                                  for cell in near for a, b in self.points.get(cell, ()))
 
     def keep_off(self, at: Point, radius: float) -> None:
-        """Keeps words off a dot."""
+        """Keeps labels off a dot."""
         self.keep_box((at[0] - radius, at[1] - radius, at[0] + radius, at[1] + radius))
 
     def best(self, at: Point, width: float, height: float, reach: Iterable[int]) -> tuple[float, Box, int]:
-        """The cheapest box round a place, with its cost and how far off it is."""
+        """Returns the cheapest box around a place, its cost, and its distance from the place."""
         best: tuple[float, Box, int] | None = None
         for far in reach:
-            if best and best[0] <= far:     # no box that is farther off costs less
+            if best and best[0] <= far:     # a box farther off costs at least its distance
                 return best
             for turn in range(0, 360, 15):
                 across, up = math.sin(math.radians(turn)), math.cos(math.radians(turn))
@@ -164,13 +164,13 @@ class Labels:
                 cost = self.cost(box) + far
                 if best is None or cost < best[0]:
                     best = cost, box, far
-        assert best is not None         # there is a reach
+        assert best is not None         # `reach` is not empty
         return best
 
     def put(self, at: Point, words: str | Coloured, size: int = 11, weight: str = "normal", needed: bool = True,
             apart: int = 6, fill: str = "#222222") -> None:
-        """Near a place, joined to it by a thin line where it is far; where it is not needed, only where it is near and
-        covers nothing."""
+        """Writes a label near a place, and joins the two by a thin line if they are far apart. A label that is not
+        needed appears only if it is near and covers nothing."""
         plain = words if isinstance(words, str) else " ".join(word for word, _ in words)
         width, height = width_of(plain, size, weight), size * 1.1
         cost, box, far = self.best(at, width, height, range(apart, apart + 90, 4) if needed else [apart])

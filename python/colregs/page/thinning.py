@@ -1,8 +1,8 @@
-"""Leaves out the reports of a track that a straight way between the others shows as well, so that the page and the map
-of a long day stay small.
+"""Leaves out reports of a track that straight lines between the others replace, to keep the page and the map of a long
+day small.
 
-A report is left out if, between the two that stay beside it, the straight way in time passes within a tolerance of its
-place, speed and course. In the meetings of a vessel the tolerance is small, elsewhere it is what a screen shows of a
+It drops a report if linear interpolation in time between its two remaining neighbours stays within a tolerance of its
+place, speed and course. The tolerance is small in the meetings of a vessel; elsewhere it is what a screen can show of a
 whole day. The program's reports and the database have all points.
 """
 import math
@@ -12,14 +12,14 @@ from dataclasses import dataclass
 from colregs.model.reports import Case
 from colregs.model.tracks import NONE, Track
 
-SMALL = 20000           # reports of a case, up to which nothing is left out
-AROUND = 600            # s before and after a meeting in which the small tolerance holds
-Kept = Mapping[int, Sequence[Sequence[int]]]        # the numbers of the reports that stay, of each vessel, part by part
+SMALL = 20000           # a case with at most this many reports stays whole
+AROUND = 600            # the small tolerance applies from this many seconds before a meeting to as many after it
+Kept = Mapping[int, Sequence[Sequence[int]]]        # by vessel: the indices of the remaining reports, part by part
 
 
 @dataclass(frozen=True)
 class Tolerance:
-    """How far a report that is left out may lie from the straight way: in metres, 1/10 knot and 1/10 degree."""
+    """How far a dropped report may lie from the straight line: in metres, 1/10 knot and 1/10 degree."""
 
     metres: float
     speed: float
@@ -30,7 +30,7 @@ FINE, COARSE = Tolerance(2, 2, 15), Tolerance(15, 10, 80)
 
 
 def parts_of(track: Track, gap: int) -> Iterator[range]:
-    """Yields the numbers of the reports of each part of a track; a part ends where the next report is more than a gap
+    """Yields the indices of the reports of each part of a track. A part ends if the next report is more than a gap
     later."""
     begin = 0
     for k in range(1, len(track.times) + 1):
@@ -40,14 +40,14 @@ def parts_of(track: Track, gap: int) -> Iterator[range]:
 
 
 class Cone:
-    """The slopes of straight ways from a first report that pass within a tolerance of all values since."""
+    """The slopes of straight lines from a first report that pass within a tolerance of all values since."""
 
     def __init__(self, tolerance: float) -> None:
         self.tolerance, self.low, self.high = tolerance, -math.inf, math.inf
 
     def takes(self, seconds: int, change: float) -> bool:
-        """Takes a value by its change since the first report; returns whether the straight way to it passes all before
-        it."""
+        """Adds a value by its change since the first report; returns whether the straight line to it passes all values
+        before it."""
         fits = self.low * seconds <= change <= self.high * seconds
         self.low = max(self.low, (change - self.tolerance) / seconds)
         self.high = min(self.high, (change + self.tolerance) / seconds)
@@ -55,12 +55,12 @@ class Cone:
 
 
 def turn(first: int, second: int) -> int:
-    """Returns how much a course differs from another one, in 1/10 degree, the shorter way round."""
+    """Returns the difference of two courses in 1/10 degree, the shorter way round."""
     return (second - first + 1800) % 3600 - 1800
 
 
 def kept_in(track: Track, part: range, fine: list[tuple[int, int]]) -> Iterator[int]:
-    """Yields the numbers of the reports of a part of a track that stay; `fine` are the times with the small tolerance,
+    """Yields the indices of the remaining reports of a part of a track; `fine` are the times with the small tolerance,
     in order."""
     anchor, k, at = part[0], part[0] + 1, 0
     yield anchor
@@ -75,7 +75,7 @@ def kept_in(track: Track, part: range, fine: list[tuple[int, int]]) -> Iterator[
 
 
 def last_on_way(track: Track, anchor: int, stop: int, tolerance: Tolerance, until: float) -> int:
-    """Returns the number of the last report whose straight way from the anchor passes those between, before a time."""
+    """Returns the index of the last report before a time whose straight line from the anchor passes all between."""
     times, xs, ys, speeds, courses = track.times, track.xs, track.ys, track.speeds, track.courses
     cones = [Cone(value) for value in (tolerance.metres, tolerance.metres, tolerance.speed, tolerance.course)]
     for k in range(anchor + 1, stop):
@@ -92,8 +92,8 @@ def last_on_way(track: Track, anchor: int, stop: int, tolerance: Tolerance, unti
 
 
 def meeting_times(case: Case) -> dict[int, list[tuple[int, int]]]:
-    """Returns the times about each vessel's meetings and verdicts, in seconds after the window's start, in order and
-    apart."""
+    """Returns the times around each vessel's meetings and verdicts, in seconds after the window's start, as ordered
+    spans that do not overlap."""
     found: dict[int, list[tuple[int, int]]] = {}
     for row in sorted(case.stretches(), key=lambda row: row.first):
         begin, end = row.first * case.tick - AROUND, (row.last + 1) * case.tick + AROUND
@@ -107,7 +107,7 @@ def meeting_times(case: Case) -> dict[int, list[tuple[int, int]]]:
 
 
 def whole(case: Case) -> Kept:
-    """Returns the numbers of all reports, part by part."""
+    """Returns the indices of all reports, part by part."""
     return {mmsi: list(parts_of(track, case.gap)) for mmsi, track in case.tracks.items()}
 
 
@@ -117,10 +117,10 @@ def is_whole(case: Case, kept_: Kept) -> bool:
 
 
 def kept(case: Case, is_full: bool = False, has_meetings: bool = True) -> Kept:
-    """Returns for each vessel the numbers of the reports that stay, part by part; all of a small case, or if all are
-    asked for.
+    """Returns for each vessel the indices of the remaining reports, part by part: all of them in a small case, or with
+    `is_full`.
 
-    With `has_meetings` the tolerance is small about a vessel's meetings; a map that has their ways as well does not
+    With `has_meetings` the tolerance is small around a vessel's meetings. A map with lines for the meetings does not
     need that.
     """
     if is_full or sum(len(track.times) for track in case.tracks.values()) <= SMALL:

@@ -7,14 +7,14 @@ from colregs.model.rules import INK, clock, colour, date, meaning, nice
 from colregs.page.svg import Picture, width_of
 
 Block = tuple[tuple[int, int], list[Meeting], list[tuple[str, list[Verdict]]]]
-Bar = tuple[Stretch, str, str, bool]      # a row, its colour, its words, and whether it is hollow
+Bar = tuple[Stretch, str, str, bool]      # a row, its colour, its label, and whether it is hollow
 LEFT, WIDE, HEAD, ROW = 240, 640, 92, 18
-MANY = 120      # ordered pairs, beyond which only some are drawn
+MANY = 120      # if a case has more ordered pairs, the chart shows only some
 
 
 def blocks(case: Case) -> Iterator[Block]:
-    """For each ordered pair its meetings and, rule by rule, its verdicts; both orders of two vessels one after the
-    other."""
+    """Yields each ordered pair with its meetings and, rule by rule, its verdicts. The two orders of two vessels follow
+    each other."""
     begins: dict[frozenset[int], int] = {}
     meetings: dict[tuple[int, int], list[Meeting]] = {}
     verdicts: dict[tuple[int, int], list[Verdict]] = {}
@@ -32,7 +32,7 @@ def blocks(case: Case) -> Iterator[Block]:
 
 
 def fewer(case: Case, found: list[Block]) -> tuple[list[Block], str | None]:
-    """Returns the pairs that are drawn, those of the nearest meetings if there are many; and words of what is left
+    """Returns the pairs to draw: those with the nearest meetings if there are many. Also returns a note on what is left
     out."""
     if len(found) <= MANY:
         return found, None
@@ -43,18 +43,18 @@ def fewer(case: Case, found: list[Block]) -> tuple[list[Block], str | None]:
         entry[0] for entry in found[:MANY]
     }
     few = [entry for entry in found if entry[0] in kept]
-    return few, (f"Of {len(found)} ordered pairs the {len(few)} that came nearest are drawn; --pair, --from and --to "
-                 "draw others.")
+    return few, (f"Shows the {len(few)} of {len(found)} ordered pairs that came nearest; --pair, --from and --to "
+                 "select others.")
 
 
 def across(case: Case, step: int) -> float:
-    """Where a step begins, from left to right; at an edge where that is outside what is drawn."""
+    """Returns the x of a step's start, or of an edge of the chart if the step is outside."""
     first, last = case.shown
     return LEFT + WIDE * (min(max(step, first), last) - first) / (last - first)
 
 
 def time_axis(picture: Picture, case: Case, bottom: float) -> None:
-    """Steps at the foot, times at the head. A step's number stands where the step begins."""
+    """Draws the steps at the bottom and the times at the top. A step's number is at the step's start."""
     first, last = case.shown
     every = max(1, int(nice((last - first) / 10)))
     for step in range(-(-first // every) * every, last + 1, every):
@@ -68,8 +68,8 @@ def time_axis(picture: Picture, case: Case, bottom: float) -> None:
 
 
 def bars(picture: Picture, case: Case, y: float, rows: Sequence[Bar]) -> None:
-    """Bars over their steps, each of a row, its colour, its words and whether it is hollow. Words stand in a bar or
-    beside it, where the bars beside leave room."""
+    """Draws a bar over the steps of each row. Its label is in the bar, or beside it if the neighbouring bars leave
+    room."""
     ends = [across(case, row.first) for row, *_ in rows]
     wide = [max(2.5, across(case, row.last + 1) - x) for (row, *_), x in zip(rows, ends)]
     for (row, fill, _, hollow), x, width in zip(rows, ends, wide):
@@ -93,7 +93,7 @@ def bars(picture: Picture, case: Case, y: float, rows: Sequence[Bar]) -> None:
 
 
 def steps_words(row: Stretch) -> str:
-    """Returns the steps of a row, as 4 or 4-9."""
+    """Returns the steps of a row, such as 4 or 4-9."""
     return f"{row.first}" if row.first == row.last else f"{row.first}\u2013{row.last}"
 
 
@@ -101,7 +101,7 @@ def draw_block(picture: Picture, case: Case, y: float, pair: tuple[int, int], me
                verdicts: list[tuple[str, list[Verdict]]]) -> None:
     """Draws the rows of one ordered pair."""
     names = " to ".join(case.name(mmsi) for mmsi in pair)
-    size = min(12, round(12 * (LEFT - 20) / (1.1 * width_of(names, 12)), 1))       # long names stay left of the bars
+    size = min(12, round(12 * (LEFT - 20) / (1.1 * width_of(names, 12)), 1))       # keeps long names left of the bars
     picture.words(12, y + ROW - 5, names, size, weight="bold")
     bars(picture, case, y,
          [(meeting, "#5b6770", f"{steps_words(meeting)}, {meeting.encounter}, {meeting.metres:.0f} m", False)
@@ -114,7 +114,7 @@ def draw_block(picture: Picture, case: Case, y: float, pair: tuple[int, int], me
 
 
 def times(case: Case, title: str) -> str:
-    """Returns the chart by time."""
+    """Returns the chart of times."""
     found, left_out = fewer(case, list(blocks(case)))
     bottom = HEAD + 6 + sum(ROW * (1 + len(verdicts)) + 6 for _, _, verdicts in found)
     rules = [rule for rule in case.rules if any(v.rule == rule for v in case.verdicts)]

@@ -13,11 +13,11 @@ from colregs.page.svg import Coloured, Labels, Picture, Point, thinned
 
 TRACK, QUIET = "#3c4650", "#a9b2ba"
 Window = TypeVar("Window", bound=Case)
-MANY = 60       # vessels, or meetings, beyond which only some have words, and the picture says so
+MANY = 60       # if there are more vessels or meetings, only some get labels, and the picture says so
 
 
 def seen_parts(places: Places) -> Iterator[list[Place]]:
-    """The runs of ticks at which a vessel is seen."""
+    """Yields the runs of ticks at which a vessel is seen."""
     for seen, group in itertools.groupby(zip(places.xs, places.ys), key=lambda place: not math.isnan(place[0])):
         if seen:
             yield list(group)
@@ -39,8 +39,8 @@ class Chart(Generic[Window]):
         self.west, self.south = (min(xs) + max(xs) - wide) / 2, (min(ys) + max(ys) - 0.6 * pad - high) / 2
         self.left, self.top, self.right, self.bottom = 60, 58, 60 + wide * self.scale, 58 + high * self.scale
         self.rules = [rule for rule in case.rules if any(v.rule == rule for v in case.verdicts)]
-        self.left_out = ""                      # words of what is left out
-        self.marked: set[int] = set()           # the vessels whose nearest moment is marked
+        self.left_out = ""                      # a note on what is left out
+        self.marked: set[int] = set()           # the vessels with a marked closest approach
         self.case, self.title, self.crowded = case, title, len(case.places) > MANY
         is_partly_named = len(case.places) > MANY or len(case.meetings) > 2 * MANY
         self.rows = legend + math.ceil(len(self.rules) / self.columns()) + is_partly_named
@@ -48,26 +48,26 @@ class Chart(Generic[Window]):
         self.labels = Labels(self.picture, (self.left + 2, self.top + 2, self.right - 2, self.bottom - 2))
 
     def columns(self) -> int:
-        """Returns how many columns the legend has."""
+        """Returns the number of columns of the legend."""
         return max(1, int((self.right - self.left) / 300))
 
     def at(self, place: Place) -> Point:
-        """Returns where a place of the plane is on the picture."""
+        """Returns the point of a place on the picture."""
         return self.left + (place[0] - self.west) * self.scale, self.bottom - (place[1] - self.south) * self.scale
 
     def line(self, places: Iterable[Place]) -> list[Point]:
-        """Returns where many places are on the picture."""
+        """Returns the points of many places on the picture."""
         left, bottom, scale, west, south = self.left, self.bottom, self.scale, self.west, self.south
         return [(left + (x - west) * scale, bottom - (y - south) * scale) for x, y in places]
 
     def stretch(self, verdict: Stretch) -> list[Point]:
-        """Returns the subject's way in a stretch on the picture."""
+        """Returns the subject's line in a stretch on the picture."""
         places = self.case.places[verdict.subject][verdict.first:verdict.last + 2]
         return [self.at(place) for place in places if place]
 
 
 def window_words(case: Case) -> str:
-    """Returns the steps that are drawn in words."""
+    """Returns the drawn time as text."""
     first, last = (case.moment(step) for step in case.shown)
     until = clock(last) if date(first) == date(last) else f"{date(last)}, {clock(last)}"
     return f"{date(first)}, {clock(first)} to {until} UTC."
@@ -108,7 +108,7 @@ def place_words(reference: dict[str, int]) -> str:
 
 
 def draw_scale(chart: Chart[Any]) -> None:
-    """A scale bar and an arrow to the north, at the foot of the plane."""
+    """Draws a scale bar and a north arrow at the bottom of the plane."""
     length = nice(90 / chart.scale)
     x, y = chart.left + 14.0, chart.bottom - 14
     end = x + length * chart.scale
@@ -152,7 +152,7 @@ def draw_head(chart: Chart[Any], line: list[Point], fill: str) -> None:
 
 
 def minutes_apart(chart: Chart[Case]) -> int:
-    """Returns how many minutes lie between marks so that those of a usual vessel lie apart."""
+    """Returns the minutes between two marks, chosen so that the marks of a usual vessel do not overlap."""
     if chart.crowded:
         return 60
     ways = sorted(sum(math.dist(a, b) for a, b in zip(part, part[1:])) * chart.scale / (len(part) - 1)
@@ -162,7 +162,7 @@ def minutes_apart(chart: Chart[Case]) -> int:
 
 
 def draw_marks(chart: Chart[Case], minutes: int) -> list[tuple[Point, int]]:
-    """Draws a mark on each track every so many minutes; none if there are many vessels."""
+    """Draws a mark on each track every `minutes` minutes; none if there are many vessels."""
     every, marks = minutes * 60 // chart.case.tick, []
     for places in chart.case.places.values() if not chart.crowded else ():
         seen = [(k, place) for k in range(every, len(places) - 1, every) if (place := places[k])]
@@ -174,7 +174,7 @@ def draw_marks(chart: Chart[Case], minutes: int) -> list[tuple[Point, int]]:
 
 
 def lanes(verdicts: list[Verdict]) -> Iterator[tuple[Verdict, int]]:
-    """A lane for each stretch beside the track, so that stretches at one time lie beside each other."""
+    """Yields each stretch with a lane beside the track; stretches at the same time get different lanes."""
     taken: list[int] = []
     for verdict in sorted(verdicts, key=lambda v: (v.first, -v.last)):
         lane = next(k for k in range(len(taken) + 1) if k == len(taken) or taken[k] < verdict.first)
@@ -206,8 +206,8 @@ def side(case: Case, verdict: Verdict) -> int:
 
 
 def draw_stretch(chart: Chart[Case], verdict: Verdict, lane: int) -> Point:
-    """Draws a line beside the track, away from the other vessel, or a dot if it is short; hollow if the rule stayed
-    open. Returns its middle."""
+    """Draws a line beside the track, away from the other vessel, or a dot if the stretch is short; hollow if the rule
+    stayed open. Returns the middle of the line."""
     line = shifted(chart.stretch(verdict), side(chart.case, verdict) * (5 * (lane + 1) - 1))
     fill, broken = colour(verdict.rule), verdict.value == "broken"
     chart.labels.keep_clear(line)
@@ -220,7 +220,7 @@ def draw_stretch(chart: Chart[Case], verdict: Verdict, lane: int) -> Point:
 
 
 def draw_stretches(chart: Chart[Case]) -> list[tuple[Point, Coloured]]:
-    """Draws the stretches of each vessel; returns one place and its rules for those that overlap in time."""
+    """Draws the stretches of each vessel. Returns one place with its rules for each group that overlaps in time."""
     placed = []
     for mmsi in chart.case.places:
         until = -1
@@ -235,8 +235,8 @@ def draw_stretches(chart: Chart[Case]) -> list[tuple[Point, Coloured]]:
 
 
 def draw_dots(chart: Chart[Case]) -> list[tuple[Point, Coloured]]:
-    """A dot where each stretch begins, of the rule's colour; hollow where it stayed open. No words, for there are
-    many."""
+    """Draws a dot at the start of each stretch, in the rule's colour; hollow if the rule stayed open. It draws no
+    labels, because there are many dots."""
     spots = {}
     for verdict in chart.case.verdicts:
         line = chart.stretch(verdict)
@@ -254,13 +254,13 @@ def unordered(meetings: list[Meeting]) -> list[Meeting]:
 
 
 def draw_meetings(chart: Chart[Case]) -> list[tuple[Point, str]]:
-    """Draws where two vessels were nearest, of the nearest meetings if there are many; returns the words of each."""
+    """Draws the closest approach of each meeting, or of the nearest meetings if there are many; returns the labels."""
     labels, case = [], chart.case
     meetings = unordered(case.meetings)
     if len(meetings) > MANY:
         near = {meeting.pair: meeting for meeting in sorted(meetings, key=lambda m: -m.least)}
         few = sorted(near.values(), key=lambda m: m.least)[:MANY // 2]
-        chart.left_out = f"Of {len(meetings)} meetings those of the {len(few)} pairs that came nearest are marked. "
+        chart.left_out = f"Marks the {len(few)} of {len(meetings)} meetings that came nearest. "
         meetings = few
     for meeting, found in [(meeting, case.shown_moment(meeting)) for meeting in meetings]:
         if found is None:
@@ -279,18 +279,19 @@ def draw_meetings(chart: Chart[Case]) -> list[tuple[Point, str]]:
 
 
 def draw_names(chart: Chart[Case]) -> None:
-    """Puts the name of each vessel at her beginning; if there are many, only those whose nearest moment is marked."""
+    """Writes each vessel's name at the start of her track. If there are many, only vessels with a marked closest
+    approach get a name."""
     for mmsi, places in chart.case.places.items():
         first = next((place for place in places if place), None)
         if first and (not chart.crowded or mmsi in chart.marked):
             chart.labels.put(chart.at(first), chart.case.name(mmsi), 11, weight="bold", fill=INK)
     if chart.crowded:
-        chart.left_out += (f"Of {len(chart.case.places)} vessels these have names; --pair, --from and --to draw two of "
-                           "them, or a part of the time.")
+        chart.left_out += (f"Only these of {len(chart.case.places)} vessels have names; --pair, --from and --to select "
+                           "two vessels, or a part of the time.")
 
 
 def draw_legend(chart: Chart[Case], minutes: int) -> None:
-    """Draws what the marks and colours mean."""
+    """Draws the legend of marks and colours."""
     picture, y = chart.picture, chart.bottom + 54
     each = "each minute" if minutes == 1 else f"each {minutes} minutes"
     marks = "" if chart.crowded else f"Marks {each}, with minutes since {clock(chart.case.start)} UTC. "

@@ -1,1 +1,1 @@
-"""Plans again and again for own ship, from a stream of sentences or in simulated time."""
+"""Plans repeatedly for own ship, from a stream of sentences or in simulated time."""

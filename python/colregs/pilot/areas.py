@@ -1,5 +1,4 @@
-"""Areas that own ship may not enter, such as land, shoals and limits: read from GeoJSON, and compared with the path of
-a plan."""
+"""No-go areas, such as land, shoals and limits: reads them from GeoJSON and compares them with the path of a plan."""
 from __future__ import annotations
 
 import json
@@ -28,7 +27,7 @@ class Area:
             yield from zip(ring, ring[1:])
 
     def holds(self, place: Place) -> bool:
-        """Returns whether a place lies within: a line to the east crosses the edges an odd number of times."""
+        """Returns whether a place is inside: a line to the east crosses the edges an odd number of times."""
         x, y = place
         crossings = 0
         for (a, b), (c, d) in self.edges():
@@ -37,14 +36,14 @@ class Area:
         return crossings % 2 == 1
 
     def is_entered(self, path: Sequence[Place]) -> bool:
-        """Returns whether a path comes into the area or touches its edge."""
+        """Returns whether a path enters the area or touches its edge."""
         if any(self.holds(place) for place in path):
             return True
         return any(cross(one, two, *edge) for one, two in zip(path, path[1:]) for edge in self.edges())
 
 
 def side(a: Place, b: Place, c: Place) -> float:
-    """Returns a number above zero if `c` lies to the left of the line from `a` to `b`, and below zero if to the
+    """Returns a positive number if `c` is to the left of the line from `a` to `b`, and a negative one if to the
     right."""
     return (b[0] - a[0]) * (c[1] - a[1]) - (b[1] - a[1]) * (c[0] - a[0])
 
@@ -58,10 +57,10 @@ def cross(a: Place, b: Place, c: Place, d: Place) -> bool:
 
 
 def polygons_of(value: object, name: str) -> Iterator[tuple[str, object]]:
-    """Yields the coordinates of each polygon of a GeoJSON value, with the name of its feature. A Fault says what is no
-    area."""
+    """Yields the coordinates of each polygon of a GeoJSON value, with the name of its feature. Raises Fault if a part
+    is not an area."""
     if not isinstance(value, Mapping):
-        raise Fault("a part of it is no object")
+        raise Fault("an item is not a JSON object")
     kind = value.get("type")
     if kind == "FeatureCollection":
         for number, feature in enumerate(listed(value.get("features")), 1):
@@ -76,35 +75,35 @@ def polygons_of(value: object, name: str) -> Iterator[tuple[str, object]]:
         for coordinates in listed(value.get("coordinates")):
             yield name, coordinates
     else:
-        raise Fault(f"`{kind}` is no area: polygons are read, alone, in features and in collections of features")
+        raise Fault(f"`{kind}` is not an area; write polygons, alone, in features or in feature collections")
 
 
 def listed(value: object) -> list[object]:
-    """Returns a list of GeoJSON; a Fault if it is none."""
+    """Returns a GeoJSON value that must be a list; raises Fault otherwise."""
     if not isinstance(value, list):
         raise Fault("a list is missing")
     return value
 
 
 def ring_in_degrees(value: object) -> tuple[Place, ...]:
-    """Returns a ring as longitudes and latitudes in degrees, closed if the file leaves it open. A Fault says what is
-    wrong."""
+    """Returns a ring as longitudes and latitudes in degrees, and closes it if it is open. Raises Fault if it is not a
+    ring."""
     places: list[Place] = []
     for pair in listed(value):
         numbers = listed(pair)[:2]
         if len(numbers) < 2 or any(type(number) not in (int, float) for number in numbers):
-            raise Fault("a place is not two numbers")
+            raise Fault("a position is not two numbers")
         longitude, latitude = (float(str(number)) for number in numbers)
         if not (abs(longitude) <= 180 and abs(latitude) <= 90):
-            raise Fault(f"{longitude}, {latitude} is no longitude and latitude in degrees")
+            raise Fault(f"{longitude}, {latitude} is not a longitude and a latitude in degrees")
         places.append((longitude, latitude))
     if len(places) < 3:
-        raise Fault("a ring has fewer than three places")
+        raise Fault("a ring has fewer than three positions")
     return tuple(places if places[0] == places[-1] else places + places[:1])
 
 
 def read_areas(path: str, scenario: PilotScenario) -> list[Area]:
-    """Reads the areas of a GeoJSON file, on the plane of a scenario. A Fault names the file and what is wrong."""
+    """Reads the areas of a GeoJSON file onto the plane of a scenario. A Fault names the file and the problem."""
     return [
         Area(
             area.name,
@@ -118,7 +117,7 @@ def read_areas(path: str, scenario: PilotScenario) -> list[Area]:
 
 
 def areas_in_degrees(path: str) -> list[Area]:
-    """Reads the areas of a GeoJSON file, as longitudes and latitudes. A Fault names the file and what is wrong."""
+    """Reads the areas of a GeoJSON file as longitudes and latitudes. A Fault names the file and the problem."""
     try:
         value = json.loads(read_text(path))
         return [
@@ -128,26 +127,27 @@ def areas_in_degrees(path: str) -> list[Area]:
     except (ValueError, RecursionError) as error:
         raise Fault(f"{path}: not JSON: {str(error)[:80]}") from None
     except Fault as fault:
-        raise Fault(f"{path}: not GeoJSON of areas: {fault}") from None
+        raise Fault(f"{path}: not a GeoJSON file of areas: {fault}") from None
 
 
 class Barrier:
-    """Finds the area that a plan enters. An area in which own ship already is bars no plan, for each would enter it."""
+    """Finds the area that a plan enters. It ignores an area that own ship is already in, because every plan would enter
+    it."""
 
     def __init__(self, scenario: PilotScenario, areas: list[Area]) -> None:
-        """Takes the areas."""
+        """`areas` are the no-go areas on the scenario's plane."""
         self.scenario, self.areas = scenario, areas
         self.rates = Rates(scenario.turn_rate / 10 / scenario.tick, scenario.speed_rate / 10 / scenario.tick)
 
     def holding(self, place: Place | None) -> list[str]:
-        """Returns the names of the areas in which a place lies."""
+        """Returns the names of the areas that contain a place."""
         return [area.name for area in self.areas if place is not None and area.holds(place)]
 
     def __call__(self, plan: Plan, question: Question) -> str:
-        """Returns the name of the first area that a plan enters, or nothing."""
+        """Returns the name of the first area that a plan enters, in backquotes, or an empty text."""
         if question.place is None or question.reported is None:
             return ""
         path = planned_path(question.place, question.reported, plan, self.rates, self.scenario.tick,
                             question.window.ends)
         open_areas = (area for area in self.areas if not area.holds(path[0]))
-        return next((f"`{area.name}` is entered" for area in open_areas if area.is_entered(path)), "")
+        return next((f"`{area.name}`" for area in open_areas if area.is_entered(path)), "")

@@ -1,4 +1,4 @@
-"""Own ship's choices, written against the course and speed of her latest report, from offsets against the track."""
+"""Converts choices relative to the wanted track into choices relative to own ship's latest report."""
 from __future__ import annotations
 
 from collections.abc import Iterable, Sequence
@@ -6,12 +6,12 @@ from dataclasses import dataclass
 
 from colregs.pilot.states import Track, swing
 
-MOST_SPEED = 1022      # 1/10 knot: the greatest speed of a report, and the greatest change of a scenario
+MOST_SPEED = 1022      # 1/10 knot: the greatest speed in a report, and the greatest change in a scenario
 
 
 @dataclass(frozen=True)
 class Offsets:
-    """Choices against the track: courses in 1/10 degree and speeds in 1/10 knot, the first tried first."""
+    """Choices relative to the track: courses in 1/10 degree and speeds in 1/10 knot, in the order of trying."""
 
     courses: tuple[int, ...]
     speeds: tuple[int, ...]
@@ -19,26 +19,25 @@ class Offsets:
 
 @dataclass(frozen=True)
 class Choices:
-    """Choices against own ship's reported course and speed, in the same units and order, as a scenario has them."""
+    """Choices relative to own ship's reported course and speed, in the same units and order, for a scenario."""
 
     courses: tuple[int, ...]
     speeds: tuple[int, ...]
 
 
-# 1/10 degree: what an escape may steer beside the scenario's choices
+# 1/10 degree: the courses of an escape in addition to the scenario's choices
 WIDE_COURSES = (1200, -1200, 1500, -1500, 1800)
 
 
 def distinct(values: Iterable[int]) -> tuple[int, ...]:
-    """Returns the values without repetitions, in the order of their first places."""
+    """Returns the values without duplicates, in the order of first occurrence."""
     return tuple(dict.fromkeys(values))
 
 
 def rewritten(offsets: Offsets, track: Track, reported: Track, without: Sequence[float] = ()) -> Choices:
-    """Returns the choices that lead to the track and its offsets from own ship's reported course and speed.
+    """Returns the choices that lead from own ship's reported course and speed to the track and its offsets.
 
-    `without` has the courses (degrees) that are not to be offered. A speed below zero becomes zero, and one above 102.2
-    knots becomes that.
+    `without` has the courses (degrees) to leave out. Speeds are limited to 0 to 102.2 knots.
     """
     refused = {round(course * 10) % 3600 for course in without}
     courses = [round(track.course * 10) + offset for offset in offsets.courses]
@@ -50,8 +49,8 @@ def rewritten(offsets: Offsets, track: Track, reported: Track, without: Sequence
 
 
 def widened(offsets: Offsets, track: Track, holding: Track | None) -> Offsets:
-    """Returns the choices of an escape: what own ship steers first, then those given, then larger turns and no speed at
-    all."""
+    """Returns the choices of an escape: first the present course and speed, then `offsets`, then larger turns and a
+    stop."""
     first = ((round(swing(track.course, holding.course) * 10),), (round(
         (holding.speed - track.speed) * 10),)) if holding else ((), ())
     return Offsets(distinct(first[0] + offsets.courses + WIDE_COURSES),

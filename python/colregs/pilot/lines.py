@@ -1,4 +1,4 @@
-"""What the pilot writes at each moment, as one line of JSON."""
+"""The pilot's output: one line of JSON per moment."""
 from __future__ import annotations
 
 import json
@@ -11,12 +11,12 @@ from colregs.pilot.scenario import Window
 from colregs.pilot.situation import Target
 from colregs.pilot.states import Decision, Reason, Track
 
-MOST_REASONS = 20      # reasons in a line; all are counted by target and rule
+MOST_REASONS = 20      # reasons that a line lists; its counts by target and rule include all
 
 
 @dataclass(frozen=True)
 class Moment:
-    """All that a line says. Ages and times of work are in seconds of the clock."""
+    """The content of a line. Ages and working times are in elapsed seconds."""
 
     time: int
     decision: Decision
@@ -32,12 +32,12 @@ class Moment:
 
 
 def approach_json(approach: Approach | None) -> object:
-    """Returns a nearest approach, in metres and seconds."""
+    """Returns a closest approach in metres and seconds."""
     return {"distance": round(approach.distance), "seconds": round(approach.seconds)} if approach else None
 
 
 def target_json(target: Target, names: dict[int, tuple[str, int]]) -> object:
-    """Returns a target: where she is, how near she comes, and which rules bind own ship towards her."""
+    """Returns a target: her place, the closest approach, and the rules that bind own ship towards her."""
     name, length = names.get(target.mmsi, ("", 0))
     meeting = target.meeting
     return {
@@ -48,7 +48,7 @@ def target_json(target: Target, names: dict[int, tuple[str, int]]) -> object:
 
 
 def reasons_json(reasons: tuple[Reason, ...]) -> object:
-    """Returns the reasons why all plans fail: how many by target and rule, and the first ones in full."""
+    """Returns the reasons why all plans fail: counts by target and rule, and the first reasons in full."""
     counts = Counter((reason.target, reason.rule) for reason in reasons)
     return {
         "by_target": [{"mmsi": target, "rule": rule, "reasons": count}
@@ -60,7 +60,7 @@ def reasons_json(reasons: tuple[Reason, ...]) -> object:
 
 
 def line_of(moment: Moment) -> str:
-    """Returns the line, without a line feed."""
+    """Returns the line without a line feed."""
     decision = moment.decision
     words = "; ".join(word for word in (decision.words, *moment.notes) if word)
     return json.dumps({

@@ -1,5 +1,5 @@
-"""The pilot over a stream: takes lines as they arrive, and writes what own ship should steer each so many seconds,
-whatever goes wrong."""
+"""The pilot over a stream: takes lines as they arrive, and writes an order for own ship at a fixed interval, even if
+something fails."""
 from __future__ import annotations
 
 import queue
@@ -23,30 +23,30 @@ from colregs.pilot.states import Decision, Plan
 from colregs.stream.day_files import Clock
 from colregs.stream.sources import Source
 
-BLOCKS = 64                # blocks of lines that wait at most
-SHARE = 0.9                # the part of the time between two lines that an answer may take
-LATE = 0.5                 # and the part after which it is late
+BLOCKS = 64                # the most blocks of lines in the queue
+SHARE = 0.9                # the share of the interval between two lines that an answer may take
+LATE = 0.5                 # the share after which an answer is late
 
 
 @dataclass(frozen=True)
 class Pace:
-    """How often a line is written, and after how long without input it is stale, in seconds."""
+    """The interval between two lines, and the age at which input is stale, in seconds."""
 
     every: int
     stale: int
-    by_log: bool           # whether times are the log's own, as for a log that is replayed
+    by_log: bool           # whether the clock is the log's own, for a log that is replayed
 
 
 class StreamClock:
-    """The time of a stream that arrives: that of its latest line, and the seconds since that arrived."""
+    """The time of an arriving stream: the time of its latest line, plus the seconds since that line arrived."""
 
     def __init__(self, is_live: bool) -> None:
-        """Takes whether the seconds since the latest line count."""
+        """`is_live` adds the seconds since the latest line arrived."""
         self.clock, self.is_live = Clock(), is_live
         self.arrived = self.heard = time.monotonic()
 
     def take(self, line: bytes) -> int | None:
-        """Takes a line, and returns the time of the stream, or nothing if no line had a time yet."""
+        """Takes a line; returns the time of the stream, or None if no line had a time yet."""
         before = self.clock.time
         now = self.clock.take(line)
         self.heard = time.monotonic()
@@ -55,17 +55,17 @@ class StreamClock:
         return now
 
     def now(self) -> int | None:
-        """Returns the time now, in seconds since the Unix epoch, or nothing if no line had a time yet."""
+        """Returns the time now, in seconds since the Unix epoch, or None if no line had a time yet."""
         passed = int(time.monotonic() - self.arrived) if self.is_live else 0
         return None if self.clock.time is None else self.clock.time + passed
 
 
 class Live:
-    """A pilot with its stream. Each line goes to `write`."""
+    """A pilot with its stream. It passes each output line to `write`."""
 
     def __init__(self, pilot: Pilot, wanted: Wanted, pace: Pace, write: Callable[[Moment], None],
                  barrier: Barrier | None = None, gives_times: bool = False, recheck: bool = True) -> None:
-        """Takes the pilot and what own ship wants; `gives_times` gives bare sentences the time at which they arrive."""
+        """`wanted` is own ship's track or route; `gives_times` gives bare sentences their arrival time."""
         self.pilot, self.wanted, self.pace, self.write, self.barrier = pilot, wanted, pace, write, barrier
         self.gives_times, self.recheck = gives_times, recheck
         self.record = Record(pilot.history + pilot.scenario.gap)
@@ -76,7 +76,7 @@ class Live:
     # the input
 
     def read(self, source: Source) -> None:
-        """Puts the lines of a source into the queue, and then why there are no more."""
+        """Puts the lines of a source into the queue, and then the reason why the source ended."""
         try:
             for lines, _ in source.lines():
                 self.waiting.put(lines)
@@ -85,7 +85,7 @@ class Live:
             self.waiting.put(f"the input failed: {reason(error) if isinstance(error, OSError) else error}")
 
     def take(self, line: bytes) -> None:
-        """Takes a line. One without a time counts as of the line before it; before the first time it is only
+        """Takes a line. A line without a time gets the time of the previous line; before the first time it is only
         counted."""
         line = stamped(line.rstrip(b"\r\n"), int(time.time())) if self.gives_times else line.rstrip(b"\r\n")
         now = self.clock.take(line)
@@ -98,7 +98,7 @@ class Live:
         self.record.take(line, now if own is None else min(own, now))
 
     def take_block(self, block: list[bytes] | str) -> None:
-        """Takes what the queue gave."""
+        """Takes an item of the queue: lines, or the reason why the source ended."""
         if isinstance(block, str):
             self.over = block
         else:
@@ -108,7 +108,7 @@ class Live:
     # the loop
 
     def run(self, source: Source, stop: threading.Event, ends: bool) -> None:
-        """Writes until `stop` is set, or, if the stream is one that ends, until it ended."""
+        """Writes until `stop` is set, or, with `ends`, until the stream ends."""
         threading.Thread(target=self.read, args=(source,), daemon=True).start()
         following = time.monotonic() + self.pace.every
         while not stop.is_set() and not (ends and self.over):
@@ -126,7 +126,7 @@ class Live:
         source.stop()
 
     def take_all(self) -> None:
-        """Takes what arrived by now, and no more than the queue holds: a flood of lines delays no answer."""
+        """Takes the lines that have arrived, at most one full queue, so that a flood of lines delays no answer."""
         for _ in range(BLOCKS):
             try:
                 self.take_block(self.waiting.get_nowait())
@@ -134,7 +134,7 @@ class Live:
                 return
 
     def write_due(self, now: int) -> None:
-        """Writes the lines that are due before a log's time, for a log that is replayed."""
+        """Writes the lines that are due before a time of the log, for a log that is replayed."""
         every = self.pace.every
         if self.due is None:
             self.due = now // every * every + every
@@ -145,7 +145,7 @@ class Live:
     # a moment
 
     def moment(self, at: int | None = None) -> Moment:
-        """Returns what to say now, or at a time of the log."""
+        """Returns the content of the line for now, or for a time of the log."""
         begin, now = time.monotonic(), at or self.clock.now()
         age = self.input_age(now)
         words = self.stale_words(now, age)
@@ -172,17 +172,17 @@ class Live:
                       and not self.pace.by_log, tuple(notes))
 
     def input_age(self, now: int | None) -> float:
-        """Returns how many seconds ago the latest line arrived; of a log that is replayed, how old it is."""
+        """Returns the seconds since the latest line arrived; for a log that is replayed, the age of that line."""
         if self.pace.by_log:
             return float(max(0, (now or 0) - self.last_time()))
         return time.monotonic() - self.clock.heard
 
     def last_time(self) -> int:
-        """Returns the time of the latest line that is held."""
+        """Returns the time of the latest stored line."""
         return self.record.lines[-1][0] if self.record.lines else 0
 
     def stale_words(self, now: int | None, age: float) -> str:
-        """Returns why there is no input to plan by, or nothing."""
+        """Returns why there is no input for a plan, or an empty text."""
         if now is None:
             more = ": no line has a time; use --now, or give times with colregs-tagged" if self.untimed else ""
             return "no line with a time has arrived yet" + more
@@ -191,24 +191,24 @@ class Live:
         return ""
 
     def place(self, scene: Scene, now: int) -> Place | None:
-        """Returns own ship's place now, if she is seen."""
+        """Returns own ship's place now, or None if she is not seen."""
         own = scene.sightings.get(self.pilot.scenario.own)
         return own.at(now) if own else None
 
     def notes(self, place: Place | None, took: float) -> list[str]:
-        """Returns what a reader should know beside the decision."""
+        """Returns notes for the reader in addition to the decision."""
         notes = []
         if took > LATE * self.pace.every and not self.pace.by_log:
             notes.append(f"late: the answer took {took:.1f} of {self.pace.every} s")
         if self.pilot.cut:
-            notes.append("a meeting that lasts began before the history that is held, so its kind may be another")
+            notes.append("a current meeting began before the stored history, so its kind may differ")
         inside = self.barrier.holding(place) if self.barrier else []
         if inside:
             notes.append("own ship is inside " + ", ".join(f"`{name}`" for name in inside))
         return notes
 
     def targets(self, scene: Scene, decision: Decision, now: int) -> list[Target]:
-        """Returns the targets at a moment, with the nearest approach by the legs that are steered."""
+        """Returns the targets at a moment, with the closest approach along the legs that own ship steers."""
         plan = Plan(0, now, decision.legs) if decision.legs else None
         return targets_of(self.pilot.scenario, scene.sightings, scene.meetings, plan,
                           now // self.pilot.scenario.tick * self.pilot.scenario.tick)

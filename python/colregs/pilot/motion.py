@@ -1,4 +1,4 @@
-"""Motion on the plane in metres and seconds: who goes on, the path of a plan, and the nearest approach."""
+"""Motion on the plane in metres and seconds: straight motion, the path of a plan, and the closest approach."""
 from __future__ import annotations
 
 import math
@@ -7,26 +7,26 @@ from dataclasses import dataclass
 from colregs.model.tracks import toward
 from colregs.pilot.states import Plan, Track, swing
 
-KNOT = 1852 / 3600     # metres a second
+KNOT = 1852 / 3600     # metres per second
 
 Place = tuple[float, float]
 
 
 def velocity(track: Track) -> Place:
-    """Returns the metres a second to the east and to the north of a course and a speed."""
+    """Returns the velocity of a course and a speed, in metres per second to the east and to the north."""
     angle = math.radians(track.course)
     return track.speed * KNOT * math.sin(angle), track.speed * KNOT * math.cos(angle)
 
 
 def moved(place: Place, track: Track, seconds: float) -> Place:
-    """Returns the place after so many seconds on a course at a speed."""
+    """Returns the place after `seconds` on a course at a speed."""
     east, north = velocity(track)
     return place[0] + east * seconds, place[1] + north * seconds
 
 
 @dataclass(frozen=True)
 class Rates:
-    """How fast a vessel turns (degrees a second) and changes speed (knots a second)."""
+    """How fast a vessel turns (degrees per second) and changes speed (knots per second)."""
 
     turn: float
     speed: float
@@ -34,21 +34,21 @@ class Rates:
 
 @dataclass(frozen=True)
 class Approach:
-    """The least distance in metres, and the seconds from now until it is reached."""
+    """The least distance in metres, and the seconds from now until then."""
 
     distance: float
     seconds: float
 
 
 def turned(now: Track, aim: Track, rates: Rates, seconds: float) -> Track:
-    """Returns the course and speed after so many seconds of turning and changing speed toward an aim."""
+    """Returns the course and speed after `seconds` of turning and changing speed toward an aim."""
     course = now.course + toward(0, swing(now.course, aim.course), rates.turn * seconds)
     return Track(course % 360, toward(now.speed, aim.speed, rates.speed * seconds))
 
 
 def planned_path(place: Place, reported: Track, plan: Plan, rates: Rates, tick: int, begins: int) -> list[Place]:
-    """Returns own ship's place at each tick from `begins` to the plan's end: each tick she turns toward what the leg
-    orders, then moves."""
+    """Returns own ship's place at each tick from `begins` to the plan's end. At each tick she turns toward the leg's
+    order and then moves."""
     path, state = [place], reported
     for now in range(begins, plan.until, tick):
         leg = plan.leg_at(now)
@@ -60,15 +60,15 @@ def planned_path(place: Place, reported: Track, plan: Plan, rates: Rates, tick: 
 
 
 def straight_approach(apart: Place, drift: Place) -> Approach:
-    """Returns the nearest approach from now on of two that keep on; `apart` is where the other is, `drift` its change
-    in metres a second."""
+    """Returns the closest approach from now on of two vessels that keep course and speed; `apart` is the other's
+    relative place, `drift` its change in metres per second."""
     square = drift[0] ** 2 + drift[1] ** 2
     seconds = max(0.0, -(apart[0] * drift[0] + apart[1] * drift[1]) / square) if square > 1e-9 else 0.0
     return Approach(math.hypot(apart[0] + drift[0] * seconds, apart[1] + drift[1] * seconds), seconds)
 
 
 def path_approach(path: list[Place], other: Place, track: Track, tick: int) -> Approach:
-    """Returns the nearest approach along a path, a place for each tick, to a vessel that keeps on."""
+    """Returns the closest approach along a path, one place per tick, to a vessel that keeps course and speed."""
     best = Approach(math.dist(path[0], other), 0.0)
     for k, (one, two) in enumerate(zip(path, path[1:])):
         first, second = moved(other, track, k * tick), moved(other, track, (k + 1) * tick)

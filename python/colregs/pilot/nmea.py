@@ -11,19 +11,18 @@ IDENTIFIERS = {state: number for number, state in enumerate(State, 1)}
 
 
 def sentence(body: str) -> str:
-    """Returns a sentence with its head and its sum."""
+    """Returns a sentence with its start character and its checksum."""
     return f"${body}*{total(body.encode('ascii', 'replace')):02X}"
 
 
 def command_sentence(decision: Decision, turn: float) -> str:
-    """Returns HTC: heading control to the course to steer, true, by a rate of turn in degrees a minute; no override, no
-    limits."""
+    """Returns HTC: heading control to the true course to steer, by a rate of turn in degrees per minute, without
+    override or limits."""
     return sentence(f"{TALKER}HTC,V,,,H,T,,,,{turn:.1f},{decision.course % 360:.1f},,,T")
 
 
 def text_sentence(decision: Decision) -> str:
-    """Returns TXT: the state, with a number of its own, and words. Characters that a sentence reserves become
-    blanks."""
+    """Returns TXT: the state with its number, and a text. Characters that a sentence reserves become spaces."""
     words = decision.state.value + (f": {decision.words}" if decision.words else "")
     plain = "".join(letter if " " <= letter <= "~" and letter not in "!$*,\\^~" else " " for letter in words)[:LONGEST]
     return sentence(f"{TALKER}TXT,01,01,{IDENTIFIERS[decision.state]:02},{plain}")

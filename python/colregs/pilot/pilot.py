@@ -13,16 +13,16 @@ from colregs.pilot.scenario import MOST_TICKS, PilotScenario, Window
 from colregs.pilot.situation import Meeting, Sighting, lasting_meetings, latest_sightings, names_of
 from colregs.pilot.states import Answer, Cause, Decision, Memory, Track, decide, held_order
 
-LONG = 1800            # s: a window this long is cut to the meetings that last, if nobody asked for them before
-BEFORE = 6             # ticks that a window begins before the oldest meeting that lasts
+LONG = 1800            # s: a window this long is cut to the current meetings, unless they were computed before
+BEFORE = 6             # ticks from the start of a window to the oldest current meeting
 
 
 Found = TypeVar("Found")
 
 
 def read(reader: Callable[[Report], Found], report: Report) -> Found | None:
-    """Returns what a reader finds in a report; nothing if the report is not whole, or its rows are not the
-    program's."""
+    """Returns the result of `reader` on a report; None if the report is incomplete or has rows that the program does
+    not write."""
     try:
         return reader(report) if report.status == 0 else None
     except (IndexError, ValueError):
@@ -33,17 +33,18 @@ class Log(Protocol):
     """Sentences by their times."""
 
     def begins(self) -> int | None:
-        """Returns the time of the oldest line, if there is one."""
+        """Returns the time of the oldest line, or None without lines."""
         ...
 
     def log(self, begins: int, ends: int) -> bytes:
-        """Returns the lines of a stretch of time."""
+        """Returns the lines from one time to another."""
         ...
 
 
 @dataclass(frozen=True)
 class Scene:
-    """What the program reads of a window beside a plan: who is where, and which meetings of own ship last."""
+    """What the program finds in a window in addition to a plan: the vessels' places, and own ship's current
+    meetings."""
 
     sightings: dict[int, Sighting]
     meetings: list[Meeting]
@@ -51,18 +52,18 @@ class Scene:
 
 
 class Pilot:
-    """Own ship's pilot: asked at each moment, it answers with a decision, and remembers the plan that it follows."""
+    """Own ship's pilot: returns a decision at each moment, and remembers the plan that it follows."""
 
     def __init__(self, scenario: PilotScenario, planner: Planner, history: int) -> None:
-        """Takes the scenario, the planner, and how many seconds a window reaches back at most."""
+        """`history` is the greatest number of seconds that a window reaches back."""
         self.scenario, self.planner = scenario, planner
         self.history = min(history, MOST_TICKS * scenario.tick)
         self.memory, self.start, self.window = Memory(), -1, Window(0, scenario.tick, 1)
-        self.cut = False           # whether a meeting that lasts began before the window
+        self.cut = False           # whether a current meeting began before the window
 
     def open_window(self, log: Log, now: int) -> Window:
-        """Returns the window that ends at the last tick up to now. Ticks lie at whole multiples since the Unix epoch,
-        so windows agree."""
+        """Returns the window that ends at the last tick up to now. Ticks are at whole multiples since the Unix epoch,
+        so that all windows share them."""
         tick = self.scenario.tick
         end = now // tick * tick
         first = log.begins()
@@ -73,11 +74,11 @@ class Pilot:
         return self.window
 
     def lines(self, log: Log, window: Window) -> bytes:
-        """Returns the lines that the program may read in a window: from a gap before its first tick on."""
+        """Returns the lines that the program may read for a window: from one gap before its first tick."""
         return log.log(window.start - self.scenario.gap, window.ends)
 
     def scene(self, log: Log, now: int, patience: Patience) -> Scene:
-        """Returns who is where and which meetings last, and cuts the window to these."""
+        """Returns the vessels' places and the current meetings, and cuts the window to these meetings."""
         window = self.open_window(log, now)
         lines, text = self.lines(log, window), self.scenario.text(window, subjects=(self.scenario.own,))
         points = self.planner.runner.report("points", text, lines, timeout=patience.left())
@@ -85,7 +86,7 @@ class Pilot:
         return Scene(read(latest_sightings, points) or {}, self.lasting(window, audit), read(names_of, audit) or {})
 
     def lasting(self, window: Window, audit: Report) -> list[Meeting]:
-        """Returns own ship's meetings that last, and lets the next window begin before the oldest one."""
+        """Returns own ship's current meetings, and lets the next window begin before the oldest one."""
         meetings = read(lambda rows: lasting_meetings(rows, self.scenario.own, window, self.scenario.gap), audit)
         if meetings is None:
             return []
@@ -97,7 +98,7 @@ class Pilot:
         return meetings
 
     def shorten(self, log: Log, now: int, patience: Patience) -> None:
-        """Cuts a long window to the meetings that last. The plan is the same with either: no meeting that lasts began
+        """Cuts a long window to the current meetings. This does not change the plan, because no current meeting began
         before."""
         window = self.open_window(log, now)
         if window.ends - window.start > LONG:
@@ -109,7 +110,7 @@ class Pilot:
              place: Place | None = None) -> Decision:
         """Returns the decision at a time for a track.
 
-        `reported` is own ship's course and speed of her latest report, and `place` where she is, which areas need.
+        `reported` has the course and speed of own ship's latest report; `place` is her place, which areas need.
         """
         window = self.open_window(log, now)
         holding = held_order(self.memory, window.ends) or self.memory.order
@@ -118,10 +119,10 @@ class Pilot:
         return self.settle(answer, window.ends, track)
 
     def stalled(self, now: int, track: Track, words: str) -> Decision:
-        """Returns the decision where the input brings nothing new, without a question to the program."""
+        """Returns the decision if the input is stale, without asking the program."""
         return self.settle(Answer(cause=Cause.STALE, words=words), now, track)
 
     def settle(self, answer: Answer, now: int, track: Track) -> Decision:
-        """Returns the decision after an answer, and remembers it."""
+        """Returns the decision that follows from an answer, and remembers it."""
         self.memory, decision = decide(self.memory, answer, now, track)
         return decision

@@ -11,16 +11,16 @@ from colregs.pilot.runner import Report, Runner, status_words
 from colregs.pilot.scenario import PilotScenario, Stage, Window
 from colregs.pilot.states import Answer, Cause, Leg, Plan, Reason, Track
 
-LEAST_WAIT = 0.2       # s: a run gets at least so long, even when the time for an answer is nearly over
+LEAST_WAIT = 0.2       # s: the least time for a run, even if the time for an answer is nearly over
 # by status (docs/REPORT.md)
 CAUSES = {1: Cause.EVERY_PLAN_FAILS, 3: Cause.SCENARIO, 7: Cause.LIMIT, 9: Cause.OWN_UNREADY}
 
 
 @dataclass(frozen=True)
 class Question:
-    """A moment at which a plan is wanted.
+    """A request for a plan at a moment.
 
-    `reported` is own ship's course and speed of her latest report, if she has both, and `holding` what she steers.
+    `reported` has the course and speed of own ship's latest report, if it has both; `holding` is what she steers.
     """
 
     window: Window
@@ -28,15 +28,15 @@ class Question:
     track: Track
     reported: Track | None
     holding: Track | None = None
-    seconds: float = 60            # how long the answer may take
-    place: Place | None = None     # where own ship is, in metres on the plane
+    seconds: float = 60            # the time limit of the answer
+    place: Place | None = None     # own ship's place in metres on the plane
 
 
 class Patience:
-    """How much time is left for an answer."""
+    """The time left for an answer."""
 
     def __init__(self, seconds: float) -> None:
-        """Begins with so many seconds."""
+        """Starts with `seconds`."""
         self.end = time.monotonic() + seconds
 
     def left(self) -> float:
@@ -45,11 +45,11 @@ class Patience:
 
 
 Barrier = Callable[[Plan, Question], str]
-"""Returns words for the area that a plan enters, or nothing."""
+"""Returns the name of the area that a plan enters, or an empty text."""
 
 
 def read_plan(report: Report, window: Window) -> Plan | None:
-    """Returns the plan of a report, or nothing if its rows are no plan."""
+    """Returns the plan of a report, or None if its rows are not a plan."""
     rows = report.rows("plan")
     try:
         legs = tuple(
@@ -63,8 +63,8 @@ def read_plan(report: Report, window: Window) -> Plan | None:
 
 
 def read_reasons(report: Report, choices: Choices, reported: Track, window: Window) -> tuple[Reason, ...]:
-    """Returns the reasons of a report of `plan --why`. A choice's number is that of its course times the count of
-    speeds, and of its speed."""
+    """Returns the reasons of a report of `plan --why`. The number of a choice is the index of its course times the
+    number of speeds, plus the index of its speed."""
     found = []
     for row in report.rows("why"):
         numbers = [divmod(int(number), len(choices.speeds)) for number in row[1].split(".")]
@@ -76,15 +76,15 @@ def read_reasons(report: Report, choices: Choices, reported: Track, window: Wind
 
 
 class Planner:
-    """Asks one runner for plans of one scenario."""
+    """Asks a runner for plans of one scenario."""
 
     def __init__(self, scenario: PilotScenario, runner: Runner, barrier: Barrier | None = None) -> None:
-        """Takes what finds the area that a plan enters, if there are areas."""
+        """`barrier` finds the area that a plan enters; None without areas."""
         self.scenario, self.runner, self.barrier = scenario, runner, barrier
 
     def ask(self, question: Question, recheck: bool = True) -> Answer:
-        """Returns the first plan of the first stage that has one, or the cause why no stage has one, with an escape if
-        there is one."""
+        """Returns the first plan of the first stage that has one. Otherwise returns the cause, with an escape if there
+        is one."""
         patience, answer, asked = Patience(question.seconds), Answer(cause=Cause.EVERY_PLAN_FAILS), 0
         for stage in self.scenario.stages:
             answer = self.ask_stage(question, stage, patience, recheck)
@@ -96,13 +96,14 @@ class Planner:
     def ask_stage(self, question: Question, stage: Stage, patience: Patience, recheck: bool) -> Answer:
         """Returns the first plan of a stage that enters no area, or the cause why there is none.
 
-        The course of the first leg of a plan that enters an area leaves the choices, and the program is asked again.
+        If a plan enters an area, this removes the course of its first leg from the choices and asks the program again.
         """
         without, area = list[float](), ""
         while True:
             answer = self.ask_once(question, stage, tuple(without), patience, recheck)
             if answer is None:
-                return Answer(cause=Cause.AREAS, words="each course enters an area: " + area, asked=len(without))
+                return Answer(cause=Cause.AREAS, words="every course enters an area such as " + area,
+                              asked=len(without))
             answer = replace(answer, asked=len(without) + 1)
             if answer.plan is None:
                 return self.without_areas(answer, area)
@@ -113,15 +114,15 @@ class Planner:
             without.append(answer.plan.legs[0].course)
 
     def without_areas(self, answer: Answer, area: str) -> Answer:
-        """Returns an answer without a plan, with the area as its cause if courses left the choices for one."""
+        """Returns an answer without a plan, with the area as its cause if areas removed courses from the choices."""
         if not area or answer.cause is not Cause.EVERY_PLAN_FAILS:
             return answer
-        return replace(answer, cause=Cause.AREAS, words="each plan that enters no area fails; %s" % area)
+        return replace(answer, cause=Cause.AREAS, words="every plan that avoids areas such as %s fails" % area)
 
     def ask_once(self, question: Question, stage: Stage, without: tuple[float, ...], patience: Patience,
                  recheck: bool) -> Answer | None:
-        """Returns the program's answer without some courses of the first leg, or nothing if no course is left."""
-        # without a report the program answers that own ship is not ready
+        """Returns the program's answer without some courses of the first leg, or None if no course is left."""
+        # without a report, the program answers that own ship is not ready
         reported = question.reported or question.track
         choices = rewritten(stage.offsets, question.track, reported, without)
         if not choices.courses:
@@ -130,7 +131,7 @@ class Planner:
         report = self.runner.report("plan", scenario, question.log, why=True, timeout=patience.left())
         if report.status == 0:
             plan = read_plan(report, question.window)
-            return Answer(plan) if plan else Answer(cause=Cause.PROGRAM, words="the program's rows are no plan")
+            return Answer(plan) if plan else Answer(cause=Cause.PROGRAM, words="cannot read the rows as a plan")
         cause = CAUSES.get(report.status, Cause.PROGRAM)
         if cause is not Cause.EVERY_PLAN_FAILS:
             return Answer(cause=cause, words=status_words(report))
@@ -140,8 +141,8 @@ class Planner:
 
     def refusal(self, question: Question, report: Report, choices: Choices, reported: Track, scenario: str,
                 patience: Patience | None) -> Answer:
-        """Returns the answer that every plan fails, with its reasons, which `recheck` confirms if there is patience for
-        it."""
+        """Returns the answer that every plan fails, with the reasons. `recheck` confirms them if there is time left.
+        """
         checked = None
         if patience is not None:
             again = self.runner.report("recheck", scenario, question.log, rows=report.text, timeout=patience.left())
@@ -150,12 +151,12 @@ class Planner:
         try:
             reasons = read_reasons(report, choices, reported, question.window)
         except (IndexError, ValueError):
-            return Answer(cause=Cause.PROGRAM, words="the program's rows are no reasons")
+            return Answer(cause=Cause.PROGRAM, words="cannot read the rows as reasons")
         return Answer(cause=Cause.EVERY_PLAN_FAILS, words=words, reasons=reasons, checked=checked)
 
     def escape(self, question: Question, patience: Patience) -> Plan | None:
-        """Returns a plan that enters no domain and no area whatever rule it breaks, or nothing. What own ship steers
-        comes first."""
+        """Returns a plan that enters no domain and no area, but may break any rule; or None. It tries the present
+        course and speed first."""
         stage = self.scenario.stages[-1]
         reported = question.reported or question.track
         without = list[float]()

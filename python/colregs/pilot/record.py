@@ -1,5 +1,4 @@
-"""The sentences that the pilot holds: those of the last stretch of time, and each vessel's last static data, however
-old."""
+"""The sentences that the pilot stores: those of the recent history, and each vessel's last static data of any age."""
 from __future__ import annotations
 
 from collections import deque
@@ -7,15 +6,15 @@ from collections import deque
 from colregs.io.sentences import block
 from colregs.io.sieve import Senders
 
-LONGEST = 1024                     # bytes of a line: the program reads no longer one (docs/LOG.md)
-MOST_BYTES = 48 << 20              # of all lines that are held
+LONGEST = 1024                     # the most bytes of a line that the program reads (docs/LOG.md)
+MOST_BYTES = 48 << 20              # of all stored lines
 STATIC = (b"5", b"H")              # the first letter of the payload of messages 5 and 24
-MOST_STATIC = 4096                 # vessels whose static data is held, as many as the program holds
+MOST_STATIC = 4096                 # vessels with stored static data, the same limit as the program's
 
 
 def part_letter(payload: bytes) -> bytes:
-    """Returns which part of message 24 a payload is, and nothing for other messages: bits 38 and 39 lie in the seventh
-    letter."""
+    """Returns the part letter of a payload of message 24, and an empty text for other messages. The part is in bits 38
+    and 39, in the seventh letter."""
     if payload[:1] != b"H" or len(payload) < 7:
         return b""
     code = payload[6] - 48
@@ -23,19 +22,19 @@ def part_letter(payload: bytes) -> bytes:
 
 
 class Record:
-    """Lines with their times, the oldest first, no longer back than the history."""
+    """Lines with their times, the oldest first, for at most the history."""
 
     def __init__(self, history: int) -> None:
-        """Takes how many seconds of lines to hold."""
+        """`history` is the number of seconds for which lines are stored."""
         self.history = history
         self.lines: deque[tuple[int, bytes]] = deque()
         self.statics: dict[int, dict[bytes, tuple[bytes, ...]]] = {}
-        # messages 5 whose second part has not come yet
+        # messages 5 without their second part so far
         self.begun: dict[int, tuple[list[bytes], tuple[bytes, ...]]] = {}
         self.senders, self.bytes, self.unread = Senders(), 0, 0
 
     def take(self, line: bytes, now: int) -> None:
-        """Takes a line of a time. One without a sentence, or too long for the program, is counted and not held."""
+        """Takes a line with its time. Counts a line without a sentence, or too long for the program, and drops it."""
         line = line.strip()
         if not line:
             return
@@ -49,8 +48,8 @@ class Record:
         self.forget(now)
 
     def take_static(self, sentence: bytes) -> None:
-        """Holds a sentence of static data, of whose vessel it may be the only one in a long time; one of several parts
-        once all are there."""
+        """Stores a sentence of static data, because it may be the vessel's only one in a long time. Stores a sentence
+        of several parts after all have arrived."""
         mmsi = self.senders.of(sentence)
         fields = sentence.split(b",", 6)
         if mmsi is None or len(fields) < 7:
@@ -66,22 +65,22 @@ class Record:
             self.hold_static(mmsi, fields[5][:1] + part_letter(fields[5]), (sentence,))
 
     def hold_static(self, mmsi: int, kind: bytes, sentences: tuple[bytes, ...]) -> None:
-        """Holds the sentences of one message in the place of the vessel's last one of its kind."""
+        """Stores the sentences of one message; they replace the vessel's last message of the same kind."""
         if mmsi in self.statics or len(self.statics) < MOST_STATIC:
             self.statics.setdefault(mmsi, {})[kind] = sentences
 
     def forget(self, now: int) -> None:
-        """Drops the lines that are older than the history, and the oldest if all are too many."""
+        """Drops the lines that are older than the history, and the oldest lines above the limit of bytes."""
         while self.lines and (self.lines[0][0] < now - self.history or self.bytes > MOST_BYTES):
             self.bytes -= len(self.lines.popleft()[1])
 
     def begins(self) -> int | None:
-        """Returns the time of the oldest line that is held, in seconds since the Unix epoch."""
+        """Returns the time of the oldest stored line, in seconds since the Unix epoch."""
         return self.lines[0][0] if self.lines else None
 
     def log(self, begins: int, ends: int) -> bytes:
-        """Returns the lines of a stretch of time as a log; each vessel's last static data comes first, as of its
-        beginning."""
+        """Returns the lines from one time to another as a log. Each vessel's last static data comes first, with the
+        first time."""
         static = [
             block(begins) + sentence for kinds in self.statics.values() for parts in kinds.values()
             for sentence in parts

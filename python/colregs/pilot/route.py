@@ -1,4 +1,4 @@
-"""What own ship wants: a track of one course and one speed, or a route of waypoints."""
+"""Own ship's intent: a track of one course and one speed, or a route of waypoints."""
 from __future__ import annotations
 
 import csv
@@ -10,28 +10,28 @@ from colregs.errors import Fault, reason
 from colregs.pilot.motion import KNOT, Place
 from colregs.pilot.states import Track
 
-LOOK_AHEAD = 1000.0        # m: on a leg she steers for the point so far ahead of her on the line between its waypoints
-EARLY = 30.0               # s: she turns for the next leg so long before she is abeam of a waypoint
+LOOK_AHEAD = 1000.0        # m: on a leg she steers for the point this far ahead on the line between its waypoints
+EARLY = 30.0               # s: she turns for the next leg this long before a waypoint is abeam
 FASTEST = 102.2            # knots
 
 
 class Wanted(Protocol):
-    """What own ship wants at a place."""
+    """Own ship's intent by place."""
 
     def track_at(self, place: Place | None) -> Track:
-        """Returns the course and speed at a place in metres on the plane; without a place those of the current leg."""
+        """Returns the course and speed at a place in metres on the plane; without a place, those of the current leg."""
         ...
 
 
 def track_of_words(word: str) -> Track:
-    """Returns the track of words as 000,14: degrees and knots. A Fault says what is wrong."""
+    """Parses a track such as 000,14: degrees and knots. Raises Fault if it is not one."""
     course, comma, speed = word.partition(",")
     try:
         found = Track(float(course), float(speed))
     except ValueError:
-        raise Fault(f"`{word}` is no track: write course and speed as 000,14") from None
+        raise Fault(f"`{word}` is not a track; write course and speed, such as 000,14") from None
     if not (comma and 0 <= found.course <= 360 and 0 <= found.speed <= FASTEST):
-        raise Fault(f"`{word}` is no track: the course is 0 to 360 degrees, and the speed 0 to {FASTEST} knots")
+        raise Fault(f"`{word}` is not a track; the course is 0 to 360 degrees, and the speed 0 to {FASTEST} knots")
     return Track(round(found.course * 10) % 3600 / 10, round(found.speed * 10) / 10)
 
 
@@ -47,11 +47,11 @@ class OneTrack:
 
 
 class Route:
-    """Waypoints in metres on the plane, and the speed in knots of the leg to each. Own ship goes to the second
-    first."""
+    """Waypoints in metres on the plane, and the speed in knots on the leg to each. Own ship starts on the leg to the
+    second one."""
 
     def __init__(self, places: list[Place], speeds: list[float]) -> None:
-        """Takes at least two waypoints; the speed of the first is not used."""
+        """`places` has at least two waypoints; the speed of the first is unused."""
         self.places, self.speeds, self.leg, self.is_done = places, speeds, 1, False
 
     def track_at(self, place: Place | None) -> Track:
@@ -66,13 +66,13 @@ class Route:
         return self.leg_track() if self.is_done else self.toward_line(place)
 
     def line(self) -> tuple[Place, Place, float]:
-        """Returns where the leg begins, its direction as a vector of length 1, and its length."""
+        """Returns the start of the leg, its direction as a vector of length 1, and its length."""
         begin, end = self.places[self.leg - 1], self.places[self.leg]
         length = math.dist(begin, end)
         return begin, ((end[0] - begin[0]) / length, (end[1] - begin[1]) / length), length
 
     def remaining(self, place: Place) -> float:
-        """Returns how many metres of the leg are ahead."""
+        """Returns the metres of the leg that are still ahead."""
         begin, along, length = self.line()
         return length - ((place[0] - begin[0]) * along[0] + (place[1] - begin[1]) * along[1])
 
@@ -82,7 +82,7 @@ class Route:
         return Track(round(math.degrees(math.atan2(*along)) * 10) % 3600 / 10, self.speeds[self.leg])
 
     def toward_line(self, place: Place) -> Track:
-        """Returns the course to the point of the line that lies ahead."""
+        """Returns the course to the point ahead on the line."""
         begin, along, length = self.line()
         ahead = min(length - self.remaining(place) + LOOK_AHEAD, length + LOOK_AHEAD)
         aim = begin[0] + along[0] * ahead - place[0], begin[1] + along[1] * ahead - place[1]
@@ -90,10 +90,10 @@ class Route:
 
 
 def read_route(path: str, latitude: int, longitude: int, speed: float | None) -> Route:
-    """Reads a route: a CSV file with a head `latitude,longitude` in degrees, and perhaps `speed` in knots of the leg to
-    each waypoint.
+    """Reads a route: a CSV file with a header `latitude,longitude` in degrees, and optionally `speed` in knots on the
+    leg to each waypoint.
 
-    The reference of the plane is in 1/10000 minute. A Fault names the line that is wrong.
+    The reference of the plane is in 1/10000 minute. A Fault names the wrong line.
     """
     try:
         with open(path, encoding="utf-8-sig", newline="") as source:
@@ -109,19 +109,19 @@ def read_route(path: str, latitude: int, longitude: int, speed: float | None) ->
                 raise ValueError
         except (KeyError, TypeError, ValueError):
             raise Fault(
-                f"{path}, line {number}: no waypoint: a latitude and a longitude in degrees, and a speed in knots here "
-                "or in --speed"
+                f"{path}, line {number}: no waypoint; write latitude and longitude in degrees, and a speed in knots "
+                "here or in --speed"
             ) from None
         places.append(on_plane(degrees, latitude, longitude))
         speeds.append(round(knots * 10) / 10)
     if len(places) < 2 or any(math.dist(one, two) < 1 for one, two in zip(places, places[1:])):
-        raise Fault(f"{path}: a route has two waypoints or more, each a metre or more from the one before")
+        raise Fault(f"{path}: a route needs at least two waypoints, each at least one metre from the one before")
     return Route(places, speeds)
 
 
 def on_plane(degrees: tuple[float, float], latitude: int, longitude: int) -> Place:
-    """Returns the place in metres of a latitude and a longitude in degrees, on the plane of a reference in 1/10000
-    minute (docs/PLANE.md)."""
+    """Converts a latitude and a longitude in degrees to a place in metres on the plane of a reference in 1/10000 minute
+    (docs/PLANE.md)."""
     change = (degrees[1] * 600000 - longitude + 108000000) % 216000000 - 108000000
     cosine = math.cos(math.radians(round(abs(latitude) / 60000) / 10))
     return change / 10000 * 1852 * cosine, (degrees[0] * 600000 - latitude) / 10000 * 1852

@@ -1,5 +1,4 @@
-"""Runs the program on a scenario and a log that are in memory: one small interface, so that a library can take the
-place of a process."""
+"""Runs the program on a scenario and a log in memory. A small interface lets a library replace the process."""
 from __future__ import annotations
 
 import importlib
@@ -15,14 +14,14 @@ from typing import Any, Protocol
 from colregs.errors import Fault
 from colregs.run.program import found
 
-MISSING, NO_ANSWER = 127, 124       # statuses of our own: the program cannot be started; it gave no answer in time
-MEMORY = "/dev/shm"                  # files that live in memory: a plan waits for no disk
+MISSING, NO_ANSWER = 127, 124       # additional statuses: the program cannot be started; it gave no answer in time
+MEMORY = "/dev/shm"                  # files in memory, so that a plan waits for no disk
 
 
 @dataclass(frozen=True)
 class Report:
-    """What a run wrote: its status (docs/REPORT.md; negative if a signal ended it), its rows, its words, and its
-    seconds."""
+    """The result of a run: its status (docs/REPORT.md; negative if a signal ended it), its rows, its messages, and its
+    elapsed seconds."""
 
     status: int
     text: str
@@ -30,8 +29,7 @@ class Report:
     seconds: float
 
     def rows(self, kind: str) -> list[list[str]]:
-        """Returns the fields of each row of a kind. Only a vessel's name may hold a comma, and its row is not split
-        here."""
+        """Returns the fields of each row of a kind. Not for rows with a vessel's name, which may contain commas."""
         head = kind + ","
         return [line.split(",") for line in self.text.split("\n") if line.startswith(head)]
 
@@ -41,24 +39,24 @@ class Runner(Protocol):
 
     def report(self, mode: str, scenario: str, log: bytes, rows: str | None = None, why: bool = False,
                timeout: float = 60) -> Report:
-        """Returns the report. `rows` is the text that `recheck` checks, `why` asks `plan` for its reasons, `timeout` is
+        """Returns the report. `rows` is the text that `recheck` checks, `why` asks `plan` for reasons, and `timeout` is
         in seconds."""
         ...
 
 
 class ClosingRunner(Runner, Protocol):
-    """A runner that holds something until it is closed."""
+    """A runner with resources that `close` releases."""
 
     def close(self) -> None:
-        """Gives back what it holds."""
+        """Releases the resources."""
         ...
 
 
 class ProcessRunner:
-    """Runs the program as a process, with the scenario in a file of a folder of its own."""
+    """Runs the program as a process, with the scenario as a file in a temporary folder."""
 
     def __init__(self, program: str) -> None:
-        """Takes the path of the built program."""
+        """`program` is the path of the built program."""
         self.program = program
         self.room = tempfile.TemporaryDirectory(prefix="colregs-", dir=MEMORY if os.access(MEMORY, os.W_OK) else None)
 
@@ -75,8 +73,8 @@ class ProcessRunner:
 
     def report(self, mode: str, scenario: str, log: bytes, rows: str | None = None, why: bool = False,
                timeout: float = 60) -> Report:
-        """Returns the report of one process. A process that ends by a signal, hangs or is missing gives a status with
-        words, and no fault."""
+        """Returns the report of one process. If the process ends by a signal, hangs or is missing, returns a status
+        with a message instead of raising Fault."""
         begin = time.monotonic()
         try:
             words = [self.program, mode, self.file("scenario.toml", scenario)]
@@ -85,18 +83,18 @@ class ProcessRunner:
         except subprocess.TimeoutExpired:
             return Report(NO_ANSWER, "", "the program gave no answer in %.1f s" % timeout, time.monotonic() - begin)
         except OSError as error:
-            return Report(MISSING, "", "%s cannot be run: %s" % (self.program, (error.strerror or str(error)).lower()),
+            return Report(MISSING, "", "cannot run %s: %s" % (self.program, (error.strerror or str(error)).lower()),
                           time.monotonic() - begin)
         told = done.stderr.decode("utf-8", "replace").strip()
         return Report(done.returncode, done.stdout.decode("utf-8", "replace"), told, time.monotonic() - begin)
 
 
 class LibraryRunner:
-    """Runs the program's code in this process, by a call of `colregs.library`. A call that hangs is left behind in its
+    """Runs the program's code in this process by a call of `colregs.library`. It abandons a call that hangs, in its
     thread."""
 
     def __init__(self, call: Callable[..., Any]) -> None:
-        """Takes `colregs.library.report`, or what has its form."""
+        """`call` is `colregs.library.report`, or a function of the same form."""
         self.call = call
 
     def close(self) -> None:
@@ -104,8 +102,7 @@ class LibraryRunner:
 
     def report(self, mode: str, scenario: str, log: bytes, rows: str | None = None, why: bool = False,
                timeout: float = 60) -> Report:
-        """Returns the report of one call; what the call raises, and a call that takes too long, is a status with
-        words."""
+        """Returns the report of one call. If the call raises or takes too long, returns a status with a message."""
         begin, made = time.monotonic(), list[Report]()
 
         def work() -> None:
@@ -126,8 +123,8 @@ class LibraryRunner:
 
 
 def runner_of(program: str | None) -> ClosingRunner:
-    """Returns a runner of the program that is given; of the library if none is given and it is installed; otherwise of
-    the program that is found."""
+    """Returns a runner of `program`. Without one, returns a runner of the library if it is installed, and otherwise of
+    the program on this machine."""
     if program is None:
         try:
             library = importlib.import_module("colregs.library")
@@ -139,7 +136,7 @@ def runner_of(program: str | None) -> ClosingRunner:
 
 
 def status_words(report: Report) -> str:
-    """Returns what a reader should know of a run that gave no answer."""
+    """Returns a message about a run that gave no answer."""
     if report.status in (MISSING, NO_ANSWER):
         return report.words
     if report.status < 0:

@@ -1,5 +1,4 @@
-"""A scenario of the pilot: the numbers of its file, and the text for one moment with a window and choices of its
-own."""
+"""A scenario of the pilot: the values of its file, and the text for one moment with its window and choices."""
 from __future__ import annotations
 
 import json
@@ -16,7 +15,7 @@ MOST_TICKS = 20000       # docs/SCENARIO.md
 
 @dataclass(frozen=True)
 class Window:
-    """A window of time: its start in seconds since the Unix epoch, its tick in seconds, and how many ticks it has."""
+    """A window of time: its start in seconds since the Unix epoch, its tick in seconds, and its number of ticks."""
 
     start: int
     tick: int
@@ -29,14 +28,14 @@ class Window:
 
 
 def text_of(words: str) -> str:
-    """Returns words as a basic string of TOML, whose escapes are those of JSON, and one more for DEL."""
+    """Returns a text as a TOML basic string, which has the escapes of JSON and one for DEL."""
     return json.dumps(words, ensure_ascii=False).replace("\x7f", "\\u007f")
 
 
 @dataclass(frozen=True)
 class Stage:
-    """One set of choices: offsets against the track, how many legs of how many ticks, and how many ticks more the last
-    leg is held."""
+    """One set of choices: offsets relative to the track, the number of legs, the ticks of a leg, and the ticks for
+    which the last leg is held in addition."""
 
     offsets: Offsets
     legs: int
@@ -44,12 +43,12 @@ class Stage:
     tail: int
 
     def seconds(self, tick: int) -> int:
-        """Returns how long a plan of this stage lasts."""
+        """Returns the duration of a plan of this stage."""
         return (self.legs * self.leg_ticks + self.tail) * tick
 
 
 def scalar_text(value: object) -> str:
-    """Returns a TOML value that is no table: a number, a truth, a text, or a list of such values."""
+    """Returns a TOML value other than a table: a number, a boolean, a text, or a list of such values."""
     if isinstance(value, bool):
         return "true" if value else "false"
     if isinstance(value, (int, float)):
@@ -64,17 +63,17 @@ def scalar_text(value: object) -> str:
 
 
 def is_table_list(value: object) -> bool:
-    """Returns whether a value is a list of tables: each gets a head of its own."""
+    """Returns whether a value is a list of tables. Each table gets its own header."""
     return isinstance(value, list) and bool(value) and all(isinstance(item, Mapping) for item in value)
 
 
 def table_lines(values: Values) -> list[str]:
-    """Returns a line for each key of a table."""
+    """Returns one line per key of a table."""
     return ["%s = %s" % (text_of(key), scalar_text(value)) for key, value in values.items()]
 
 
 def document_text(values: Values) -> str:
-    """Returns values as a TOML document, comments aside: first the keys that are no tables, then the tables."""
+    """Returns values as a TOML document without comments: first the keys that are not tables, then the tables."""
     lines = table_lines(
         {key: value for key, value in values.items() if not isinstance(value, Mapping) and not is_table_list(value)}
     )
@@ -88,28 +87,28 @@ def document_text(values: Values) -> str:
 
 
 def whole(values: Values, table: str, key: str) -> int:
-    """Returns an integer of a table; a Fault names the key if it is none."""
+    """Returns an integer of a table. Raises Fault with the key if it is not an integer."""
     part = values.get(table)
     value = part.get(key) if isinstance(part, Mapping) else None
     if not isinstance(value, int) or isinstance(value, bool):
-        raise Fault("scenario: %s.%s is missing or is no integer" % (table, key))
+        raise Fault("scenario: %s.%s is missing or is not an integer" % (table, key))
     return value
 
 
 def whole_list(values: Values, table: str, key: str) -> tuple[int, ...]:
-    """Returns a list of integers of a table; a Fault names the key if it is none."""
+    """Returns a list of integers of a table. Raises Fault with the key if it is not one."""
     part = values.get(table)
     value = part.get(key) if isinstance(part, Mapping) else None
     if not isinstance(value, list) or not value or any(type(item) is not int for item in value):
-        raise Fault("scenario: %s.%s is missing or is no list of integers" % (table, key))
+        raise Fault("scenario: %s.%s is missing or is not a list of integers" % (table, key))
     return tuple(value)
 
 
 class PilotScenario:
-    """The numbers of a scenario that the pilot needs, and the scenario as text for one moment."""
+    """The values of a scenario that the pilot needs, and the scenario as text for one moment."""
 
     def __init__(self, values: Values, name: str = "scenario") -> None:
-        """Takes the values of a TOML document; a Fault names what is missing."""
+        """`values` are those of a TOML document. Raises Fault with the key that is missing."""
         self.values, self.name = values, name
         self.tick, self.gap = whole(values, "window", "tick"), whole(values, "log", "gap")
         if not 1 <= self.tick <= 60:
@@ -124,7 +123,7 @@ class PilotScenario:
 
     @classmethod
     def read(cls, path: str) -> PilotScenario:
-        """Reads a scenario's file; a Fault says why it cannot be read."""
+        """Reads a scenario's file. Raises Fault with the reason if it cannot."""
         try:
             with open(path, "rb") as source:
                 return cls(tomllib.loads(source.read().decode("utf-8")), path)
@@ -134,21 +133,21 @@ class PilotScenario:
             raise Fault(f"{path}: not a TOML text in UTF-8: {error}") from None
 
     def rate(self, key: str, at_once: int) -> int:
-        """Returns a rate of own ship a tick, which is `at_once` if the scenario has none."""
+        """Returns a rate of own ship per tick, or `at_once` if the scenario has none."""
         own = self.values["own"]
         return whole(self.values, "own", key) if isinstance(own, Mapping) and key in own else at_once
 
     def read_stages(self) -> tuple[Stage, ...]:
-        """Returns the stages of the table `pilot`, in which a key that is left out is that of `own`; without any, `own`
-        is the only one."""
+        """Returns the stages of the table `pilot`. A stage takes a missing key from `own`; without stages, `own` is the
+        only one."""
         pilot = self.values.get("pilot")
         listed = pilot.get("stages", [{}]) if isinstance(pilot, Mapping) else [{}]
         if not isinstance(listed, list) or not listed or not all(isinstance(item, Mapping) for item in listed):
-            raise Fault("scenario: pilot.stages is no list of tables")
+            raise Fault("scenario: pilot.stages is not a list of tables")
         return tuple(self.read_stage(item) for item in listed)
 
     def read_stage(self, item: Values) -> Stage:
-        """Returns one stage; a Fault names a key of it that is wrong."""
+        """Returns one stage. Raises Fault with the wrong key."""
         values = {"own": self.own_values() | dict(item)}
         return Stage(Offsets(whole_list(values, "own", "courses"), whole_list(values, "own", "speeds")),
                      whole(values, "own", "legs"), whole(values, "own", "leg_ticks"), whole(values, "own", "tail"))
@@ -163,7 +162,7 @@ class PilotScenario:
         return PilotScenario({**self.values, "own": self.own_values() | changes}, self.name)
 
     def with_offsets(self, courses: list[int], speeds: list[int] | None) -> PilotScenario:
-        """Returns the scenario with other offsets in each stage; without speeds, each stage has its own."""
+        """Returns the scenario with other offsets in each stage; without speeds, each stage keeps its own."""
         changes: dict[str, object] = {"courses": courses} | ({"speeds": speeds} if speeds is not None else {})
         pilot = self.values.get("pilot")
         stages = pilot.get("stages") if isinstance(pilot, Mapping) else None
@@ -174,9 +173,9 @@ class PilotScenario:
 
     def text(self, window: Window, choices: Choices | None = None, stage: Stage | None = None,
              subjects: tuple[int, ...] = (), has_rules: bool = True) -> str:
-        """Returns the scenario for a window, with own ship's choices of a stage, and with subjects if there are any.
+        """Returns the scenario for a window, with own ship's choices of a stage, and with subjects if given.
 
-        Without rules no vessel is watched but one within a metre, so that only the domains are left.
+        To switch the rules off, it sets the watch to one metre, so that only the domains are left.
         """
         values: dict[str, object] = {
             key: value for key, value in self.values.items() if key not in ("subjects", "pilot")

@@ -1,5 +1,5 @@
-"""Where own ship and the others are now, how near they come, and which rules bind own ship: all from the program's
-rows."""
+"""The situation now: the vessels' places, their closest approaches, and the rules that bind own ship, all from the
+program's rows."""
 from __future__ import annotations
 
 import csv
@@ -20,8 +20,8 @@ ALWAYS = ("r8b", "r8d")                                        # bind in a meeti
 
 @dataclass(frozen=True)
 class Sighting:
-    """A vessel's latest accepted report: its time, her place in metres on the plane, and her course and speed if she
-    reports both."""
+    """A vessel's latest accepted report: its time, her place in metres on the plane, and her course and speed if the
+    report has both."""
 
     mmsi: int
     time: int
@@ -29,13 +29,13 @@ class Sighting:
     track: Track | None
 
     def at(self, now: int) -> Place:
-        """Returns her place at a time if she keeps on; without a course or a speed she lies still (docs/PLAN.md)."""
+        """Returns her place at a time if she keeps course and speed; without either she stays (docs/PLAN.md)."""
         return moved(self.place, self.track, now - self.time) if self.track else self.place
 
 
 @dataclass(frozen=True)
 class Meeting:
-    """A meeting of own ship that lasts: the other vessel, its kind for own ship, and when it began."""
+    """A current meeting of own ship: the other vessel, its kind for own ship, and its start."""
 
     other: int
     kind: str
@@ -48,7 +48,8 @@ class Meeting:
 
 @dataclass(frozen=True)
 class Target:
-    """A target at a moment, with the nearest approach if both keep on, and along own ship's plan if there is one."""
+    """A target at a moment, with the closest approach if both keep course and speed, and along own ship's plan if there
+    is one."""
 
     mmsi: int
     distance: float
@@ -68,10 +69,9 @@ def latest_sightings(points: Report) -> dict[int, Sighting]:
 
 
 def lasting_meetings(audit: Report, own: int, window: Window, gap: int) -> list[Meeting]:
-    """Returns own ship's meetings that may last, among the rows of an audit of a window that ends now.
+    """Returns own ship's meetings that may be current, among the rows of an audit of a window that ends now.
 
-    An audit sees a vessel no longer than to her last report. So a meeting that ends less than the gap ago counts as one
-    that lasts.
+    An audit sees a vessel only until her last report, so a meeting that ended less than the gap ago counts as current.
     """
     late = window.ticks - 2 - -(-gap // window.tick)
     last = {
@@ -84,7 +84,8 @@ def lasting_meetings(audit: Report, own: int, window: Window, gap: int) -> list[
 
 def targets_of(scenario: PilotScenario, sightings: dict[int, Sighting], meetings: list[Meeting], plan: Plan | None,
                now: int) -> list[Target]:
-    """Returns the targets of own ship at a time, the nearest first (docs/PLAN.md), or none if own ship is not seen."""
+    """Returns the targets of own ship at a time, the nearest first (docs/PLAN.md); no targets if own ship is not seen.
+    """
     own = sightings.get(scenario.own)
     if own is None:
         return []
@@ -107,7 +108,7 @@ def targets_of(scenario: PilotScenario, sightings: dict[int, Sighting], meetings
 
 
 def names_of(plan: Report) -> dict[int, tuple[str, int]]:
-    """Returns the name and the length in metres of each vessel among the rows of a report; a name may hold commas and
-    quotes."""
+    """Returns the name and the length in metres of each vessel among the rows of a report. A name may contain commas
+    and quotes."""
     lines = [line for line in plan.text.split("\n") if line.startswith("vessel,")]
     return {int(row[1]): (row[2], int(row[4])) for row in csv.reader(lines) if len(row) == 7}

@@ -1,6 +1,6 @@
-"""What the pilot says at each moment, and how one answer of the program becomes the next thing to steer.
+"""The pilot's decisions: turns an answer of the program into the next course and speed to steer.
 
-Everything here is pure: `decide` takes the memory, an answer, the time and the track, and returns the next memory and
+All functions are pure: `decide` takes the memory, an answer, the time and the track, and returns the next memory and
 the decision.
 """
 from __future__ import annotations
@@ -10,14 +10,14 @@ from enum import Enum
 
 
 class State(str, Enum):
-    """The state of the pilot, as users read it."""
+    """The state of the pilot, shown to users."""
 
     CLEAR = "clear"                # the plan is to stay on the track
     MANOEUVRING = "manoeuvring"    # the plan leaves the track
-    HELD = "held"                  # no new plan, and the last one still has its promise
+    HELD = "held"                  # no new plan, but the promise of the last one still lasts
     NONE = "none"                  # no new plan, and no promise is left
-    OWN_UNREADY = "own_unready"    # own ship's reports do not suffice for a plan
-    STALE = "stale"                # the input brings nothing new
+    OWN_UNREADY = "own_unready"    # own ship's reports are not enough for a plan
+    STALE = "stale"                # no new input
 
 
 class Cause(str, Enum):
@@ -52,7 +52,7 @@ class Leg:
 
 @dataclass(frozen=True)
 class Plan:
-    """A plan of the program: its number, when it was made, and its legs. Each leg begins where the one before ends."""
+    """A plan of the program: its number, its time, and its legs. Each leg begins at the end of the one before."""
 
     number: int
     made: int
@@ -60,11 +60,11 @@ class Plan:
 
     @property
     def until(self) -> int:
-        """Returns the time at which the promise of the plan ends, in seconds since the Unix epoch."""
+        """Returns the end of the plan's promise, in seconds since the Unix epoch."""
         return self.legs[-1].ends
 
     def leg_at(self, now: int) -> Leg | None:
-        """Returns the leg to steer at a time, or nothing if the plan is over."""
+        """Returns the leg to steer at a time, or None if the plan is over."""
         return next((leg for leg in self.legs if now < leg.ends), None)
 
     def keeps_to(self, track: Track) -> bool:
@@ -86,21 +86,20 @@ class Reason:
 
 @dataclass(frozen=True)
 class Answer:
-    """What came of one question to the program: a plan, or the cause why there is none, with words for the reader."""
+    """The answer to one question: a plan, or the cause why there is none, with a text for the reader."""
 
     plan: Plan | None = None
     cause: Cause | None = None
     words: str = ""
     reasons: tuple[Reason, ...] = ()
-    checked: bool | None = None        # whether `recheck` confirms the reasons; nothing if it was not asked
-    escape: Plan | None = None         # without a plan: one that enters no domain, whatever rule it breaks
-    asked: int = 1                     # how many questions the program had to answer
+    checked: bool | None = None        # whether `recheck` confirms the reasons; None if it did not run
+    escape: Plan | None = None         # if there is no plan: one that enters no domain, but may break rules
+    asked: int = 1                     # the number of runs of the program
 
 
 @dataclass(frozen=True)
 class Memory:
-    """What the pilot remembers from one moment to the next: the last plan, and the last course and speed that it
-    ordered."""
+    """The pilot's memory from one moment to the next: the last plan, and the last course and speed that it ordered."""
 
     plan: Plan | None = None
     order: Track | None = None
@@ -108,7 +107,7 @@ class Memory:
 
 @dataclass(frozen=True)
 class Decision:
-    """What the pilot says at a moment. `held_for` is the number of seconds for which a held promise still lasts."""
+    """The pilot's decision at a moment. `held_for` is the number of seconds for which a held promise still lasts."""
 
     state: State
     course: float
@@ -119,8 +118,8 @@ class Decision:
     held_for: int | None = None
     reasons: tuple[Reason, ...] = ()
     checked: bool | None = None
-    promised: bool = False             # whether the course and speed are those of a plan with its promise
-    # whether they are those of a plan that keeps out of all domains, and breaks a rule
+    promised: bool = False             # whether a plan with a promise has this course and speed
+    # whether a plan that keeps out of all domains, but breaks a rule, has this course and speed
     escaping: bool = False
 
 
@@ -132,9 +131,9 @@ def swing(before: float, after: float) -> float:
 def decide(memory: Memory, answer: Answer, now: int, track: Track) -> tuple[Memory, Decision]:
     """Returns the next memory and the decision at `now`, in seconds since the Unix epoch.
 
-    A new plan is steered. Without one the last plan is steered while its promise lasts. If to go on so would leave no
-    way out of all domains, or no promise is left, the escape is steered if there is one, and otherwise the last course
-    and speed ordered.
+    The pilot follows a new plan. Without one it follows the last plan while its promise lasts. If that would leave no
+    path out of all domains, or no promise is left, it follows the escape if there is one, and otherwise holds the last
+    ordered course and speed.
     """
     if answer.plan is not None:
         return followed(answer, answer.plan, now, track)
@@ -151,7 +150,7 @@ def decide(memory: Memory, answer: Answer, now: int, track: Track) -> tuple[Memo
 
 
 def held_order(memory: Memory, now: int) -> Track | None:
-    """Returns the course and speed that the last plan orders at a time, or nothing if its promise is over."""
+    """Returns the course and speed that the last plan orders at a time, or None if its promise is over."""
     leg = memory.plan.leg_at(now) if memory.plan is not None else None
     return Track(leg.course, leg.speed) if leg is not None else None
 
@@ -162,8 +161,8 @@ def orders(leg: Leg, track: Track) -> bool:
 
 
 def escaped(answer: Answer, escape: Plan, now: int) -> tuple[Memory, Decision]:
-    """Returns the memory and the decision where only a plan is left that breaks a rule: own ship keeps out of all
-    domains."""
+    """Returns the memory and the decision if only a plan that breaks a rule is left, which keeps out of all domains.
+    """
     leg = escape.leg_at(now) or escape.legs[0]
     decision = Decision(unplanned_state(answer.cause, False), leg.course, leg.speed, escape.legs, cause=answer.cause,
                         words=answer.words, reasons=answer.reasons, checked=answer.checked, escaping=True)
@@ -171,7 +170,7 @@ def escaped(answer: Answer, escape: Plan, now: int) -> tuple[Memory, Decision]:
 
 
 def followed(answer: Answer, plan: Plan, now: int, track: Track) -> tuple[Memory, Decision]:
-    """Returns the memory and the decision where a new plan is steered."""
+    """Returns the memory and the decision if there is a new plan."""
     leg = plan.leg_at(now) or plan.legs[-1]
     state = State.CLEAR if plan.keeps_to(track) else State.MANOEUVRING
     decision = Decision(state, leg.course, leg.speed, plan.legs, words=answer.words, promised=True)
@@ -179,7 +178,7 @@ def followed(answer: Answer, plan: Plan, now: int, track: Track) -> tuple[Memory
 
 
 def unplanned_state(cause: Cause | None, has_promise: bool) -> State:
-    """Returns the state where there is no new plan. A stalled input and an unready own ship are named even while a
+    """Returns the state if there is no new plan. Stale input and an own ship that is not ready come first, even while a
     promise lasts."""
     if cause is Cause.STALE:
         return State.STALE

@@ -1,1 +1,1 @@
-"""The one runner of the program."""
+"""Finds and runs the program, for all tools."""

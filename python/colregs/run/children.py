@@ -1,7 +1,7 @@
-"""Processes that end with the command that started them, whatever ends it: each has a process group, and a shell beside
-the command kills those left.
+"""Child processes that always end with the command that started them: each has a process group, and a shell kills the
+groups that are left.
 
-The shell reads the groups from a pipe that only the command holds open, so it also notices a command that is killed.
+The shell reads the groups from a pipe that only the command holds open, so it also notices if the command is killed.
 """
 import os
 import signal
@@ -22,7 +22,7 @@ for group in $groups; do kill -s KILL -- "-$group" 2>/dev/null; done
 
 
 class Children:
-    """The process groups that a command has started, and the shell that watches over them."""
+    """The process groups that a command has started, and the shell that watches them."""
 
     def __init__(self) -> None:
         self.lock = threading.Lock()
@@ -41,7 +41,7 @@ class Children:
         return child
 
     def ended(self, child: "subprocess.Popen[bytes]") -> None:
-        """Notes that a child was waited for."""
+        """Notes that a child has ended and was waited for."""
         with self.lock:
             self.groups.discard(child.pid)
             self.tell("end", child.pid)
@@ -56,7 +56,7 @@ class Children:
             self.watch.stdin.write(f"{word} {group}\n".encode())
             self.watch.stdin.flush()
         except OSError:
-            # somebody killed the shell: then a killed command leaves its children
+            # something killed the shell: if the command is killed too, its children stay
             pass
 
     def run(self, words: list[str], **streams: Any) -> "subprocess.CompletedProcess[bytes]":
@@ -76,7 +76,7 @@ class Children:
                 try:
                     os.killpg(group, signal.SIGKILL)
                 except ProcessLookupError:
-                    pass                                    # it has ended, and nobody has waited for it yet
+                    pass                                    # it has ended but was not waited for yet
 
 
 CHILDREN = Children()

@@ -1,4 +1,4 @@
-"""Pipelines of processes: the files of a log, decompressed and cut, into the program."""
+"""Pipelines of processes that decompress and cut the files of a log and feed them to the program."""
 import os
 import shlex
 import subprocess
@@ -11,32 +11,32 @@ from colregs.io.packing import packing
 from colregs.run.children import CHILDREN
 from colregs.run.program import TOP
 
-# the folder in which the package lies
+# the parent folder of the package
 PACKAGE = os.path.dirname(os.path.dirname(os.path.dirname(os.path.abspath(__file__))))
 READERS = {"plain": "cat --", "gzip": "gzip -dc --", "xz": "xz -dc --", "bzip2": "bzip2 -dc --", "zstd": "zstd -dcq --"}
 TOOL = os.path.join(TOP, "tools", "colregs-many")
 
 
 def reader(files: list[str]) -> str:
-    """Returns the shell's command that writes these files, unpacked, one after the other."""
+    """Returns a shell command that writes these files, decompressed, one after the other."""
     words = []
     for name in files:
         kind = packing(name)
         if kind not in READERS:
-            raise Fault(f"{name} is compressed by {kind}: decompress it, or make a log of it by tools/colregs-tagged")
+            raise Fault(f"{name} is compressed by {kind}: decompress it, or convert it with tools/colregs-tagged")
         words.append(f"{READERS[kind]} {shlex.quote(os.path.abspath(name))}")
     return "{ " + " && ".join(words) + "; }"
 
 
 def module(name: str, argument: str) -> list[str]:
-    """Returns the command that runs `main` of a module of this package as a process of its own, which starts fast."""
+    """Returns a command that runs `main` of a module of this package in a new process, which starts fast."""
     code = f"import sys; sys.path.insert(0, {PACKAGE!r}); from colregs.{name} import main; main()"
     return [sys.executable, "-S", "-E", "-B", "-c", code, argument]
 
 
 @dataclass
 class Ended:
-    """How a run ended: its status, its line on standard error, and whether the log was read to its end."""
+    """The end of a run: its status, its line on standard error, and whether it read the log to its end."""
 
     status: int
     words: str
@@ -44,8 +44,7 @@ class Ended:
 
 
 def piped(command: str, words: list[str], out: BinaryIO, error: BinaryIO) -> Ended:
-    """Runs the program after a command of the shell that writes its log; what the shell says goes to the file
-    `error`."""
+    """Runs the program on the output of a shell command; the shell's messages go to the file `error`."""
     log = CHILDREN.started(["bash", "-c", "set -o pipefail; " + command], stdout=subprocess.PIPE, stderr=error)
     with log:
         done = CHILDREN.run(words, stdin=log.stdout, stdout=out, stderr=subprocess.PIPE)

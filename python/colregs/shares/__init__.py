@@ -1,1 +1,1 @@
-"""Long audits in shares: plans, runs, and the join of their reports."""
+"""Splits a long audit into shares: plans them, runs them, and joins their reports."""

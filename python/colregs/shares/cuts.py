@@ -1,4 +1,4 @@
-"""Writes the log of a share: its files, unpacked and cut by a process of its own."""
+"""Writes the log of a share: a separate process decompresses and cuts its files."""
 import json
 import os
 import shlex
@@ -10,11 +10,11 @@ from colregs.run.children import CHILDREN
 from colregs.run.pipes import module, reader
 from colregs.shares.cutter import Cut
 
-Reads = list[list[list[Any]]]           # of each file, what to do with its bytes (colregs/shares/reads.py)
+Reads = list[list[list[Any]]]           # per file: what to do with its bytes (colregs/shares/reads.py)
 
 
 def write_cut(files: list[str], cut: Cut, folder: str, target: str, words: str, reads: Reads | None = None) -> None:
-    """Writes what a cut leaves of files into a file. With `reads` only the bytes that matter are read."""
+    """Writes the lines that a cut leaves of files into a file. With `reads` it reads only the relevant bytes."""
     spec = os.path.join(folder, "cut.json")
     with open(spec, "w", encoding="utf-8") as text:
         json.dump(cut.told() | ({} if reads is None else {"files": files, "reads": reads}), text)
@@ -25,5 +25,5 @@ def write_cut(files: list[str], cut: Cut, folder: str, target: str, words: str, 
                             stdin=subprocess.DEVNULL, stdout=out, stderr=subprocess.PIPE)
     if done.returncode:
         said = done.stderr.decode("utf-8", "replace").strip().splitlines()
-        raise Fault(f"{words}: its files were not read to their end: "
+        raise Fault(f"{words}: cannot read its files to the end: "
                     f"{said[-1] if said else f'status {done.returncode}'}")

@@ -1,9 +1,9 @@
-"""Cuts a share's log out of the lines of its files. It runs as a process of its own: `cutter` on standard input, with a
+"""Cuts a share's log out of the lines of its files. It runs as a separate process: `cutter` on standard input, with a
 Cut as JSON.
 
-A window of a longer log is read as the whole log reads it: lines outside its window of lines go, with those that have
-no stamp of their own and take their time from such a line, and with those that are late by a stamp behind the window's
-end. Before the first line stand the ship types that were reported before.
+The cut log gives the same lines to the program as the whole log does. It omits lines outside the window of lines, lines
+without a stamp that take their time from such a line, and lines that a stamp after the window's end makes late. It
+begins with the ship types that were reported earlier.
 """
 import dataclasses
 import json
@@ -20,12 +20,12 @@ from colregs.shares.reads import COPY, LINES, SEEK, SKIP, Ended, Read, lines_wit
 
 @dataclass
 class Cut:
-    """Says what of a log is a share's.
+    """Selects a share's part of a log.
 
     `first` and `last` bound the share's window of lines in seconds, `begin` and `end` that of the whole audit. `time`
     and `clock` are the last stamp before the files, and the greatest one that counts. `types` are ship types to begin
-    with. `vessels`, or `part` as a place and a count, are the vessels whose lines are left; if neither is given, all
-    are.
+    with. The cut leaves the lines of `vessels`, or of the vessels of `part`, an index and a count; without both it
+    leaves all lines.
     """
 
     first: int
@@ -40,7 +40,7 @@ class Cut:
     part: tuple[int, int] | None = None
 
     def told(self) -> dict[str, Any]:
-        """Returns the cut as JSON can hold it."""
+        """Returns the cut as values for JSON."""
         return dataclasses.asdict(self)
 
     def text(self) -> str:
@@ -49,24 +49,24 @@ class Cut:
 
 
 def typed_lines(types: Mapping[str, int], at: int) -> Iterator[bytes]:
-    """Yields a message 24 for each ship type that was reported before a window, stamped at the beginning of its
-    lines."""
+    """Yields a message 24 for each ship type that was reported before a window, with the time of its first lines."""
     for mmsi, kind in sorted(types.items()):
         yield block(max(0, at)) + sentence(hull_part(int(mmsi), kind, (0, 0, 0, 0))) + b"\n"
 
 
 class Cutting:
-    """Cuts lines to a window, as the whole log has them. What is skipped or copied unread only moves its clock."""
+    """Cuts lines to a window so that they have the same times as in the whole log. Bytes that are skipped or copied
+    only move the clock."""
 
     def __init__(self, cut: Cut) -> None:
         self.cut, self.time, self.clock = cut, cut.time, cut.clock
-        self.shown: int | None = None                   # the time of the last line that was left
+        self.shown: int | None = None                   # the time of the last line in the cut
 
     def lines(self, lines: Iterable[bytes]) -> Iterator[bytes]:
-        """Yields the lines of the window. Lines with the tag block of the line before fare as that did."""
+        """Yields the lines of the window. A line with the same tag block as the line before is treated like it."""
         cut, time, clock, shown = self.cut, self.time, self.clock, self.shown
         first, last, begin, end, slack = cut.first, cut.last, cut.begin, cut.end, cut.slack
-        tag, kept = b"\n", False                        # only an empty line begins with this, and it changes nothing
+        tag, kept = b"\n", False                        # only an empty line begins so, and it changes nothing
         for line in lines:
             if line.startswith(tag) and len(line) <= LONGEST:
                 if kept:
@@ -81,7 +81,7 @@ class Cutting:
                     clock = stamp
             if time is None:
                 if first == begin:
-                    yield line                          # its time is the start of the whole, which is this window's
+                    yield line                          # its time is the start of the whole audit and of this window
                 continue
             kept = first <= time <= last and not late
             if kept:
@@ -92,7 +92,7 @@ class Cutting:
         self.time, self.clock, self.shown = time, clock, shown
 
     def passed(self, read: Read) -> None:
-        """Notes that bytes were skipped, or copied as they are."""
+        """Notes that bytes were skipped or copied unchanged."""
         self.time = self.time if read.last is None else read.last
         self.clock = max((at for at in (self.clock, read.clock) if at is not None), default=None)
         if read.what == COPY:
@@ -100,12 +100,12 @@ class Cutting:
 
 
 def cut_lines(lines: Iterable[bytes], cut: Cut) -> Iterator[bytes]:
-    """Yields the lines of the window, as the whole log has them."""
+    """Yields the lines of the window, with the same times as in the whole log."""
     yield from Cutting(cut).lines(lines)
 
 
 def cut_files(files: list[str], reads: list[list[Read]], cut: Cut) -> Iterator[bytes]:
-    """Yields the lines of the window from files, given the bytes that matter; those that are copied come in pieces."""
+    """Yields the lines of the window from files, given the relevant bytes; copied bytes come in chunks."""
     cutting = Cutting(cut)
     for path, of_file in zip(files, reads):
         begin = of_file[0].size if of_file and of_file[0].what == SEEK else 0
@@ -118,7 +118,7 @@ def cut_files(files: list[str], reads: list[list[Read]], cut: Cut) -> Iterator[b
 
 
 def read_file(source: BinaryIO, reads: list[Read], cutting: Cutting) -> Iterator[bytes]:
-    """Yields what is left of a file."""
+    """Yields the cut of a file."""
     for read in reads:
         if read.what == LINES:
             yield from cutting.lines(lines_within(source, read.size))
@@ -131,7 +131,7 @@ def read_file(source: BinaryIO, reads: list[Read], cutting: Cutting) -> Iterator
 
 
 def lines_of(pieces_: Iterable[bytes]) -> Iterator[bytes]:
-    """Yields the lines of pieces that end anywhere, also within a line."""
+    """Yields the lines of chunks that may end within a line."""
     rest = b""
     for piece in pieces_:
         *whole, rest = (rest + piece).split(b"\n")
@@ -147,22 +147,22 @@ def share_lines(lines: Iterable[bytes], cut: Cut) -> Iterator[bytes]:
 
 
 def share_of_files(files: list[str], reads: list[list[Read]], cut: Cut) -> Iterator[bytes]:
-    """Yields the whole log of a share from files, given the bytes that matter."""
+    """Yields the whole log of a share from files, given the relevant bytes."""
     yield from typed_lines(cut.types, cut.first)
     left = cut_files(files, reads, cut)
     yield from left if cut.vessels is None and cut.part is None else sifted(lines_of(left), cut)
 
 
 def sifted(left: Iterable[bytes], cut: Cut) -> Iterator[bytes]:
-    """Yields the lines of the vessels that are the share's."""
+    """Yields the lines of the share's vessels."""
     if cut.vessels is not None:
         return Sieve(set(cut.vessels).__contains__, cut.slack).left(left)
     return Sieve(part_of(*cut.part), cut.slack).left(left) if cut.part is not None else iter(left)
 
 
 def main() -> None:
-    """Writes the share's log to standard output; the Cut is in the file that is the one argument, perhaps with the
-    files and what to read of them."""
+    """Writes the share's log to standard output. The only argument is a file with the Cut, and optionally the files and
+    their reads."""
     with open(sys.argv[1], encoding="utf-8") as source:
         told = json.load(source)
     files, reads = told.pop("files", None), told.pop("reads", None)
@@ -174,5 +174,5 @@ def main() -> None:
     try:
         sys.stdout.buffer.writelines(log)
     except Ended:
-        sys.exit("a file ended before what was planned of it")
+        sys.exit("a file is shorter than when the share was planned; plan again")
     sys.stdout.buffer.flush()

@@ -1,5 +1,5 @@
-"""Runs the jobs of a list on other engines: GNU parallel, a Slurm array, or Dask. Each runs `colregs-many one` for each
-job that has no result."""
+"""Runs the jobs of a list on other engines: GNU parallel, a Slurm array, or Dask. Each engine runs `colregs-many one`
+per job without a result."""
 import concurrent.futures
 import importlib
 import os
@@ -17,17 +17,17 @@ from colregs.run.children import CHILDREN
 from colregs.run.pipes import TOOL
 from colregs.shares.jobs import Job, Kept, Need
 
-MOST_TASKS = 1000                       # of an array: MaxArraySize is 1001 unless a cluster sets it
-MEMORY, MINUTES = 512, 240              # MB and minutes of a job as long as none was measured
+MOST_TASKS = 1000                       # tasks of an array: MaxArraySize is 1001 by default
+MEMORY, MINUTES = 512, 240              # MB and minutes of a job before one was measured
 TERMINATED = 0.5                        # s between two signals to GNU parallel
-SCHEDULER = 10                          # s in which a Dask scheduler has to answer
-SPARE = 64                              # MB for the tool itself; memory is asked for in steps of this
+SCHEDULER = 10                          # s: the time limit for a Dask scheduler to answer
+SPARE = 64                              # MB for the tool itself; memory requests are multiples of it
 MAX_ARRAY_SIZE = re.compile(r"^MaxArraySize\s*=\s*(\d+)", re.M)
 
 
 @dataclass(frozen=True)
 class Commands:
-    """The commands that run the jobs of a list, one each, on any machine that sees the files under the same names."""
+    """The commands that run one job of a list each, on any machine that sees the files under the same names."""
 
     path: str
     kept: str
@@ -47,13 +47,13 @@ class Commands:
 
 
 def without_result(jobs: list[Job], kept: Kept) -> list[int]:
-    """Returns the numbers of the jobs that have no result, from 1 on."""
+    """Returns the numbers of the jobs without a result, counted from 1."""
     return [number for number, job in enumerate(jobs, 1) if not kept.has(job)]
 
 
 def by_parallel(lines: list[str], log: str, processes: int, hosts: str | None) -> None:
-    """Runs commands by GNU parallel, which writes a list of those that ended into the file `log`. Which jobs run is
-    decided by their results alone."""
+    """Runs commands with GNU parallel, which writes those that ended to the file `log`. That log does not decide which
+    jobs run; only their results do."""
     if not shutil.which("parallel"):
         raise Fault("GNU parallel is not installed (Debian package parallel); without --parallel the jobs run in "
                     "threads")
@@ -62,7 +62,7 @@ def by_parallel(lines: list[str], log: str, processes: int, hosts: str | None) -
     try:
         child.communicate("".join(line + "\n" for line in lines).encode())
     except KeyboardInterrupt:
-        # at the first it starts no more jobs, and at the second it ends those that run
+        # the first signal stops it from starting jobs, and the second ends the running ones
         for _ in range(2):
             child.terminate()
             time.sleep(TERMINATED)
@@ -73,10 +73,10 @@ def by_parallel(lines: list[str], log: str, processes: int, hosts: str | None) -
 
 
 def by_dask(commands: Commands, numbers: list[int], address: str) -> list[str]:
-    """Runs jobs on the workers of a Dask scheduler; returns why jobs failed. A job whose worker dies runs on another
-    one.
+    """Runs jobs on the workers of a Dask scheduler; returns why jobs failed. If a worker dies, another one runs its
+    job.
 
-    Workers need no package of ours: each runs the command of a job as a process.
+    Workers do not need this package: each runs the command of a job as a process.
     """
     try:
         distributed: Any = importlib.import_module("distributed")
@@ -99,7 +99,7 @@ def faults_of(future: Any, number: int) -> Iterator[str]:
     try:
         done = future.result()
     except (Exception, concurrent.futures.CancelledError) as error:
-        yield f"job {number} did not run: {type(error).__name__}: {error}"
+        yield f"job {number} failed to start: {type(error).__name__}: {error}"
         return
     if done.returncode:
         said = done.stderr.decode("utf-8", "replace").strip().splitlines()
@@ -108,7 +108,7 @@ def faults_of(future: Any, number: int) -> Iterator[str]:
 
 @dataclass(frozen=True)
 class Limits:
-    """What Slurm gives each task, and how many tasks an array has at most."""
+    """The resources that Slurm gives each task, and the greatest number of tasks in an array."""
 
     megabytes: int
     minutes: int
@@ -116,8 +116,8 @@ class Limits:
 
 
 def limits_of(needs: Iterable[Need], tasks: int | None) -> Limits:
-    """Returns limits by what jobs needed so far: twice the memory and four times the seconds. `tasks` is None for the
-    cluster's own number."""
+    """Returns limits from the needs of jobs so far: twice the memory and four times the seconds. `tasks` is None for
+    the cluster's own number."""
     known = list(needs)
     if not known:
         return Limits(MEMORY, MINUTES, tasks or most_tasks())
@@ -127,8 +127,7 @@ def limits_of(needs: Iterable[Need], tasks: int | None) -> Limits:
 
 
 def most_tasks() -> int:
-    """Returns how many tasks an array of this cluster has at most, or Slurm's own number if there is no cluster
-    here."""
+    """Returns the greatest number of tasks in an array of this cluster, or Slurm's default without a cluster."""
     if not shutil.which("scontrol"):
         return MOST_TASKS
     try:
@@ -141,7 +140,7 @@ def most_tasks() -> int:
 
 
 def slurm(commands: Commands, numbers: list[int], limits: Limits) -> str:
-    """Returns a script that hands these jobs to Slurm, in arrays of at most `limits.tasks` tasks, one job each."""
+    """Returns a script that submits these jobs to Slurm in arrays of at most `limits.tasks` tasks, one job each."""
     task = shlex.join(commands.words("NUMBER")).replace(" NUMBER ", ' "$((SLURM_ARRAY_TASK_ID + $1))" ')
     parts: dict[int, list[int]] = {}
     for number in numbers:
@@ -149,7 +148,7 @@ def slurm(commands: Commands, numbers: list[int], limits: Limits) -> str:
         parts.setdefault(first, []).append(number - first)
     arrays = [f'  sbatch --array={ranges(places)} "$0" {first} || exit' for first, places in parts.items()]
     return "\n".join([
-        "#!/bin/sh", "# `sh` or `sbatch` runs this script, which hands its jobs to Slurm in arrays.",
+        "#!/bin/sh", "# Run this script with `sh` or `sbatch`: it submits its jobs to Slurm in arrays.",
         "#SBATCH --job-name=colregs", "#SBATCH --cpus-per-task=1", f"#SBATCH --mem={limits.megabytes}M",
         f"#SBATCH --time={limits.minutes}", "#SBATCH --requeue", "#SBATCH --open-mode=append",
         f"#SBATCH --output={os.path.join(os.path.abspath(commands.kept), 'slurm.out')}",
@@ -158,7 +157,7 @@ def slurm(commands: Commands, numbers: list[int], limits: Limits) -> str:
 
 
 def ranges(numbers: list[int]) -> str:
-    """Returns ascending numbers as Slurm writes them, as 1-5,8."""
+    """Returns ascending numbers in Slurm's notation, such as 1-5,8."""
     found: list[list[int]] = []
     for number in numbers:
         if found and found[-1][1] == number - 1:

@@ -1,20 +1,20 @@
-"""Whether two windows judge a vessel's reports alike: by the reports that each accepts about the beginning of the later
-one.
+"""Finds from when on two windows accept the same reports of a vessel, by the reports that each accepts around the start
+of the later window.
 
-What is accepted depends on the last accepted report before it alone (docs/LOG.md). So from a report on that both accept
-they accept the same.
+Whether the program accepts a report depends only on the last accepted report before it (docs/LOG.md). So from the first
+report that both accept, they accept the same ones.
 """
 from colregs.shares.results import Check
 
-STRADDLE = 30           # s: parts of a message, and a repeated report, lie no farther apart
+STRADDLE = 30           # s: the greatest time between parts of a message, and between a report and its repetition
 
 
 def agreed_from(earlier: list[Check], later: list[Check], begin: int, end: int, gap: int, lost: bool) -> int | None:
-    """Returns the time from which on two windows accept the same reports of a vessel; None if that is not known.
+    """Returns the time from which two windows accept the same reports of a vessel; None if it is unknown.
 
-    `earlier` and `later` are what each accepts from `begin`, where the later window's lines begin, to `end`. `lost`
-    says that the earlier one is not known to accept what the whole does: then the two only agree after a silence, after
-    which a report is accepted whatever came before it.
+    `earlier` and `later` are the accepted reports of each from `begin`, the start of the later window's lines, to
+    `end`. `lost` means that the earlier window may accept other reports than the whole audit. Then the two agree only
+    after a silence, because the program accepts the next report whatever came before it.
     """
     silence = max(gap, STRADDLE)
     first = later[0][0] if later else end + 1
@@ -34,6 +34,6 @@ def previous(checks: list[Check], at: int) -> Check | None:
 
 
 def is_repeat(before: Check | None, at: int, rest: str) -> bool:
-    """Returns whether a report shows the same as the one before so soon that it may be a repeat of one that differs in
-    what is not shown."""
+    """Returns whether a report has the same shown fields as the one before and follows so soon that it may repeat a
+    report that differs in other fields."""
     return before is not None and before[1] == rest and at - before[0] <= STRADDLE

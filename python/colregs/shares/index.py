@@ -1,5 +1,4 @@
-"""Stores what a plan reads of each file of an archive, so that the next plan reads only files that are new or
-changed."""
+"""Caches what a plan reads from each file of an archive, so that the next plan reads only new or changed files."""
 import hashlib
 import json
 import os
@@ -13,7 +12,7 @@ VERSION = 2             # of the stored form
 
 
 class Index:
-    """What is stored of each file: in a folder, under the sum of its path, or in a hidden file beside it."""
+    """The cached data of each file: in a folder, under the hash of its path, or in a hidden file next to it."""
 
     def __init__(self, folder: str | None) -> None:
         self.folder, self.unwritable = folder, set[str]()
@@ -21,16 +20,16 @@ class Index:
             try:
                 os.makedirs(folder, exist_ok=True)
             except OSError as error:
-                raise Fault(f"{folder} cannot be written: {reason(error)}; give another folder with --index") from None
+                raise Fault(f"cannot write {folder}: {reason(error)}; give another folder with --index") from None
 
     def name(self, path: str) -> str:
-        """Returns where what is known of a file is stored."""
+        """Returns the path of a file's cached data."""
         if self.folder is None:
             return os.path.join(os.path.dirname(path), f".{os.path.basename(path)}.colregs-index")
         return os.path.join(self.folder, hashlib.sha256(os.path.realpath(path).encode()).hexdigest()[:32] + ".json")
 
     def span(self, path: str, until: int | None) -> Span:
-        """Returns the span of a file; stamps after `until` count as none of its times."""
+        """Returns the span of a file, without stamps after `until`."""
         name, state = self.name(path), state_of(path)
         span = stored(name, path, state)
         if span is None:
@@ -38,37 +37,37 @@ class Index:
             self.store(name,
                        {"version": VERSION, "state": state, "span": asdict(span) | {"path": os.path.basename(path)}})
         if until is not None and any(least <= until < greatest for _, least, greatest in span.hours.values()):
-            return read_span(path, until)               # the hours do not say which stamps of this one count
+            return read_span(path, until)               # hours do not show which stamps are after `until`
         if until is not None:
             span.hours = {hour: told for hour, told in span.hours.items() if told[1] <= until}
         return span
 
     def store(self, name: str, told: dict[str, object]) -> None:
-        """Stores what was read of a file. If the folder of the files cannot be written, it reports so once, and the
-        next plan reads them again."""
+        """Stores the data of a file. If the folder of the files is read-only, it reports this once, and the next plan
+        reads them again."""
         folder = os.path.dirname(name)
         try:
             replace(name, json.dumps(told).encode())
         except OSError as error:
             if self.folder is not None:
-                raise Fault(f"{folder} cannot be written: {reason(error)}; give another folder with --index") from None
+                raise Fault(f"cannot write {folder}: {reason(error)}; give another folder with --index") from None
             if folder not in self.unwritable:
                 self.unwritable.add(folder)
-                report("many", f"{folder} cannot be written, so the next plan reads its files again: --index names a "
-                               "folder for what was read")
+                report("many", f"cannot write {folder}, so the next plan reads its files again; name another "
+                               "folder with --index")
 
 
 def state_of(path: str) -> list[int]:
-    """Returns the size of a file and when it was changed."""
+    """Returns the size of a file and its time of change."""
     try:
         about = os.stat(path)
     except OSError as error:
-        raise Fault(f"{path} cannot be read: {reason(error)}") from None
+        raise Fault(f"cannot read {path}: {reason(error)}") from None
     return [about.st_size, about.st_mtime_ns]
 
 
 def stored(name: str, path: str, state: list[int]) -> Span | None:
-    """Returns the span that is stored for a file in this state; None if there is none, or it cannot be read."""
+    """Returns the cached span of a file in this state; None if there is none or it is unreadable."""
     try:
         with open(name, encoding="utf-8") as source:
             told = json.load(source)

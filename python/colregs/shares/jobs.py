@@ -1,4 +1,4 @@
-"""Shares of a long audit: jobs as JSON lines, each a window, perhaps with a group of subjects and a tile, and the
+"""Shares of a long audit: jobs as JSON lines, each a window, optionally with a group of subjects and a tile; and the
 folder of their results."""
 import hashlib
 import json
@@ -22,14 +22,14 @@ KEYS = {
     "reads": list
 }
 NEEDED = ("files", "scenario", "start", "ticks")
-CHECKSUM = b"sum,"                  # begins the last line of a result: the SHA-256 of all lines before it
+CHECKSUM = b"sum,"                  # start of the last line of a result: the SHA-256 of all lines before it
 NEED = re.compile(rb"^need,(\d+),(\d+)$", re.M)
-TAIL = 200                          # bytes at the end of a result that hold its need and its sum
+TAIL = 200                          # bytes at the end of a result, enough for its need and its checksum
 
 
 @dataclass(frozen=True)
 class Need:
-    """What a job needed: elapsed seconds, and the kilobytes of its largest process."""
+    """The resources that a job needed: elapsed seconds, and the kilobytes of its largest process."""
 
     seconds: int
     kilobytes: int
@@ -41,12 +41,13 @@ class Need:
 
 @dataclass
 class Job:
-    """One share, as its line says. `plan` makes the second half of the keys; they tie a window to the whole audit.
+    """One share, with the keys of its line. `plan` adds the second half of the keys, which tie a window to the whole
+    audit.
 
-    `sums` are the SHA-256 of the files. `whole` is the first and the last second of the whole audit's window of lines.
-    `before` is the last stamp before the files and the greatest that counts. The accepted reports in the stretches of
-    time `heads` are stored for the join. `types` are ship types that were reported before, and `unsure` the vessels
-    whose type is not certain. `reads` is what to do with the bytes of each file.
+    `sums` are the SHA-256 of the files. `whole` has the first and the last second of the whole audit's window of lines.
+    `before` has the last stamp before the files and the greatest that counts. A run stores the accepted reports in the
+    spans of time `heads` for the join. `types` are ship types that were reported earlier, and `unsure` the vessels
+    whose type is uncertain. `reads` says what to do with the bytes of each file.
     """
 
     files: list[str]
@@ -68,9 +69,9 @@ class Job:
     def __post_init__(self) -> None:
         wrong = [name for name, good in self.forms() if not good]
         if wrong:
-            raise ValueError(f"`{wrong[0]}` has a value of another kind")
+            raise ValueError(f"`{wrong[0]}` has a value of the wrong type")
         if not self.files:
-            raise ValueError("there are no files")
+            raise ValueError("`files` is empty")
         if not (0 < self.ticks <= MOST_TICKS and self.start >= 0):
             raise ValueError(f"a window has a start, and 1 to {MOST_TICKS} ticks")
         if self.subjects is not None and not 0 < len(self.subjects) <= MOST_SUBJECTS:
@@ -85,7 +86,7 @@ class Job:
             raise ValueError("`before` and `whole` are two numbers each")
 
     def forms(self) -> Iterator[tuple[str, bool]]:
-        """Yields the names of the keys that hold lists, and whether all values in them are of their kind."""
+        """Yields the names of the keys with lists, and whether all their items have the right type."""
         yield "files", all(isinstance(name, str) for name in self.files)
         yield "sums", all(isinstance(sum_, str) for sum_ in self.sums or [])
         for name, values in (("subjects", self.subjects), ("vessels", self.vessels), ("whole", self.whole),
@@ -98,11 +99,11 @@ class Job:
         yield "tile", all(edge is None or isinstance(edge, (int, float)) for edge in self.tile or [])
 
     def options(self) -> list[str]:
-        """Returns the program's options for the window."""
+        """Returns the program's options for the window of the job."""
         return [f"--start={self.start}", f"--ticks={self.ticks}"]
 
     def window(self) -> tuple[int, int]:
-        """Returns the start in seconds, and the ticks."""
+        """Returns the start of the window in seconds, and its ticks."""
         return self.start, self.ticks
 
     def is_part(self, scenario: Scenario) -> bool:
@@ -114,7 +115,7 @@ class Job:
         return self.start - scenario.gap, self.start + self.ticks * scenario.tick + scenario.gap
 
     def cut(self, scenario: Scenario) -> Cut | None:
-        """Returns what of the files' lines is the share's log; None if it is all of them."""
+        """Returns the cut of the files' lines that makes the share's log; None if it uses all lines."""
         if not self.is_part(scenario) and self.vessels is None:
             return None
         first, last = self.lines(scenario)
@@ -125,7 +126,7 @@ class Job:
         return Cut(first, last, begin, end, scenario.slack, self.before[0], self.before[1], types, self.vessels)
 
     def words(self) -> str:
-        """Returns the share in words, for a message."""
+        """Returns a description of the share for a message."""
         group = "" if self.subjects is None else f", {len(self.subjects)} subjects from {self.subjects[0]} on"
         tile = "" if self.tile is None else f", tile {self.tile}"
         return f"the share of {self.ticks} ticks from {self.start}{group}{tile}"
@@ -137,15 +138,14 @@ def are_numbers(values: Iterable[Any]) -> bool:
 
 
 def are_reads(of_file: Any) -> bool:
-    """Returns whether a value says what to do with the bytes of a file."""
+    """Returns whether a value is a list of reads of a file."""
     return isinstance(of_file, list) and all(
         isinstance(read, list) and len(read) == 4 and read[0] in (SEEK, SKIP, COPY, LINES)
         and are_numbers([read[1], *(at for at in read[2:] if at is not None)]) for read in of_file)
 
 
 def job_of(told: Any, folder: str = ".") -> Job:
-    """Returns the job of a JSON object, with the names of its files by a folder; a ValueError says what is wrong with
-    it."""
+    """Returns the job of a JSON object, with its file names relative to a folder. Raises ValueError if it is wrong."""
     if not isinstance(told, dict):
         raise ValueError("no object")
     wrong = [key for key, value in told.items() if key not in KEYS or not isinstance(value, KEYS[key])]
@@ -160,14 +160,14 @@ def job_of(told: Any, folder: str = ".") -> Job:
 
 
 def numbered_lines(path: str) -> Iterator[tuple[int, bytes]]:
-    """Yields the lines of a list of jobs that are not empty, each with its number."""
+    """Yields the non-empty lines of a list of jobs, each with its number."""
     try:
         with open(path, "rb") as source:
             for number, line in enumerate(source, 1):
                 if line.strip():
                     yield number, line
     except OSError as error:
-        raise Fault(f"{path} cannot be read: {reason(error)}") from None
+        raise Fault(f"cannot read {path}: {reason(error)}") from None
 
 
 def job_of_line(path: str, number: int, line: bytes) -> Job:
@@ -182,27 +182,27 @@ def read_jobs(path: str) -> list[Job]:
     """Returns the jobs of a list, one per line; empty lines are skipped."""
     jobs = [job_of_line(path, number, line) for number, line in numbered_lines(path)]
     if not jobs:
-        raise Fault(f"{path}: it has no job")
+        raise Fault(f"{path}: the list has no job")
     return jobs
 
 
 def read_job(path: str, wanted: int) -> Job:
-    """Returns the job of this number, counted from 1; no other line is read as a job."""
+    """Returns the job of this number, counted from 1; it does not parse other lines."""
     for place, (number, line) in enumerate(numbered_lines(path), 1):
         if place == wanted:
             return job_of_line(path, number, line)
-    raise Fault(f"{path}: there is no job {wanted}")
+    raise Fault(f"{path}: the list has no job {wanted}")
 
 
 class Kept:
-    """The folder of results, each under the sum of what it was made of: files, scenario, options, vessels and
+    """The folder of results. A result's name is the hash of its inputs: files, scenario, options, vessels and
     program."""
 
     def __init__(self, folder: str, program: str) -> None:
         try:
             os.makedirs(folder, exist_ok=True)
         except OSError as error:
-            raise Fault(f"{folder} cannot be written: {reason(error)}; give another folder by --kept") from None
+            raise Fault(f"cannot write {folder}: {reason(error)}; give another folder with --kept") from None
         self.folder, self.programs = folder, programs_of(program)
         self.scenarios: dict[str, Scenario] = {}
         self.sums: dict[str, list[Any]] = {}
@@ -211,15 +211,15 @@ class Kept:
             try:
                 self.sums = dict(json.loads(read_bytes(self.told)))
             except (ValueError, TypeError):
-                pass                                    # they are made again
+                pass                                    # it computes them again
 
     def sum(self, path: str) -> str:
-        """Returns the sum of a file, which is read again if its size or its time is another."""
+        """Returns the hash of a file. It reads the file again if its size or time has changed."""
         path = os.path.realpath(path)
         try:
             about = os.stat(path)
         except OSError as error:
-            raise Fault(f"{path} cannot be read: {reason(error)}") from None
+            raise Fault(f"cannot read {path}: {reason(error)}") from None
         state = [about.st_size, about.st_mtime_ns]
         if self.sums.get(path, [])[:2] != state:
             self.sums[path] = state + [sum_of(path)[0]]
@@ -227,13 +227,13 @@ class Kept:
         return str(self.sums[path][2])
 
     def scenario(self, job: Job) -> Scenario:
-        """Returns the scenario of a job, read once."""
+        """Returns the scenario of a job, which it reads once."""
         if job.scenario not in self.scenarios:
             self.scenarios[job.scenario] = Scenario(job.scenario)
         return self.scenarios[job.scenario]
 
     def file_sums(self, job: Job) -> list[str]:
-        """Returns the sums of a job's files; a Fault names a file that is another than when the job was planned."""
+        """Returns the hashes of a job's files. Raises Fault if a file changed after the job was planned."""
         sums = [self.sum(name) for name in job.files]
         for name, wanted, found in zip(job.files, job.sums or sums, sums):
             if wanted != found:
@@ -241,7 +241,7 @@ class Kept:
         return sums
 
     def key(self, job: Job) -> str:
-        """Returns the sum of all that a job's result depends on."""
+        """Returns the hash of everything that a job's result depends on."""
         scenario = self.scenario(job)
         cut = job.cut(scenario)
         inputs = {
@@ -252,24 +252,24 @@ class Kept:
         return hashlib.sha256(json.dumps(inputs, sort_keys=True).encode()).hexdigest()
 
     def path(self, job: Job) -> str:
-        """Returns the name of a job's result."""
+        """Returns the path of a job's result."""
         return os.path.join(self.folder, self.key(job) + ".csv")
 
     def has(self, job: Job) -> bool:
-        """Returns whether a job's result is there and whole."""
+        """Returns whether a job's result exists and is complete."""
         path = self.path(job)
         return os.path.exists(path) and whole_result(read_bytes(path)) is not None
 
     def keep(self, job: Job, report: bytes) -> None:
-        """Writes a job's result, with its sum as the last line."""
+        """Writes a job's result, with its checksum as the last line."""
         path = self.path(job)
         try:
             replace(path, report + CHECKSUM + hashlib.sha256(report).hexdigest().encode() + b"\n")
         except OSError as error:
-            raise Fault(f"{path} cannot be written: {reason(error)}") from None
+            raise Fault(f"cannot write {path}: {reason(error)}") from None
 
     def need(self, job: Job) -> Need | None:
-        """Returns what a job needed; None if it has no result that says so."""
+        """Returns the resources that a job needed; None if it has no result with them."""
         try:
             with open(self.path(job), "rb") as source:
                 source.seek(-min(TAIL, os.fstat(source.fileno()).st_size), os.SEEK_END)
@@ -279,16 +279,16 @@ class Kept:
         return Need(int(found[1]), int(found[2])) if found else None
 
     def result(self, job: Job) -> str:
-        """Returns a job's result without its sum; a Fault names the file if it is not whole."""
+        """Returns a job's result without its checksum. Raises Fault with the file if it is incomplete."""
         path = self.path(job)
         report = whole_result(read_bytes(path))
         if report is None:
-            raise Fault(f"{path} is damaged or cut off: run the jobs again, which makes it again")
+            raise Fault(f"{path} is damaged or incomplete: run the jobs again to replace it")
         return report.decode("utf-8", "replace")
 
 
 def whole_result(text: bytes) -> bytes | None:
-    """Returns a result without its last line if that is the sum of the others; None otherwise."""
+    """Returns a result without its last line if that is the checksum of the others; None otherwise."""
     begin = text.rfind(b"\n", 0, -1) + 1
     if not text.endswith(b"\n") or text[begin:] != CHECKSUM + hashlib.sha256(text[:begin]).hexdigest().encode() + b"\n":
         return None

@@ -1,9 +1,9 @@
-"""Joins the reports of shares to the rows of one run: groups of subjects, then tiles, then windows, which are read one
-after the other.
+"""Joins the reports of shares to the rows of one run: groups of subjects, then tiles, then windows, one after the
+other.
 
-What is kept of each share, and which rows are marked, is in docs/TRAFFIC_SERVICE.md. A Fault says if shares do not
-cover, or differ in what two of them have to have alike. That unmarked rows are those of one run is tested
-(python/tests/test_joins.py), over the laws of shares, and is not proved.
+docs/TRAFFIC_SERVICE.md says which rows of each share count, and which rows get a mark. The join raises Fault if shares
+leave a gap, or contradict each other. Tests (python/tests/test_joins.py) show that unmarked rows are those of one run;
+this rests on the laws of shares and is not proved.
 """
 import csv
 import io
@@ -23,7 +23,7 @@ MOORED = "subject,other,first,last,least"
 
 @dataclass
 class Summary:
-    """What a join found besides its rows: doubts, meetings of vessels that lie still, and how many rows have which
+    """The findings of a join in addition to its rows: doubts, meetings of vessels at rest, and the number of rows per
     mark."""
 
     doubts: list[Doubt] = field(default_factory=list)
@@ -34,7 +34,7 @@ class Summary:
     marked_under_way: int = 0
 
     def count(self, row: Stretch) -> None:
-        """Counts a row that is written."""
+        """Counts a written row."""
         self.rows += 1
         if row.mark:
             self.marked[row.mark] = self.marked.get(row.mark, 0) + 1
@@ -45,7 +45,7 @@ class Summary:
             self.moored.append(",".join(row.fields[1:3] + row.fields[4:7]))
 
     def doubts_text(self) -> str:
-        """Returns the file of doubts."""
+        """Returns the text of the file of doubts."""
         out = io.StringIO()
         table = csv.writer(out, lineterminator="\n")
         for doubt in sorted(self.doubts):
@@ -55,26 +55,25 @@ class Summary:
         return DOUBTS + "\n" + out.getvalue()
 
     def moored_text(self) -> str:
-        """Returns the file of meetings of vessels that both lie still, each vessel through all windows of the
-        meeting."""
+        """Returns the text of the file of meetings in which both vessels are at rest in all windows of the meeting."""
         return "".join(line + "\n" for line in [MOORED, *self.moored])
 
 
 @dataclass
 class Known:
-    """What vessels said of themselves, in the windows so far."""
+    """The static data that vessels sent in the windows so far."""
 
     told: dict[int, list[str]] = field(default_factory=dict)
 
     def take(self, rows: Rows) -> None:
-        """Takes the vessels of a window; what is not said again stays."""
+        """Adds the vessels of a window; data that is not repeated stays."""
         for mmsi, line in rows.vessels.items():
             said = line.split(",", 2)[2].rsplit(",", 4)[:3]
             known = self.told.get(mmsi, ["", "0", "0"])
             self.told[mmsi] = [new if new not in ("", "0") else old for new, old in zip(said, known)]
 
     def lines(self) -> list[str]:
-        """Returns the vessels' rows, without counts, which overlap."""
+        """Returns the vessels' rows without counts, because the counts of windows overlap."""
         return [f"vessel,{mmsi},{','.join(self.told[mmsi])},," for mmsi in sorted(self.told)]
 
 
@@ -87,21 +86,21 @@ def windows_of(jobs: list[Job]) -> list[tuple[tuple[int, int], list[Job]]]:
 
 
 def check_list(jobs: list[Job], scenario: Scenario) -> None:
-    """Refuses a list of several windows that lacks what ties them."""
+    """Refuses a list of several windows without the data that ties them together."""
     base = min(job.start for job in jobs)
     if any((job.start - base) % scenario.tick for job in jobs):
-        raise Fault("the windows do not begin at ticks of one another: plan them together")
+        raise Fault("the windows do not share their ticks: plan them together")
     if len({tuple(job.whole) if job.whole else None for job in jobs}) > 1 or any(job.whole is None for job in jobs):
-        raise Fault("the windows have no `whole` in common, by which they are joined: `plan` makes a list that has it")
+        raise Fault("the windows have no common `whole`, which the join needs: make the list with `plan`")
     whole = jobs[0].whole or [0, 0]
     begins, ends = base - scenario.gap, max(job.lines(scenario)[1] for job in jobs)
     if (begins, ends) != tuple(whole):
-        raise Fault(f"the windows do not cover the whole: they read from {begins} to {ends}, and the whole goes from "
+        raise Fault(f"the windows do not cover the whole: they read from {begins} to {ends}, but the whole is from "
                     f"{whole[0]} to {whole[1]}")
 
 
 def read_window(shares: list[Job], kept: Kept, scenario: Scenario, rules: list[str]) -> Rows:
-    """Returns the rows of all shares of a window, and checks that they have the same rules as the windows before."""
+    """Returns the rows of all shares of a window. Raises Fault if their rules differ from those of earlier windows."""
     rows = of_window([(job, rows_of(kept.result(job))) for job in shares], scenario,
                      f"the window from {shares[0].start}")
     if not rules:
@@ -112,7 +111,7 @@ def read_window(shares: list[Job], kept: Kept, scenario: Scenario, rules: list[s
 
 
 def joined(jobs: list[Job], kept: Kept, scenario: Scenario, summary: Summary) -> Iterator[str]:
-    """Yields the joined report's lines. Of windows there are two in memory at a time."""
+    """Yields the joined report's lines. It has at most two windows in memory."""
     windows, rules = windows_of(jobs), list[str]()
     if len(windows) == 1:
         rows = read_window(windows[0][1], kept, scenario, rules)
@@ -142,7 +141,7 @@ def window_of(start: int, ticks: int, base: int, last: int, job: Job, rows: Rows
     end = first + ticks
     head = next((head[1] for head in job.heads if head[0] == start - scenario.gap), None)
     if first and head is None:
-        raise Fault(f"{job.words()} has no `heads`, by which windows are compared: `plan` makes a list that has them")
+        raise Fault(f"{job.words()} has no `heads`, which the join needs to compare windows: make the list with `plan`")
     rows.stretches = [row.moved(first) for row in rows.stretches]
     return Window(start, first, end, end if end >= last else first + scenario.settled(ticks), head or start, rows)
 

@@ -1,5 +1,4 @@
-"""Where the vessels of a stretch of time are, by the reports that the program accepts: which of them come near a
-place."""
+"""The places of vessels in a span of time, by the reports that the program accepts, to find the vessels near a tile."""
 import bisect
 import dataclasses
 import os
@@ -15,15 +14,15 @@ from colregs.run.pipes import piped
 from colregs.shares.cuts import Reads, write_cut
 from colregs.shares.cutter import Cut
 
-MOST_PARTS = 64                  # parts of the vessels that are tried if they are too many for one run
-MOST_CUTS = 64                   # places at which a plane is tried to be cut in two
-LONGEST = 600                    # s of a stretch whose places are one box
+MOST_PARTS = 64                  # the most parts into which vessels are split if they are too many for one run
+MOST_CUTS = 64                   # the most candidate places for cutting a plane in two
+LONGEST = 600                    # s: a box has the places of a span of at most this length
 Box = tuple[float, float, float, float]         # west, south, east and north in metres
 Tile = list[float | None]
 
 
 class Track:
-    """The places of a vessel: a box for each ten minutes, with the ways from one report to the next, and its first and
+    """The places of a vessel: one box per ten minutes, which includes the lines between reports, with its first and
     last time."""
 
     def __init__(self) -> None:
@@ -31,7 +30,7 @@ class Track:
         self.last: tuple[int, float, float] | None = None
 
     def take(self, at: int, x: float, y: float, gap: int) -> None:
-        """Takes a report, in the order of times."""
+        """Adds a report; reports come in the order of times."""
         before, self.last = self.last, (at, x, y)
         if before is None or at - before[0] > gap:
             self.begin(at, at, x, y, x, y)
@@ -47,7 +46,7 @@ class Track:
         self.boxes.extend(box)
 
     def within(self, first: int, last: int) -> Iterator[Box]:
-        """Yields the boxes that have a time of these seconds."""
+        """Yields the boxes that overlap these seconds."""
         for k in range(bisect.bisect_left(self.times[1::2], first), len(self.times) // 2):
             if self.times[2 * k] > last:
                 return
@@ -56,7 +55,7 @@ class Track:
 
 
 class Points:
-    """The tracks of a stretch of time, by the reports that the program accepts."""
+    """The tracks of a span of time, by the reports that the program accepts."""
 
     def __init__(self, files: list[str], scenario: Scenario, cut: Cut, window: tuple[int, int], program: str,
                  reads: Reads | None = None) -> None:
@@ -71,7 +70,7 @@ class Points:
 
     def read(self, files: list[str], scenario: Scenario, cut: Cut, window: tuple[int, int], program: str, parts: int,
              reads: Reads | None) -> bool:
-        """Reads the points, the vessels in so many parts; returns False if a part meets a limit."""
+        """Reads the points with the vessels split into `parts`; returns False if a part exceeds a limit."""
         self.tracks = {}
         options = [f"--start={window[0]}", f"--ticks={window[1]}"]
         for k in range(parts):
@@ -83,12 +82,12 @@ class Points:
                 if done.status == STATUS:
                     return False
                 if done.status != 0:
-                    raise Fault(f"`points` of the files ends with status {done.status}, {done.words}")
+                    raise Fault(f"`points` of the files ended with status {done.status}, {done.words}")
                 self.take(points)
         return True
 
     def take(self, name: str) -> None:
-        """Takes the rows of a file."""
+        """Adds the rows of a file."""
         with open(name, encoding="utf-8") as source:
             for line in source:
                 if line.startswith("point,"):
@@ -96,26 +95,26 @@ class Points:
                     self.tracks.setdefault(int(mmsi), Track()).take(int(at), int(x) / 10000, int(y) / 10000, self.gap)
 
     def within(self, first: int, last: int) -> list[int]:
-        """Returns who may report in these seconds."""
+        """Returns the vessels that may report in these seconds."""
         return sorted(mmsi for mmsi, track in self.tracks.items() if any(True for _ in track.within(first, last)))
 
     def near(self, vessels: Iterable[int], tile: Tile, lines: tuple[int, int], margin: float) -> list[int]:
-        """Returns which of these vessels come within a margin of a tile in these seconds."""
+        """Returns the vessels among these that come within a margin of a tile in these seconds."""
         return [
             mmsi for mmsi in vessels
             if mmsi in self.tracks and any(meets(box, tile, margin) for box in self.tracks[mmsi].within(*lines))
         ]
 
     def cuts(self, axis: int, count: int) -> list[int]:
-        """Returns where to cut so that about as many places lie in each piece: from west to east for axis 0, from south
-        to north for 1."""
+        """Returns where to cut so that each part has about the same number of places: from west to east for axis 0,
+        from south to north for axis 1."""
         places = sorted(middle for track in self.tracks.values()
                         for middle in map(mean, track.boxes[axis::4], track.boxes[axis + 2::4]))
         return sorted({round(places[len(places) * k // count]) for k in range(1, count)}) if places else []
 
     def halves(self, vessels: list[int], lines: tuple[int, int], margin: float) -> list[list[int]]:
-        """Returns these vessels in two lists: those who come near the one half of the plane, and near the other;
-        vessels in contact are in one of them."""
+        """Returns two lists of these vessels: those near the one half of the plane, and those near the other. Two
+        vessels in contact are together in one of the lists."""
         hulls = [hull for mmsi in vessels if (hull := hull_of(self.tracks[mmsi].within(*lines)))]
         ways = [(max(sum(hull[axis] <= cut + margin
                          for hull in hulls), sum(hull[axis + 2] >= cut - margin
@@ -131,13 +130,13 @@ class Points:
 
 
 def hull_of(boxes: Iterable[Box]) -> Box | None:
-    """Returns the box about boxes; None if there is none."""
+    """Returns the bounding box of boxes; None without boxes."""
     sides = list(zip(*boxes))
     return (min(sides[0]), min(sides[1]), max(sides[2]), max(sides[3])) if sides else None
 
 
 def between(places: list[float]) -> list[float]:
-    """Returns where to try to cut: in the middle between places, at most MOST_CUTS of them."""
+    """Returns candidate cuts: midpoints between places, at most MOST_CUTS of them."""
     order = sorted(set(places))
     chosen = order[::1 + len(order) // MOST_CUTS]
     return [mean(*pair) for pair in zip(chosen, chosen[1:])]
@@ -149,7 +148,7 @@ def mean(one: float, other: float) -> float:
 
 
 def part_of(cut: Cut, k: int, parts: int) -> Cut:
-    """Returns a cut to part `k` of the vessels, of `parts`."""
+    """Returns the cut limited to part `k` of `parts` of the vessels."""
     if parts == 1:
         return cut
     if cut.vessels is not None:

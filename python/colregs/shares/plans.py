@@ -1,4 +1,4 @@
-"""Makes the list of shares of a scenario and the files of an archive: windows that overlap, groups of subjects, and
+"""Makes the list of shares of a scenario and the files of an archive: overlapping windows, groups of subjects, and
 tiles with a margin."""
 import os
 import subprocess
@@ -18,14 +18,14 @@ from colregs.shares.reads import Window, reads_of
 from colregs.shares.spans import Believed, Span, believed, clock_before
 from colregs.shares.types import Types
 
-# ticks: the windows begin this much before the first line, or less, if a scenario begins long before
+# ticks: the windows begin at most this much before the first line, even if a scenario begins long before
 SPARE = 1000
-HEAD = 900                       # s of reports about a window's beginning that are kept besides twice the silence
+HEAD = 900                       # s of reports around a window's start that are stored in addition to twice the silence
 
 
 @dataclass
 class Wanted:
-    """What the command line asks of a plan; None is the default."""
+    """The options of a plan; None is the default."""
 
     start: int | None = None
     ticks: int | None = None
@@ -37,8 +37,7 @@ class Wanted:
 
 
 def windows_of(ticks: int, every: int, overlap: int) -> Iterator[tuple[int, int]]:
-    """Yields first tick and length of windows of `every` ticks and the overlap after them, up to the last tick of
-    all."""
+    """Yields the first tick and the length of windows of `every` ticks plus the overlap, up to the last tick."""
     begin = 0
     while True:
         length = min(every + overlap, ticks - begin)
@@ -49,34 +48,34 @@ def windows_of(ticks: int, every: int, overlap: int) -> Iterator[tuple[int, int]
 
 
 def groups_of(vessels: list[int], size: int) -> list[list[int]]:
-    """Returns groups of about as many vessels each, none of more than the size."""
+    """Returns groups of about equal size, at most `size` vessels each."""
     count = -(-len(vessels) // size)
     return [vessels[len(vessels) * k // count:len(vessels) * (k + 1) // count] for k in range(count)]
 
 
 def lengths(wanted: Wanted, scenario: Scenario, ticks: int) -> tuple[int, int]:
-    """Returns the ticks from a window's start to the next one's, and those of the overlap: by default as long as a run
-    allows, and half of that."""
+    """Returns the ticks from a window's start to the next one's, and those of the overlap. By default both together are
+    as long as a run allows, and the overlap is half of that."""
     every = wanted.every or MOST_TICKS // 2
     overlap = min(every, MOST_TICKS - every) if wanted.overlap is None else scenario.steps(wanted.overlap)
     if every + overlap > MOST_TICKS:
-        raise Fault(f"a window of {every} ticks and an overlap of {overlap} are more than {MOST_TICKS} ticks: give "
-                    "fewer --ticks-each, or a shorter --overlap")
+        raise Fault(f"a window of {every} ticks and an overlap of {overlap} exceed {MOST_TICKS} ticks: give fewer "
+                    "--ticks-each, or a shorter --overlap")
     least = overlap_needed(scenario)
     if overlap < least and every < ticks:
-        raise Fault(f"an overlap of {overlap * scenario.tick} s is less than this scenario needs: --overlap "
-                    f"{least * scenario.tick}, and the longest meeting")
+        raise Fault(f"an overlap of {overlap * scenario.tick} s is too short for this scenario: give --overlap "
+                    f"{least * scenario.tick} plus the longest meeting")
     return every, overlap
 
 
 def overlap_needed(scenario: Scenario) -> int:
-    """Returns the least ticks of an overlap with which windows can be compared."""
+    """Returns the least overlap, in ticks, with which the join can compare windows."""
     return scenario.reach + 3 + scenario.steps(max(scenario.gap, STRADDLE))
 
 
 @dataclass
 class Plan:
-    """A plan: the scenario, the spans of the files, the first second and the ticks of the whole, and its windows."""
+    """A plan: the scenario, the spans of the files, the first second and the ticks of the whole, and the windows."""
 
     wanted: Wanted
     scenario: Scenario
@@ -91,7 +90,7 @@ class Plan:
         return at - self.scenario.gap, at + length * self.scenario.tick + self.scenario.gap
 
     def most_bytes(self) -> int:
-        """Returns the bytes of lines of the window that has most."""
+        """Returns the bytes of lines of the largest window."""
         return max(
             sum(block.size
                 for span in self.spans[slice(*self.files(*window))]
@@ -100,21 +99,21 @@ class Plan:
             for window in self.windows)
 
     def head(self, begin: int) -> list[int]:
-        """Returns the stretch of time about a window's beginning whose accepted reports are stored."""
+        """Returns the span of time around a window's start for which accepted reports are stored."""
         first = self.lines(begin, 0)[0]
         return [first, first + 2 * max(self.scenario.gap, STRADDLE) + HEAD]
 
     def files(self, begin: int, length: int) -> tuple[int, int]:
-        """Returns the numbers of the first file that the window needs and of the one after the last."""
+        """Returns the index of the first file that the window needs, and of the one after the last."""
         first, last = self.lines(begin, length)
         met = [k for k, span in enumerate(self.spans) if (bounds := span.bounds(last)) and bounds[1] >= first]
         if not met:
-            return 0, 1                                         # nobody reports, which its run then says
-        # lines before the first stamp count as of the whole's start
+            return 0, 1                                         # no vessel reports, which its run then shows
+        # lines before the first stamp get the time of the whole's start
         return met[0] if begin else 0, met[-1] + 1
 
     def reads(self, begin: int, length: int) -> Reads | None:
-        """Returns what the window reads of its files; None if it has to read all lines."""
+        """Returns the window's reads of its files; None if it must read all lines."""
         first, end = self.files(begin, length)
         whole = self.lines(0, self.ticks)
         found = reads_of(self.spans[first:end], Window(*self.lines(begin, length), *whole),
@@ -141,7 +140,7 @@ class Plan:
 
 
 def plan(files: list[str], wanted: Wanted, scenario: Scenario, program: str | None) -> Iterator[dict[str, Any]]:
-    """Yields the jobs, as dictionaries. The program is needed for groups and tiles."""
+    """Yields the jobs as dictionaries. Groups and tiles need the program."""
     made = laid_out(files, wanted, scenario)
     types = read_types(made) if scenario.ranks and len(made.windows) > 1 else None
     points: Points | None = None
@@ -162,8 +161,7 @@ def plan(files: list[str], wanted: Wanted, scenario: Scenario, program: str | No
 
 
 def laid_out(files: list[str], wanted: Wanted, scenario: Scenario) -> Plan:
-    """Returns the plan of windows, from the first to the last stamp that is believed, unless the command line says
-    otherwise."""
+    """Returns the plan of windows: from the first to the last believed stamp, unless the options say otherwise."""
     start = scenario.start if wanted.start is None else wanted.start
     until = None if wanted.ticks is None else start + wanted.ticks * scenario.tick + scenario.gap
     index = Index(wanted.index)
@@ -185,31 +183,30 @@ def laid_out(files: list[str], wanted: Wanted, scenario: Scenario) -> Plan:
 
 
 def tell_outside(known: Believed, spans: list[Span], first: int) -> None:
-    """Says which lines the windows leave out."""
+    """Reports which lines the windows leave out."""
     if known.outside:
-        report("many", f"{known.outside} lines have a time more than a day before or after all others, as "
-                       f"{known.farthest}: the windows leave them out;"
-               " --start and --ticks set others")
+        report("many", f"{known.outside} lines have a time more than a day before or after all others, such as "
+                       f"{known.farthest}; the windows leave them out; --start and --ticks set other windows")
     early = sum(count for span in spans for count, least, greatest in span.hours.values()
                 if known.first <= least and greatest < first)
     if early:
-        report("many", f"{early} lines are before the start and are not audited; --start sets another")
+        report("many", f"{early} lines are before the start and are not audited; --start sets an earlier one")
 
 
 def read_types(made: Plan) -> Types:
-    """Reads the files for the ship types that stand before each window."""
+    """Reads the files for the ship types that were reported before each window."""
     begin, end = made.lines(0, made.ticks)
     types = Types(begin, end, made.scenario.slack, [made.lines(first, length)[0] for first, length in made.windows])
     with subprocess.Popen(["bash", "-c", reader([span.path for span in made.spans])], stdout=subprocess.PIPE) as log:
         if log.stdout:
             types.take(log.stdout)
     if log.returncode:
-        raise Fault("the files were not read to their end")
+        raise Fault("cannot read the files to their end")
     return types
 
 
 def read_points(made: Plan, begin: int, program: str) -> Points:
-    """Reads the points from a window on, of as many ticks as a run may have."""
+    """Reads the points from a window's start, for as many ticks as a run allows."""
     length = min(MOST_TICKS, made.ticks - begin)
     first, end = made.files(begin, length)
     whole = made.lines(0, made.ticks)
@@ -221,7 +218,7 @@ def read_points(made: Plan, begin: int, program: str) -> Points:
 
 def shares_of(told: dict[str, Any], points: Points, lines: tuple[int, int], scenario: Scenario,
               wanted: Wanted) -> Iterator[dict[str, Any]]:
-    """Yields a window's jobs: by tiles if they are asked for, and by groups if these are."""
+    """Yields a window's jobs, split by tiles and by groups if these are requested."""
     heard, margin = points.within(*lines), scenario.watch + 1
     tiles: list[Any] = list(tiles_of(points, *wanted.tiles)) if wanted.tiles else [None]
     for tile in tiles:
@@ -230,7 +227,7 @@ def shares_of(told: dict[str, Any], points: Points, lines: tuple[int, int], scen
         if tile is not None:
             near = points.near(heard, tile, lines, margin)
             more = {"tile": tile, "margin": margin, "vessels": near}
-            # a tile without vessels stays in the list, so that the tiles cover
+            # a tile without vessels stays in the list, so that the tiles cover the plane
             near = near or heard[:1]
         subjects = sorted(scenario.subjects) if scenario.subjects else near
         groups: list[Any] = list(groups_of(subjects, wanted.group)) if wanted.group and subjects else [None]

@@ -1,9 +1,9 @@
-"""Which bytes of its files a share reads: those that it skips, those that are its log as they are, and those whose
-lines have to be cut.
+"""Which bytes of its files a share reads: those that it skips, those that it copies unchanged, and those whose lines it
+must cut.
 
-A block of lines is copied as it is if all its stamps are of the share's window, its first line has one, and no stamp up
-to its end is after the window: then no line of it is outside or late. A block whose stamps are all outside the window
-is skipped, and only moves the clock.
+It copies a block of lines unchanged if all its stamps are in the share's window, its first line has one, and no stamp
+up to its end is after the window. Then no line of it is outside or late. It skips a block whose stamps are all outside
+the window; such a block only moves the clock.
 """
 import os
 import subprocess
@@ -16,14 +16,14 @@ from colregs.run.pipes import READERS
 from colregs.shares.spans import Block, Span
 
 SEEK, SKIP, COPY, LINES = "seek", "skip", "copy", "lines"
-PIECE = 1 << 20         # bytes that are copied at once
+PIECE = 1 << 20         # bytes of a chunk that is copied
 
 
 class Read(NamedTuple):
-    """What to do with the next bytes of a file. `last` is the last stamp of those skipped or copied, `clock` the
-    greatest one that counts.
+    """What to do with the next bytes of a file. `last` is the last stamp of skipped or copied bytes, `clock` the
+    greatest stamp that counts.
 
-    `seek` begins a packed file at this byte of it.
+    `seek` is the byte at which to start a compressed file.
     """
 
     what: str
@@ -42,8 +42,8 @@ class Window(NamedTuple):
 
 
 def reads_of(spans: list[Span], window: Window, clock: int | None) -> list[list[Read]] | None:
-    """Returns what a share reads of each of its files, where the clock before them is at a time; None if a file does
-    not end with a whole line."""
+    """Returns a share's reads of each of its files, given the clock before them; None if a file does not end with a
+    whole line."""
     if any(span.open for span in spans[:-1]):
         return None
     found: list[list[Read]] = []
@@ -59,7 +59,7 @@ def reads_of(spans: list[Span], window: Window, clock: int | None) -> list[list[
 
 
 def read_of(block: Block, window: Window, clock: int | None) -> Read:
-    """Returns what to do with a block, where the clock before it is at most at a time."""
+    """Returns what to do with a block, given an upper bound of the clock before it."""
     counts = window.begin <= block.least and block.greatest <= window.end
     never = block.greatest < window.begin or block.least > window.end
     top = block.greatest if counts else None
@@ -73,7 +73,7 @@ def read_of(block: Block, window: Window, clock: int | None) -> Read:
 
 
 def joined(one: Read, other: Read) -> list[Read]:
-    """Returns two reads, as one if they do the same."""
+    """Returns two reads, joined into one if they do the same."""
     if one.what != other.what:
         return [one, other]
     return [
@@ -83,7 +83,7 @@ def joined(one: Read, other: Read) -> list[Read]:
 
 
 def from_member(span: Span, reads: list[Read]) -> list[Read]:
-    """Begins at the last member of a packed file before what is needed."""
+    """Starts a compressed file at the last member before the first needed byte."""
     if not reads or reads[0].what != SKIP:
         return reads
     packed, before = max((place for place in span.members if place[1] <= reads[0].size), default=(0, 0))
@@ -92,7 +92,7 @@ def from_member(span: Span, reads: list[Read]) -> list[Read]:
 
 @contextmanager
 def opened(path: str, begin: int) -> Iterator[BinaryIO]:
-    """Opens a file, packed or not, at a byte of it."""
+    """Opens a file, compressed or not, at a byte."""
     with open(path, "rb", buffering=0) as source:
         source.seek(begin)
         kind = packing(path)
@@ -106,11 +106,11 @@ def opened(path: str, begin: int) -> Iterator[BinaryIO]:
             try:
                 yield unpacked.stdout                   # type: ignore[misc]
             finally:
-                unpacked.kill()                         # what is after the last byte that is needed
+                unpacked.kill()                         # the rest is not needed
 
 
 class Ended(Exception):
-    """A file that has fewer bytes than when it was planned."""
+    """Raised if a file has fewer bytes than when it was planned."""
 
 
 def pieces(source: BinaryIO, size: int) -> Iterator[bytes]:
@@ -134,7 +134,7 @@ def lines_within(source: BinaryIO, size: int) -> Iterator[bytes]:
 
 
 def skip(source: BinaryIO, size: int) -> None:
-    """Goes on behind the next bytes of a file."""
+    """Skips the next bytes of a file."""
     if source.seekable():
         source.seek(size, os.SEEK_CUR)
     else:
@@ -143,7 +143,7 @@ def skip(source: BinaryIO, size: int) -> None:
 
 
 def needed(reads: Iterable[Read]) -> list[Read]:
-    """Returns the reads up to the last one that is not skipped."""
+    """Returns the reads up to the last one that is not a skip."""
     found = list(reads)
     while found and found[-1].what in (SKIP, SEEK):
         found.pop()

@@ -1,5 +1,4 @@
-"""The results of shares as rows, and those of one window put together: groups of subjects, and tiles with their
-margins."""
+"""The results of shares as rows, and the merge of one window's shares: groups of subjects, and tiles with margins."""
 import re
 import sys
 from collections.abc import Iterable
@@ -17,9 +16,9 @@ Check = tuple[int, str]             # the time of an accepted report, and the re
 
 @dataclass(slots=True)
 class Stretch:
-    """A row of a meeting or of a verdict, with its steps as numbers; `mark` says why it may not be that of one run.
+    """A row of a meeting or of a verdict, with its steps as numbers; `mark` says why one run may have another row.
 
-    `moored` says that both vessels lay still through the windows of the row.
+    `moored` is true if both vessels were at rest in all windows of the row.
     """
 
     fields: list[str]
@@ -39,15 +38,15 @@ class Stretch:
 
     @property
     def track(self) -> tuple[str, ...]:
-        """What of a pair the row is a stretch of: the meetings, or a rule's value."""
+        """What the row is a stretch of, besides its pair: the meetings, or a rule's value."""
         return ("meeting",) if self.is_meeting else tuple(self.fields[3:5])
 
     def order(self, rules: list[str]) -> tuple[int, bool, Pair, int]:
-        """Returns the place of a row (docs/AUDIT.md): its last step, meetings first, then the pair and the rule."""
+        """Returns the sort key of a row (docs/AUDIT.md): its last step, meetings first, then the pair and the rule."""
         return self.last, not self.is_meeting, self.pair, 0 if self.is_meeting else rules.index(self.fields[3])
 
     def moved(self, steps: int) -> "Stretch":
-        """Returns the same row with steps counted from another beginning."""
+        """Returns the same row with its steps moved."""
         return self.spanning(self.first + steps, self.last + steps)
 
     def spanning(self, first: int, last: int) -> "Stretch":
@@ -57,12 +56,12 @@ class Stretch:
         return Stretch(fields, self.at, first, last, self.mark, self.moored)
 
     def words(self) -> str:
-        """Returns the row as a line, with a mark as a further field."""
+        """Returns the row as a line, with its mark as an additional field."""
         return ",".join(self.fields + [self.mark] if self.mark else self.fields)
 
 
 def stretch_of(fields: list[str]) -> Stretch:
-    """Returns the row of these fields."""
+    """Returns the row with these fields."""
     at = 4 if fields[0] == "meeting" else 5
     return Stretch(fields, at, int(fields[at]), int(fields[at + 1]))
 
@@ -78,15 +77,15 @@ class Rows:
     lines: list[str] = field(default_factory=list)
     checks: dict[int, list[Check]] = field(default_factory=dict)
     still: set[int] = field(default_factory=set)
-    of: set[int] | None = None      # the vessels with all their lines in the share; None stands for all
+    of: set[int] | None = None      # the vessels with all their lines in the share; None means all vessels
     unsure: set[int] = field(default_factory=set)
 
     def seen(self) -> set[int]:
-        """Returns the vessels with a leg, which alone can be seen at a tick."""
+        """Returns the vessels with a leg; only these can be seen at a tick."""
         return {mmsi for mmsi, line in self.vessels.items() if line.rsplit(",", 1)[1] != "0"}
 
     def sort(self, stretches: Iterable[Stretch]) -> "Rows":
-        """Takes these stretches for its own, in the order of a report."""
+        """Replaces the stretches by these, in the order of a report."""
         self.stretches = sorted(stretches, key=lambda row: row.order(self.rules))
         return self
 
@@ -98,7 +97,7 @@ def rows_of(text: str) -> Rows:
         line = found[0]
         kind, _, rest = line.partition(",")
         if kind in ("meeting", "verdict"):
-            # most fields stand in many rows
+            # most fields occur in many rows
             rows.stretches.append(stretch_of([sys.intern(field) for field in line.split(",")]))
         elif kind == "vessel":
             rows.vessels[int(rest.partition(",")[0])] = line
@@ -120,14 +119,15 @@ def vessels_of(report: str) -> list[int]:
 
 
 def is_of_group(row: Stretch, group: set[int], own: bool, covered: set[int]) -> bool:
-    """Returns whether a row belongs to a group: its subject is in it, or is no subject at all and the other is."""
+    """Returns whether a row belongs to a group: its subject is in the group; or its subject is not a subject of the
+    scenario, and the other vessel is in the group."""
     subject, other = row.pair
     return subject in group or own and subject not in covered and other in group
 
 
 def merged(reports: list[tuple[list[int], str]], own: bool, words: str) -> str:
-    """Returns the report of a share that was run by groups of subjects: the rows of all, and no totals but the rules'
-    names."""
+    """Returns the report of a share that ran in groups of subjects: the rows of all groups, and the rules' names
+    instead of totals."""
     told = [(set(group), rows_of(text)) for group, text in reports]
     return text_of(in_groups(told, own, words))
 
@@ -141,7 +141,7 @@ def text_of(rows: Rows) -> str:
 
 
 def in_groups(told: list[tuple[set[int], Rows]], own: bool, words: str) -> Rows:
-    """Returns the rows of groups of subjects: of each those that are its own, in the order of a report."""
+    """Returns the rows that belong to each group of subjects, in the order of a report."""
     first, covered = told[0][1], set().union(*(group for group, _ in told))
     found: dict[tuple[str, ...], Stretch] = {}
     for group, rows in told:
@@ -154,10 +154,10 @@ def in_groups(told: list[tuple[set[int], Rows]], own: bool, words: str) -> Rows:
 
 
 def by_subjects(shares: list[tuple[Job, Rows]], own: list[int], words: str) -> Rows:
-    """Returns the rows of the shares of one window and tile, a group of subjects each.
+    """Returns the rows of the shares of one window and tile, one group of subjects each.
 
-    With subjects in the scenario there are also rows of vessels that are no subject, towards one that is: they are
-    those of hers.
+    If the scenario has subjects, there are also rows of other vessels towards a subject. They belong to the group of
+    that subject.
     """
     job, rows = shares[0]
     of, unsure = (set(job.vessels) if job.vessels is not None else None), set(job.unsure)
@@ -168,14 +168,14 @@ def by_subjects(shares: list[tuple[Job, Rows]], own: list[int], words: str) -> R
         if missing and of is not None:
             missing &= of
         if missing:
-            raise Fault(f"{words}: {len(missing)} vessels are in no group of subjects, as {min(missing)}")
+            raise Fault(f"{words}: {len(missing)} vessels are in no group of subjects, such as {min(missing)}")
         whole = in_groups(groups, bool(own), words)
     whole.unsure = unsure
     return whole if of is None else of_vessels(whole, of)
 
 
 def of_vessels(rows: Rows, of: set[int]) -> Rows:
-    """Leaves the rows of the vessels whose lines a share had all."""
+    """Returns the rows of only the vessels with all their lines in a share."""
     rows.of = of
     rows.stretches = [row for row in rows.stretches if of.issuperset(row.pair)]
     rows.vessels = {mmsi: line for mmsi, line in rows.vessels.items() if mmsi in of}
@@ -189,7 +189,7 @@ def open_edge(value: float | None, side: int) -> float:
 
 
 def covers_plane(tiles: Iterable[Iterable[float | None]]) -> bool:
-    """Returns whether the tiles leave no place of the plane; an edge that is None is open."""
+    """Returns whether the tiles cover the plane; an edge that is None is open."""
     boxes = [tuple(open_edge(value, side) for value, side in zip(tile, (-1, -1, 1, 1))) for tile in tiles]
     easts, norths = [
         sorted({box[k] for box in boxes} | {box[k + 2] for box in boxes} | {float("-inf"), float("inf")})
@@ -200,8 +200,8 @@ def covers_plane(tiles: Iterable[Iterable[float | None]]) -> bool:
 
 
 def by_tiles(parts: list[Rows], words: str) -> Rows:
-    """Returns the rows of tiles of one window: each pair's once, and they are the same in each tile that had the lines
-    of both."""
+    """Returns the rows of tiles of one window, each pair's once. Raises Fault if they differ between two tiles that
+    have all lines of both vessels."""
     if len(parts) == 1:
         return parts[0]
     pairs: list[dict[Pair, list[Stretch]]] = [{} for _ in parts]
@@ -235,7 +235,7 @@ def of_window(shares: list[tuple[Job, Rows]], scenario: Scenario, words: str) ->
     if None in tiles:
         return by_subjects(tiles[None], scenario.subjects, words)
     if not covers_plane(tile for tile in tiles if tile is not None):
-        raise Fault(f"{words}: its tiles leave a part of the plane")
+        raise Fault(f"{words}: its tiles do not cover the plane")
     if any(job.margin < scenario.watch for job, _ in shares):
         raise Fault(f"{words}: a tile's margin is less than the watch of {scenario.watch} m")
     return by_tiles([by_subjects(found, scenario.subjects, words) for found in tiles.values()], words)

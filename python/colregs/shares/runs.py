@@ -1,4 +1,4 @@
-"""Runs shares, each `colregs audit` over its part of the files, in this process or by threads."""
+"""Runs shares: each is a `colregs audit` over its part of the files, in this thread or in several."""
 import concurrent.futures
 import dataclasses
 import json
@@ -26,12 +26,12 @@ from colregs.shares.places import Points
 from colregs.shares.results import by_tiles, merged, of_vessels, rows_of, text_of, vessels_of
 
 FIRST_GROUP = 64        # subjects of the first groups into which a share with too many pairs is split
-STALE = 24 * 3600       # s without a change after which the folder of a run on another machine counts as dead
+STALE = 24 * 3600       # s: if the folder of a run on another machine did not change for so long, that run is dead
 
 
 @dataclass
 class Room:
-    """The folder of one run, with the share's log in it if the log is cut."""
+    """The folder of one run, with the share's log if the log is cut."""
 
     folder: str
     job: Job
@@ -43,7 +43,7 @@ class Room:
         return os.path.join(self.folder, name)
 
     def source(self) -> str:
-        """Returns the shell's command that writes the share's log. A log that is cut is cut once, into a file."""
+        """Returns the shell command that writes the share's log. If the log is cut, this cuts it once, into a file."""
         cut = self.job.cut(self.kept.scenario(self.job))
         if cut is None:
             return reader(self.job.files)
@@ -58,11 +58,11 @@ class Room:
         return self.run(source, "audit", "report.csv")
 
     def run(self, source: str, mode: str, name: str) -> Ended:
-        """Runs a mode over the log into a file; a Fault if the log was not read to its end."""
+        """Runs a mode over the log into a file. Raises Fault if the log was not read to its end."""
         with open(self.path(name), "wb") as out, open(self.path("error"), "w+b") as error:
             done = piped(source, [self.program, mode, self.path("scenario.toml"), *self.job.options()], out, error)
         if done.status == 0 and not done.whole:
-            raise Fault(f"{self.job.words()}: its files were not read to their end: {done.words}")
+            raise Fault(f"{self.job.words()}: cannot read its files to the end: {done.words}")
         return done
 
     def report(self) -> bytes:
@@ -71,8 +71,7 @@ class Room:
 
 
 def run_one(job: Job, kept: Kept, program: str) -> bool:
-    """Runs a job if its result is not there yet, and returns whether it ran; a Fault says why there is no whole
-    result."""
+    """Runs a job if it has no result yet; returns whether it ran. Raises Fault if the run has no complete result."""
     if kept.has(job):
         return False
     begin = time.monotonic()
@@ -83,8 +82,8 @@ def run_one(job: Job, kept: Kept, program: str) -> bool:
 
 
 def whole_report(room: Room) -> bytes:
-    """Returns the report of a share, with what a join needs. A share that meets a limit of the program is split, and
-    each part again if it does too."""
+    """Returns the report of a share, with the rows for a join. If the share exceeds a limit of the program, this splits
+    it, and splits its parts again if necessary."""
     source, job = room.source(), room.job
     done = room.audited(source, job.subjects)
     if done.status == STATUS and limit_of(done.words) == "pairs":
@@ -98,12 +97,12 @@ def whole_report(room: Room) -> bytes:
 
 def failed(job: Job, done: Ended) -> Fault:
     """Returns why a share has no report."""
-    return Fault(f"{job.words()} ends with status {done.status}, {done.words}{next_step(done.status, done.words)}")
+    return Fault(f"{job.words()} ended with status {done.status}, {done.words}{next_step(done.status, done.words)}")
 
 
 def by_places(room: Room, done: Ended) -> bytes:
-    """Returns the report of a share with too many vessels or bytes, from those of the vessels who come near one half of
-    the plane, and near the other."""
+    """Returns the report of a share with too many vessels or bytes, from a report of the vessels near one half of the
+    plane and one of those near the other half."""
     scenario, job = room.kept.scenario(room.job), room.job
     lines = job.lines(scenario)
     cut = job.cut(scenario) or Cut(*lines, *lines, scenario.slack)
@@ -123,25 +122,25 @@ def by_places(room: Room, done: Ended) -> bytes:
 
 
 def need(seconds: float) -> Need:
-    """Returns what a job needed. The memory is that of the largest child of this process so far, so that of a job or of
-    another beside it."""
+    """Returns the resources that a job needed. The memory is that of the largest child process so far, which may belong
+    to another job."""
     return Need(round(seconds) + 1, resource.getrusage(resource.RUSAGE_CHILDREN).ru_maxrss)
 
 
 @contextmanager
 def run_folder(kept: str) -> Iterator[str]:
-    """Makes the folder of a run, named by its machine and process, and removes it. A Fault names the folder that cannot
-    be written."""
+    """Makes the folder of a run, named by its machine and process, and removes it at the end. Raises Fault with the
+    folder if it is not writable."""
     try:
         with tempfile.TemporaryDirectory(dir=kept, prefix=f"run.{socket.gethostname()}.{os.getpid()}.") as folder:
             yield folder
     except OSError as error:
-        raise Fault(f"{error.filename or kept} cannot be written: {reason(error)}") from None
+        raise Fault(f"cannot write {error.filename or kept}: {reason(error)}") from None
 
 
 def seen(room: Room, source: str) -> bytes:
-    """Returns the rows that the join of windows needs: accepted reports about the beginnings of windows, and who lay
-    still."""
+    """Returns the rows that the join of windows needs: accepted reports around the starts of windows, and the vessels
+    at rest."""
     if not room.job.is_part(room.kept.scenario(room.job)):
         return b""
     words = shlex.join(module("shares.seen", json.dumps(room.job.heads)))
@@ -150,13 +149,13 @@ def seen(room: Room, source: str) -> bytes:
                         stdout=subprocess.PIPE, stderr=subprocess.PIPE)
     if done.returncode:
         said = done.stderr.decode("utf-8", "replace").strip()
-        raise Fault(f"{room.job.words()}: `points` ends with status {done.returncode}, {said}")
+        raise Fault(f"{room.job.words()}: `points` ended with status {done.returncode}, {said}")
     return done.stdout
 
 
 def split(room: Room, source: str, done: Ended) -> bytes:
-    """Returns the report of a share with too many pairs, from runs with groups of its subjects; a group that is still
-    too many is halved."""
+    """Returns the report of a share with too many pairs, from runs with groups of its subjects. It halves a group that
+    still has too many pairs."""
     scenario, job = room.kept.scenario(room.job), room.job
     own = job.subjects or scenario.subjects
     subjects = sorted(own or heard(room, source))
@@ -177,13 +176,13 @@ def split(room: Room, source: str, done: Ended) -> bytes:
 
 
 def halves(group: list[int]) -> list[list[int]]:
-    """Returns the two halves of a group; one vessel stays a group."""
+    """Returns the two halves of a group; a group of one vessel stays whole."""
     middle = -(-len(group) // 2)
     return [half for half in (group[:middle], group[middle:]) if half]
 
 
 def heard(room: Room, source: str) -> list[int]:
-    """Returns the vessels of a share's log, from an audit with one subject that is nobody's MMSI."""
+    """Returns the vessels of a share's log, from an audit with one subject that no vessel has as MMSI."""
     done = room.audited(source, [799999999])
     if done.status != 0:
         raise failed(room.job, done)
@@ -191,7 +190,7 @@ def heard(room: Room, source: str) -> list[int]:
 
 
 def clear(folder: str) -> None:
-    """Removes the folders of runs that were killed: on this machine if their process is gone, and of others if nothing
+    """Removes the folders of killed runs: of this machine if their process is gone, and of other machines if nothing
     changed in them for a day."""
     for name in os.listdir(folder):
         path = os.path.join(folder, name)
@@ -208,12 +207,12 @@ def is_dead(name: str, path: str) -> bool:
         return time.time() - max(os.stat(one).st_mtime
                                  for one in [path, *(entry.path for entry in os.scandir(path))]) > STALE
     except OSError:
-        return False                                        # it goes at this moment
+        return False                                        # another process is removing it
 
 
 def run_all(jobs: list[Job], kept: Kept, program: str, processes: int) -> tuple[int, list[str]]:
-    """Runs the jobs that have no result, `processes` at a time. Returns how many ran, and why others failed. If it is
-    interrupted, its children end."""
+    """Runs the jobs without a result, `processes` at a time. Returns the number that ran, and why others failed. If the
+    user interrupts it, it kills its children."""
     clear(kept.folder)
     faults, ran = [], 0
     pool = concurrent.futures.ThreadPoolExecutor(processes)

@@ -1,9 +1,9 @@
-"""Keeps of the rows of `points` what a join of windows needs: the reports near the beginnings of windows, and who lay
-still all the time.
+"""Filters the rows of `points` for a join of windows: the reports near the starts of windows, and the vessels that were
+at rest all the time.
 
-It runs as a process of its own between the program and a file. A `check` row has a vessel, a time, two places, a speed
-and a course, as `points` writes them. A `still` row has a vessel who never made half a knot, by her reports or, where
-these have no speed, by her way to the next one.
+It runs as a separate process between the program and a file. A `check` row has a vessel, a time, two places, a speed
+and a course, in the format of `points`. A `still` row has a vessel that never made half a knot, by her reports or, for
+reports without a speed, by her distance to the next one.
 """
 import json
 import math
@@ -11,18 +11,18 @@ import sys
 from collections.abc import Iterable, Iterator
 
 SLOWEST = 5             # 1/10 knot
-TENTH = 463 / 9000      # metres a second of 1/10 knot
+TENTH = 463 / 9000      # metres per second in 1/10 knot
 
 
 class Stillness:
-    """Who lay still in all reports so far."""
+    """The vessels at rest in all reports so far."""
 
     def __init__(self) -> None:
         self.still: dict[bytes, bool] = {}
         self.before: dict[bytes, tuple[int, int, int, bool]] = {}
 
     def take(self, mmsi: bytes, time: int, x: int, y: int, speed: bytes) -> None:
-        """Takes one report, in the order of times."""
+        """Adds one report; reports come in the order of times."""
         known = self.still.get(mmsi, True)
         if known and mmsi in self.before:
             at, west, south, has_speed = self.before[mmsi]
@@ -35,13 +35,12 @@ class Stillness:
             self.before[mmsi] = time, x, y, bool(speed)
 
     def found(self) -> list[bytes]:
-        """Returns the vessels who lay still, ascending."""
+        """Returns the vessels at rest, ascending."""
         return sorted(mmsi for mmsi, still in self.still.items() if still)
 
 
 def rows_to_keep(rows: Iterable[bytes], stretches: list[tuple[int, int]]) -> Iterator[bytes]:
-    """Yields `check` rows for the reports in these stretches of time, and a `still` row for each vessel who lay
-    still."""
+    """Yields a `check` row for each report in these spans of time, and a `still` row for each vessel at rest."""
     stillness = Stillness()
     still = stillness.still
     least = min((first for first, _ in stretches), default=0)
@@ -61,7 +60,7 @@ def rows_to_keep(rows: Iterable[bytes], stretches: list[tuple[int, int]]) -> Ite
 
 
 def main() -> None:
-    """Filters standard input; the stretches are the one argument, as JSON."""
+    """Filters standard input; the only argument has the spans of time, as JSON."""
     stretches = [(int(first), int(last)) for first, last in json.loads(sys.argv[1])]
     sys.stdout.buffer.writelines(rows_to_keep(sys.stdin.buffer, stretches))
     sys.stdout.buffer.flush()

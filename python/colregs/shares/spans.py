@@ -1,5 +1,5 @@
-"""Reads the files of an archive once for their times: what a plan of windows needs to know of each, and where the lines
-of a time are."""
+"""Reads the files of an archive once for their times, which a plan of windows needs, and for the places of lines by
+time."""
 import collections
 import itertools
 import subprocess
@@ -15,18 +15,18 @@ from colregs.io.packing import packing
 from colregs.run.pipes import reader
 
 HOUR = 3600             # s
-FAR = 24                # hours before or after all others from which on few stamps are not believed
-FEW = 10                # stamps that are few
-PIECE = 1 << 20         # bytes of lines that are read at once: a block, unless a file has more than MOST_BLOCKS
+FAR = 24                # few stamps at least this many hours before or after all others are not believed
+FEW = 10                # fewer stamps than this are few
+PIECE = 1 << 20         # bytes of lines in a chunk, which is a block unless a file has more than MOST_BLOCKS
 MOST_BLOCKS = 2048
 GZIP = 31               # zlib's window for a member of gzip
 
 
 class Block(NamedTuple):
-    """Successive lines of a file: their bytes, whether the first one has a stamp, and the least, the greatest and the
-    last stamp.
+    """Successive lines of a file: their size in bytes, whether the first one has a stamp, and the least, the greatest
+    and the last stamp.
 
-    A block without a stamp has 1 and 0 for the least and the greatest.
+    In a block without stamps the least is 1 and the greatest is 0.
     """
 
     size: int
@@ -36,7 +36,7 @@ class Block(NamedTuple):
     last: int
 
     def joined(self, other: "Block") -> "Block":
-        """Returns this block and the one after it as one."""
+        """Returns this block joined with the next one."""
         if self.least > self.greatest or other.least > other.greatest:
             told = self if other.least > other.greatest else other
             return Block(self.size + other.size, self.begins, told.least, told.greatest, told.last)
@@ -46,11 +46,10 @@ class Block(NamedTuple):
 
 @dataclass
 class Span:
-    """A file: its sum, for each hour of its stamps how many they are, the least and the greatest, its last stamp, and
-    its blocks.
+    """A file: its hash, the number of stamps per hour with the least and the greatest, its last stamp, and its blocks.
 
-    `members` are the places at which it can be begun if it is packed: bytes of the file, and the bytes of lines before
-    them. `open` says that the last line has no line feed.
+    If it is compressed, reading can start at its `members`: an offset in the file, and the bytes of lines before it.
+    `open` is true if the last line has no line feed.
     """
 
     path: str
@@ -64,22 +63,22 @@ class Span:
     known: tuple[int, tuple[int, int]] | None = field(default=None, repr=False, compare=False)
 
     def bounds(self, until: int) -> tuple[int, int] | None:
-        """Returns the least and the greatest stamp up to a time; None if there is none."""
+        """Returns the least and the greatest stamp up to a time; None without stamps."""
         if self.hours and until >= self.ends()[1]:
             return self.ends()
         told = [entry for entry in self.hours.values() if entry[1] <= until]
         return (min(entry[1] for entry in told), min(until, max(entry[2] for entry in told))) if told else None
 
     def ends(self) -> tuple[int, int]:
-        """Returns the least and the greatest stamp; at least one stamp is known."""
+        """Returns the least and the greatest stamp of a file with at least one stamp."""
         if self.known is None or self.known[0] != len(self.hours):
             self.known = len(self.hours), (min(entry[1] for entry in self.hours.values()),
                                            max(entry[2] for entry in self.hours.values()))
         return self.known[1]
 
     def take(self, tags: list[bytes], until: int | None) -> tuple[int, int, int]:
-        """Takes the tag blocks of a piece; returns the least, the greatest and the last stamp, or 1, 0 and 0 if there
-        is none."""
+        """Takes the tag blocks of a chunk; returns the least, the greatest and the last stamp, or 1, 0 and 0 without
+        stamps."""
         told = [(stamp, count)
                 for tag, count in collections.Counter(tags).items()
                 if (stamp := stamp_of_block(tag)) is not None]
@@ -96,11 +95,12 @@ class Span:
 
 
 class Unclear(Exception):
-    """A packed file that is damaged, or no plain row of members: the command that unpacks it says more."""
+    """Raised for a compressed file that is damaged or not a plain sequence of members. The command that decompresses it
+    reports more."""
 
 
 def read_span(path: str, until: int | None) -> Span:
-    """Reads a file to its end; stamps after `until` count as none of its times."""
+    """Reads a file to its end; stamps after `until` do not count."""
     total, kind = sum_of(path)[0], packing(path)
     if kind == "gzip":
         span = Span(path, total)
@@ -112,7 +112,7 @@ def read_span(path: str, until: int | None) -> Span:
 
 
 def taken(span: Span, pieces: Iterable[bytes], until: int | None) -> Span:
-    """Takes the pieces of a file, cut into blocks of whole lines."""
+    """Takes the chunks of a file and cuts them into blocks of whole lines."""
     rest = b""
     for piece in pieces:
         lines, feed, rest_of_piece = piece.rpartition(b"\n")
@@ -135,14 +135,14 @@ def take_block(span: Span, lines: bytes, until: int | None) -> None:
 
 
 def tags_of(lines: bytes) -> list[bytes]:
-    """Returns the tag blocks of lines that are short enough to be read, in order."""
+    """Returns the tag blocks, in order, of the lines that are short enough for the program."""
     if max(map(len, lines.split(b"\n"))) <= LONGEST:
         return TAGS.findall(b"\n" + lines)
     return [line[:line.find(b"\\", 1) + 1] for line in lines.split(b"\n") if stamp_of(line) is not None]
 
 
 def add_block(blocks: list[Block], block: Block) -> None:
-    """Adds a block; if there are too many, joins two by two."""
+    """Adds a block; if there are too many, joins them in pairs."""
     if len(blocks) >= 2 * MOST_BLOCKS:
         blocks[:] = [one.joined(other) for one, other in zip(blocks[::2], blocks[1::2])]
     blocks.append(block)
@@ -155,11 +155,11 @@ def plain(path: str) -> Iterator[bytes]:
             while piece := source.read(PIECE):
                 yield piece
     except OSError as error:
-        raise Fault(f"{path} cannot be read: {reason(error)}") from None
+        raise Fault(f"cannot read {path}: {reason(error)}") from None
 
 
 def unpacked(span: Span) -> Iterator[bytes]:
-    """Yields the bytes that gzip packed, and notes where members begin that lie some way apart."""
+    """Yields the bytes of a gzip file, and notes the starts of members that are some distance apart."""
     before, read, unpacker = 0, 0, zlib.decompressobj(GZIP)
     for packed in plain(span.path):
         read += len(packed)
@@ -175,12 +175,12 @@ def unpacked(span: Span) -> Iterator[bytes]:
                 packed, unpacker = unpacker.unused_data, zlib.decompressobj(GZIP)
                 add_member(span.members, (read - len(packed), before))
     if not span.members or span.members[-1][0] != read:
-        raise Unclear                                   # it is cut off, or its last member was too near to be noted
+        raise Unclear                                   # incomplete, or its last member was too near to be noted
     span.members.pop()
 
 
 def add_member(members: list[tuple[int, int]], place: tuple[int, int]) -> None:
-    """Notes where a member begins, instead of the one before if that is near."""
+    """Notes the start of a member; it replaces the previous one if that is near."""
     if len(members) > 1 and place[1] - members[-2][1] < PIECE:
         members.pop()
     if len(members) >= 2 * MOST_BLOCKS:
@@ -189,20 +189,19 @@ def add_member(members: list[tuple[int, int]], place: tuple[int, int]) -> None:
 
 
 def by_command(path: str) -> Iterator[bytes]:
-    """Yields the bytes that a command unpacks."""
+    """Yields the bytes of a file that a command decompresses."""
     with subprocess.Popen(["bash", "-c", reader([path])], stdout=subprocess.PIPE, stderr=subprocess.PIPE) as log:
         assert log.stdout and log.stderr
         while piece := log.stdout.read(PIECE):
             yield piece
         words = log.stderr.read().decode("utf-8", "replace").strip()
     if log.returncode:
-        raise Fault(f"{path} was not read to its end: {words}")
+        raise Fault(f"cannot read {path} to its end: {words}")
 
 
 @dataclass
 class Believed:
-    """The first and the last stamp of an archive that are believed; and the stamps outside of them: how many, and the
-    one that is farthest."""
+    """The first and the last believed stamp of an archive; and the number of stamps outside, with the farthest one."""
 
     first: int
     last: int
@@ -211,8 +210,8 @@ class Believed:
 
 
 def believed(spans: list[Span], start: int) -> Believed:
-    """Returns the stamps that are believed: fewer than ten that lie more than a day before or after all others are
-    not."""
+    """Returns the believed stamps. It rejects groups of fewer than ten stamps more than a day before or after all
+    others."""
     hours: dict[int, list[int]] = {}
     for span in spans:
         for hour, (count, least, greatest) in span.hours.items():
@@ -234,7 +233,7 @@ def believed(spans: list[Span], start: int) -> Believed:
 
 
 def few_at_the_end(order: list[int], counts: list[int]) -> int:
-    """Returns how many of the last hours have few stamps and lie far behind all others."""
+    """Returns the number of last hours that have few stamps and are far after all others."""
     beyond, cut, every = 0, len(order), sum(counts)
     for k in range(len(order) - 1, 0, -1):
         beyond += counts[k]
@@ -246,7 +245,7 @@ def few_at_the_end(order: list[int], counts: list[int]) -> int:
 
 
 def clock_before(spans: list[Span], number: int, until: int) -> tuple[int | None, int | None]:
-    """Returns the last stamp before a file, and the greatest one of the files before it that counts."""
+    """Returns the last stamp before a file, and the greatest stamp that counts in the files before it."""
     last = next((span.last_stamp for span in reversed(spans[:number]) if span.last_stamp is not None), None)
     tops = [bounds[1] for span in spans[:number] if (bounds := span.bounds(until))]
     return last, max(tops, default=None)

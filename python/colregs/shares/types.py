@@ -1,8 +1,8 @@
-"""Ship types that were reported before a window begins. Where ranks count they decide who gives way, and a window alone
+"""Ship types that were reported before a window begins. If ranks count, types decide who gives way, and a window alone
 may lack them.
 
-They are read as the program reads them: from the sentences that are neither outside nor late, parts joined by
-identifier and channel. Of the types only those that give a rank of their own are carried; any other is as none
+This module reads them like the program: from sentences that are neither outside nor late, with parts joined by
+identifier and channel. It carries only types with a rank of their own; any other type counts as no type
 (docs/AUDIT.md).
 """
 import bisect
@@ -17,12 +17,12 @@ HOUR = 3600                         # s
 LEAST, MOST = 200000000, 799999999  # MMSIs of ships
 CANDIDATE = re.compile(rb"![A-Z0-9]{2}VD[MO],(?:[2-9],|1,1,\d?,[A-Za-z0-9]?,[5CH])")
 HEAD = re.compile(rb"![A-Z0-9]{2}VD[MO],\d,1,\d?,[A-Za-z0-9]?,(.{7})", re.S)
-# bits that the message needs, and the first of the eight of the type
+# the least bits of the message, and the first of the eight bits of the type
 SHIP_TYPE = {5: (422, 232), 19: (312, 263), 24: (162, 40)}
 
 
 def ship_type(bits: Bits) -> tuple[int, int] | None:
-    """Returns the vessel and the ship type that a message reports; None if it reports none."""
+    """Returns the vessel and the ship type in a message; None if it has none."""
     if bits.width < 38:
         return None
     kind, mmsi = bits.number(0, 6), bits.number(8, 30)
@@ -36,17 +36,17 @@ def ship_type(bits: Bits) -> tuple[int, int] | None:
 
 @dataclass
 class Stretch:
-    """Successive notes of one vessel, in the order of lines, that give her one rank: that rank's type, and the times of
-    the notes."""
+    """Successive messages of one vessel, in the order of lines, that give her the same rank: that rank's type, and the
+    times of the messages."""
 
     kind: int
-    earliest: int       # the least time of any part of a note
+    earliest: int       # the least time of any part of a message
     latest: int
 
 
 @dataclass
 class Before:
-    """What is known before a window: ship types, and the vessels whose type the window may read differently than the
+    """The knowledge before a window: ship types, and the vessels whose type the window may read differently from the
     whole log."""
 
     types: dict[int, int] = field(default_factory=dict)
@@ -81,7 +81,7 @@ class Types:
                 self.take_sentence(line, clock)
 
     def take_sentence(self, line: bytes, clock: int | None) -> None:
-        """Takes a line that may report a ship type, where the clock before it is at a time."""
+        """Takes a line that may report a ship type, given the clock before it."""
         sentence, time = sentence_of(line), self.time
         is_late = clock is not None and time is not None and time + self.slack < clock
         if sentence is None or time is None or not self.begin <= time <= self.end or is_late:
@@ -105,14 +105,14 @@ class Types:
             known.append(Stretch(kind, message.earliest, message.time))
 
     def compare(self, first: int, alone: Message | None, whole: Message | None) -> None:
-        """Notes the sender of a message that a window alone joins, and the whole log does not."""
+        """Notes the sender of a message if a window joins its parts differently from the whole log."""
         if alone is not None and (whole is None or whole.parts != alone.parts):
             bits = bits_of(alone.parts)
             if bits.width >= 38:
                 self.unsure[first].add(bits.number(8, 30))
 
     def before(self, first: int, last: int) -> Before:
-        """Returns what is known before the window of lines from `first` to `last`."""
+        """Returns the knowledge before the window of lines from `first` to `last`."""
         found, hours = self.known_before(first), range(first // HOUR, last // HOUR + 1)
         found.types = {
             mmsi: kind for mmsi, kind in found.types.items() if not self.heard.get(mmsi, set()).isdisjoint(hours)
@@ -120,7 +120,7 @@ class Types:
         return found
 
     def known_before(self, first: int) -> Before:
-        """Returns the same of all vessels, also of those that the window does not hear."""
+        """Returns the same for all vessels, even those that the window does not hear."""
         found = Before(unsure=set(self.unsure.get(first, set())))
         for mmsi, known in self.notes.items():
             earlier = [k for k, stretch in enumerate(known) if stretch.earliest < first]

@@ -1,10 +1,11 @@
-"""Joins overlapping windows row by row: each row once, and a mark on each that no window has from before its meeting to
-after its end.
+"""Joins overlapping windows row by row: each row once, with a mark if no window has it from before its meeting to after
+its end.
 
-The laws of shares by time (docs/TRAFFIC_SERVICE.md) say which rows of a window are those of the whole audit. Two
-vessels are engaged in a window at no step at which they are not engaged in the whole. So once the whole has a step at
-which they are not, or a meeting of theirs has ended in the window, the two agree; that step is called the pair's `sync`
-here. A window supplies what comes after the last settled step of the one before.
+The laws of shares by time (docs/TRAFFIC_SERVICE.md) say which rows of a window are those of the whole audit. If two
+vessels are engaged at a step of a window, they are engaged at that step in the whole. So window and whole agree from
+the first step at which the pair is not engaged in the whole, or at which a meeting of the pair has ended in the window.
+This module calls that step the pair's `sync`. A window supplies the rows after the last settled step of the window
+before.
 """
 from collections.abc import Iterable
 from dataclasses import dataclass, field
@@ -16,17 +17,17 @@ from colregs.shares.heads import STRADDLE, agreed_from
 from colregs.shares.results import Pair, Rows, Stretch
 
 CUT, DOUBT = "cut", "doubt"
-ALWAYS = -1                                             # the sync of what agrees from a window's beginning on
-OF_A_RULE = Sight(0, 0, frozenset((YES,)), True)        # a rule of the program looks back within its meeting alone
-LONG = "its meeting began before the window that reports it, and no window has it whole"
-LATE = "its formula looks back to before its meeting, or the two vessels, are known in the window"
-OTHER = "the window and the one before it accept other reports of hers, as of two vessels with one MMSI"
+ALWAYS = -1                                             # the sync of a pair that agrees from a window's start
+OF_A_RULE = Sight(0, 0, frozenset((YES,)), True)        # a rule of the program looks back only within its meeting
+LONG = "its meeting began before the window that reports it, and no window has the whole meeting"
+LATE = "its formula looks back to a time before the window knows its meeting or the two vessels"
+OTHER = "the window and the one before accept different reports of hers; two vessels may share the MMSI"
 
 
 @dataclass(order=True)
 class Doubt:
-    """Why rows are marked, or may be missing: of a vessel, of a pair, or of all (0), between two times in seconds since
-    the Unix epoch."""
+    """A reason why rows are marked or may be missing: rows of a vessel, of a pair, or of all vessels (0), between two
+    times in seconds since the Unix epoch."""
 
     first: int
     last: int
@@ -40,9 +41,9 @@ class Doubt:
 class Window:
     """A window: its start in seconds, its steps counted from the first window's start, and its rows by pairs.
 
-    `settled` is the last step whose rows neither the window's end nor a later line can change, and `head` the last
-    second of the reports that are compared with those of the window before. `syncs` are those of the vessels that do
-    not agree from the beginning on; None is never.
+    `settled` is the last step whose rows neither the window's end nor a later line can change. `head` is the last
+    second of the reports that the join compares with the window before. `syncs` has the vessels that do not agree from
+    the start; None means never.
     """
 
     start: int
@@ -62,7 +63,7 @@ class Window:
             self.of_pair.setdefault(row.pair, []).append(row)
 
     def known_from(self, pair: Pair) -> int | None:
-        """Returns the step from which on the window is known to agree with the whole about a pair."""
+        """Returns the step from which the window certainly agrees with the whole about a pair."""
         if pair in self.pair_syncs:
             return self.pair_syncs[pair]
         steps = [self.syncs.get(mmsi, ALWAYS) for mmsi in pair]
@@ -70,7 +71,7 @@ class Window:
 
 
 class Joining:
-    """Takes windows in the order of their starts, and gives the joined rows as far as no later window changes them."""
+    """Takes windows in the order of their starts, and returns the joined rows that no later window can change."""
 
     def __init__(self, scenario: Scenario, rules: list[str]) -> None:
         self.scenario, self.rules = scenario, rules
@@ -78,7 +79,7 @@ class Joining:
         self.warm = scenario.steps(max(scenario.gap, STRADDLE)) + 1
         self.before: Window | None = None
         self.doubts: list[Doubt] = []
-        # rows that go on after the settled step of the window before
+        # rows that continue after the settled step of the window before
         self.pending: dict[Pair, list[Stretch]] = {}
         self.held: list[Stretch] = []
         self.doubtful: set[Pair] = set()
@@ -99,7 +100,7 @@ class Joining:
         return given
 
     def finish(self) -> list[Stretch]:
-        """Returns the rows that are left."""
+        """Returns the remaining rows."""
         given, self.held = self.in_order(self.held), []
         return given
 
@@ -107,12 +108,12 @@ class Joining:
         return sorted(rows, key=lambda row: row.order(self.rules))
 
     def tie(self, before: Window, window: Window) -> None:
-        """Finds from where on the vessels of a window agree with those of the one before it."""
+        """Finds the step from which each vessel of a window agrees with the window before."""
         tick, gap = self.scenario.tick, self.scenario.gap
         base = window.first + self.warm
         if base > before.settled:
-            raise Fault(f"the windows from {before.start} and {window.start} overlap by too little: "
-                        f"{(base - before.settled) * tick} s more are needed")
+            raise Fault(f"the windows from {before.start} and {window.start} overlap too little: plan an overlap "
+                        f"longer by {(base - before.settled) * tick} s")
         begin, end = window.start - gap, min(window.head, before.start + (before.end - before.first) * tick + gap)
         lost = {mmsi for mmsi, sync in before.syncs.items() if sync is None}
         for mmsi in set(before.rows.checks) | set(window.rows.checks) | lost:
@@ -132,7 +133,7 @@ class Joining:
         for name, sight in self.sights.items():
             if sight.values != {YES}:
                 self.doubt(window, window.first, window.end, (0, 0), DOUBT,
-                           f"the formula {name} is not of meetings alone, and the window may lack rows of it")
+                           f"the formula {name} is not about meetings alone, and the window may lack its rows")
 
     def doubt(self, window: Window, first: int, end: int, who: Pair, mark: str, reason: str) -> None:
         """Notes a doubt about the steps from `first` up to before `end`."""
@@ -143,22 +144,22 @@ class Joining:
     # the rows of a pair
 
     def back(self, row: Stretch) -> int:
-        """Returns how many steps a row's formula looks back."""
+        """Returns the number of steps that a row's formula looks back."""
         return self.scenario.steps(self.sight(row).back)
 
     def sight(self, row: Stretch) -> Sight:
         return OF_A_RULE if row.is_meeting else self.sights.get(row.fields[3], OF_A_RULE)
 
     def settle(self, window: Window, rows: list[Stretch]) -> list[Stretch]:
-        """Keeps the rows of a pair that go on after the settled step as pending, and returns those that end by it; what
-        begins later is the next one's."""
+        """Returns the rows of a pair that end by the settled step, and stores those that continue after it as pending.
+        Rows that begin later belong to the next window."""
         going = [row for row in rows if row.first <= window.settled < row.last]
         if going:
             self.pending[going[0].pair] = going
         return [row for row in rows if row.last <= window.settled]
 
     def rows_from_first(self, window: Window, pair: Pair) -> list[Stretch]:
-        """Returns the rows of a pair in the first window, which begins with the whole."""
+        """Returns the rows of a pair in the first window, which starts with the whole."""
         window.pair_syncs[pair] = ALWAYS
         return window.of_pair[pair]
 
@@ -181,12 +182,12 @@ class Joining:
         return pair in self.doubtful or any(window.syncs.get(mmsi, ALWAYS) is None for mmsi in pair)
 
     def sync(self, before: Window, window: Window, pair: Pair) -> int | None:
-        """Returns the step from which on a window agrees with the whole about a pair; None if it does not within its
+        """Returns the step from which a window agrees with the whole about a pair; None if it does not within its
         settled steps."""
         if self.is_doubtful(window, pair):
             return None
         if window.fresh.intersection(pair) and all(window.syncs.get(mmsi, ALWAYS) == ALWAYS for mmsi in pair):
-            # a vessel that is not seen at this step: the two are not engaged
+            # a vessel is not seen at this step, so the two are not engaged
             return window.first
         low = max(window.first + self.warm, *(window.syncs.get(mmsi, ALWAYS) or 0 for mmsi in pair))
         known = before.known_from(pair)
@@ -205,7 +206,7 @@ class Joining:
         return row
 
     def judged(self, window: Window, row: Stretch, rows: list[Stretch], sync: int | None) -> Stretch:
-        """Marks a row of a window unless the window is known to agree with the whole about it."""
+        """Marks a row of a window unless the window certainly agrees with the whole about it."""
         sight, back = self.sight(row), self.back(row)
         if sync is None or row.first <= sync:
             return self.mark(row, CUT)
@@ -217,10 +218,10 @@ class Joining:
         return row
 
     def over_border(self, old: Stretch, new: Stretch | None, border: int, sync: int | None) -> Stretch:
-        """Returns the one row of a stretch that goes on over the settled step of the window before; `new` is this
+        """Returns the joined row of a stretch that continues over the settled step of the window before; `new` is this
         window's part of it.
 
-        A meeting that both have there is one meeting, whenever it began, and it ends in both alike.
+        If both windows have a meeting at that step, it is the same meeting, whenever it began, with the same end.
         """
         known = sync is not None and sync + self.back(old) <= border and self.sight(old).values == {YES}
         if new is None:
@@ -233,7 +234,7 @@ class Joining:
         return row if known else self.mark(row, CUT)
 
     def contradict(self, before: Window, window: Window, pair: Pair, pending: list[Stretch]) -> bool:
-        """Returns whether two windows that agree about a pair have other rows of it, and then doubts the pair."""
+        """Returns whether two windows that should agree about a pair have different rows; if so, notes a doubt."""
         sync, known = window.pair_syncs[pair], before.known_from(pair)
         if sync is None or known is None:
             return False
@@ -256,12 +257,12 @@ class Joining:
         return True
 
     def is_common(self, row: Stretch, sync: int, border: int) -> bool:
-        """Returns whether two windows have to report the beginning of a row alike."""
+        """Returns whether two windows must report the same start of a row."""
         sight = self.sight(row)
         return sight.values == {YES} and sight.no_edge and sync + self.back(row) < row.first <= border
 
     def common(self, row: Stretch, border: int) -> tuple[str, ...]:
-        """Returns what of a row two windows have to report alike: all of it, or its beginning if it goes on over the
-        settled step."""
+        """Returns the fields of a row that two windows must report alike: all fields, or only the start if the row
+        continues over the settled step."""
         end = row.fields[row.at + 1:] if row.last <= border else ("..",)
         return (*row.track, str(row.first), *end)

@@ -1,1 +1,1 @@
-"""Streams that do not end: where they come from, their day files, the runs over them, and their rows."""
+"""Endless streams: their sources, their day files, the runs over them, and their rows."""

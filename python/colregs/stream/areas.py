@@ -1,5 +1,5 @@
-"""A window of a stream with more vessels than a run takes: once its lines are over, it is audited by areas, as
-colregs-many audits such a share (colregs/shares/runs.py)."""
+"""Audits a window of a stream with more vessels than one run allows. After its lines are over, it audits the window by
+areas, like colregs-many does with such a share (colregs/shares/runs.py)."""
 import os
 import tempfile
 import threading
@@ -16,7 +16,7 @@ from colregs.stream.runs import Window, WindowRun
 
 
 class AreaRun(WindowRun):
-    """The audit of a window by areas, which begins when its lines are over."""
+    """The audit of a window by areas, which begins after its lines are over."""
 
     def __init__(self, window: Window, scenario: Scenario, ticks: int, program: str, files: DayFiles,
                  rows: Callable[[tuple[Any, ...]], None]) -> None:
@@ -24,12 +24,12 @@ class AreaRun(WindowRun):
         self.scenario, self.ticks, self.program, self.files, self.rows = scenario, ticks, program, files, rows
 
     def end_at(self, place: Mark, clock: int, cut: bool) -> None:
-        """Begins the audit. If the stream continues some time, a later run of the tool does it."""
+        """Begins the audit. If the stream continues later, a later run of the tool does it."""
         super().end_at(place, clock, cut)
         threading.Thread(target=self.work, daemon=True).start()
 
     def work(self) -> None:
-        """Hands on the rows, and then how the audit ended."""
+        """Passes on the rows, and then the end of the audit."""
         self.status, words = 0, ""
         try:
             for row in [] if self.cut else self.audited():

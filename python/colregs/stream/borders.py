@@ -1,9 +1,10 @@
-"""Marks the rows of a stream that one run over the whole of it may not have.
+"""Marks the rows of a stream that one run over the whole stream may not have.
 
-A row is written by the window in whose own steps it ends. A meeting that outlasts the overlap is whole in no window:
-the next one reports another beginning, or no meeting at all. So each window is compared with the one before it where
-both are settled: `border` below is the earlier window's last own step. colregs-many marks joined rows by the same law
-(colregs/shares/windows.py); here rows come one by one, in the order of their last steps.
+The window whose own steps contain the end of a row writes the row. No window has the whole of a meeting that outlasts
+the overlap: the next window reports a different start, or no meeting at all. So this module compares each window with
+the one before at the steps that are settled in both; `border` below is the earlier window's last own step. colregs-many
+marks joined rows by the same law (colregs/shares/windows.py); here rows arrive one by one, in the order of their last
+steps.
 """
 from collections.abc import Callable, Mapping
 from dataclasses import dataclass, field
@@ -14,19 +15,19 @@ from colregs.model.formulas import YES, Sight
 from colregs.shares.results import Pair, Stretch, stretch_of
 
 BEFORE, AFTER, DOUBT = "begins_before", "ends_after", "doubt"
-DAY = 86400                                     # s for which the rows of a pair stay doubtful
+DAY = 86400                                     # s: the rows of a pair stay doubtful for so long
 Marks = tuple[str, ...]
-Track = tuple[Any, ...]                         # a pair, and what of it a row is a stretch of
+Track = tuple[Any, ...]                         # a pair, and its meetings or a rule's value
 
 
 @dataclass
 class Border:
-    """Where a window and the one before it are compared, with steps of the window itself.
+    """The comparison of a window with the one before it, in steps of the window itself.
 
-    `known` says that the window before is done, and `comparable` that its rows in the overlap are here. Pairs of `open`
-    have a meeting that began before the window agrees with the whole, and until their step in `syncs` their rows are
-    not those of one run. `over` has the rows of the window before that continue after the border, and `met` those that
-    this window has too. `earlier` and `own` are the rows of either in the overlap.
+    `known` is true if the window before is done, and `comparable` if its rows in the overlap are available. Pairs in
+    `open` have a meeting that began before the window agrees with the whole; until their step in `syncs` their rows may
+    differ from those of one run. `over` has the rows of the window before that continue after the border, and `met`
+    those of them that this window also has. `earlier` and `own` are the rows of the two windows in the overlap.
     """
 
     known: bool = False
@@ -41,12 +42,12 @@ class Border:
     compared: set[Pair] = field(default_factory=set)
 
     def stored(self) -> dict[str, Any]:
-        """Returns what a restart needs, as JSON can hold it."""
+        """Returns the state that a restart needs, as values for JSON."""
         return {"known": self.known, "open": sorted(self.open), "over": list(self.over.values())}
 
     @staticmethod
     def load(told: Mapping[str, Any]) -> "Border":
-        """Returns what an earlier run stored."""
+        """Loads the state that an earlier run stored."""
         over = [(str(text), tuple(map(str, marks))) for text, marks in told["over"]]
         return Border(bool(told["known"]), False, {(int(one), int(two))
                                                    for one, two in told["open"]},
@@ -55,7 +56,7 @@ class Border:
 
 
 def track_of(row: Stretch) -> Track:
-    """Returns what a row is a stretch of: the meetings of a pair, or a value of a rule."""
+    """Returns the track of a row: the meetings of its pair, or its pair with a rule and its value."""
     return *row.pair, *row.track
 
 
@@ -100,7 +101,7 @@ class Borders:
         return (BEFORE,) * before + (DOUBT,) * doubt
 
     def begins_before(self, border: Border, row: Stretch) -> bool:
-        """Returns whether a row's meeting began before its window, or the window before has another beginning of it."""
+        """Returns whether a row's meeting began before its window, or has another start in the window before."""
         was_open, sync = row.pair in border.open, border.syncs.get(row.pair)
         if row.is_meeting and was_open and sync is None and row.last <= self.last:
             border.syncs[row.pair] = row.last + 1
@@ -112,21 +113,22 @@ class Borders:
         return before
 
     def is_of_meetings(self, row: Stretch) -> bool:
-        """Returns whether a row's rule or formula speaks of what both windows see alike."""
+        """Returns whether a row's rule or formula depends only on what both windows see alike."""
         sight = None if row.is_meeting else self.sights.get(row.fields[3])
         return sight is None or sight.values == {YES} and sight.no_edge
 
-    # what two windows both have
+    # rows that two windows share
 
     def compare_early(self, start: int, border: Border, row: Stretch) -> None:
-        """Takes a row in the overlap with the window before. The first one after it ends those of its pair."""
+        """Takes a row in the overlap with the window before. The first row of a pair after the overlap triggers the
+        comparison."""
         if row.last <= self.last - self.every:
             border.own.setdefault(row.pair, []).append(row)
         else:
             self.compare(start, border, row.pair)
 
     def compare(self, start: int, border: Border, pair: Pair) -> None:
-        """Compares what two windows have of a pair in their overlap; if that differs, the pair is doubtful."""
+        """Compares the rows of two windows about a pair in their overlap; if they differ, the pair becomes doubtful."""
         if pair in border.compared:
             return
         border.compared.add(pair)
@@ -141,11 +143,11 @@ class Borders:
         if found[0] != found[1]:
             if self.doubtful.get(pair) != start - self.length:
                 self.say(f"the windows from {iso(start - self.length)} and {iso(start)} differ about {pair[0]} and "
-                         f"{pair[1]}, as if two vessels had one MMSI: their rows are marked `{DOUBT}` for a day")
+                         f"{pair[1]}; two vessels may share an MMSI. Their rows get the mark `{DOUBT}` for a day")
             self.doubtful[pair] = start
 
     def is_common(self, row: Stretch, sync: int) -> bool:
-        """Returns whether two windows that agree from a step on report a row alike."""
+        """Returns whether two windows that agree from a step must report the same row."""
         sight = None if row.is_meeting else self.sights.get(row.fields[3])
         return row.last <= self.last - self.every and self.is_of_meetings(
             row) and row.first > sync + (sight.back if sight else 0)
@@ -153,8 +155,8 @@ class Borders:
     # the ends of windows
 
     def end(self, start: int) -> list[tuple[str, Marks]]:
-        """Ends a window; returns the rows of the one before it that continue after the border and that this one lacks.
-        A pair stays open if none of its meetings ended."""
+        """Ends a window; returns the rows of the window before that continue after the border but that this window
+        lacks. A pair stays open if none of its meetings ended."""
         border, following = self.at(start), self.at(start + self.length)
         for pair in sorted({*border.earlier, *border.own}):
             self.compare(start, border, pair)
@@ -169,7 +171,7 @@ class Borders:
         self.doubtful = {pair: start for pair, start in self.doubtful.items() if start >= before - DAY}
 
     def stored(self) -> dict[str, Any]:
-        """Returns what a restart needs, as JSON can hold it."""
+        """Returns the state that a restart needs, as values for JSON."""
         return {
             "borders": {str(start): border.stored()
                         for start, border in self.borders.items()},
@@ -177,11 +179,11 @@ class Borders:
         }
 
     def load(self, told: Mapping[str, Any]) -> None:
-        """Takes what an earlier run stored."""
+        """Loads the state that an earlier run stored, for all borders."""
         self.borders = {int(start): Border.load(border) for start, border in told.get("borders", {}).items()}
         self.doubtful = {(int(one), int(two)): int(start) for one, two, start in told.get("doubtful", [])}
 
 
 def common(row: Stretch) -> tuple[str, ...]:
-    """Returns what of a row two windows have to report alike."""
+    """Returns the fields of a row that two windows must report alike."""
     return (*row.track, str(row.first), *row.fields[row.at + 1:])

@@ -1,5 +1,4 @@
-"""The lines of a stream in files by the day of their clock, from which runs are fed as they grow, also after a
-restart."""
+"""The lines of a stream in one file per day of its clock. Runs read these files as they grow, also after a restart."""
 import calendar
 import collections
 import os
@@ -15,20 +14,22 @@ from colregs.io.sentences import block
 from colregs.io.tag_blocks import blocks, stamp
 from colregs.stream.health import station_of
 
-BLOCK = 1 << 16                  # bytes that a run is fed at once
-Mark = tuple[str, int]           # a place in the day files: a day, and bytes from its beginning
+BLOCK = 1 << 16                  # bytes of a chunk for a run
+Mark = tuple[str, int]           # a place in the day files: a day, and an offset in its file
 MARK = re.compile(r"\d+ \d+\n")
-LEAP, SURE = 3600, 10            # s: a time so far ahead counts once so many lines in a row have such
-LEAST_STATIONS, ACTIVE = 3, 100  # stations with names whose clocks are compared, and lines in which a station is heard
-MOST_OFFSETS = 1000              # stations whose lead is known
-RECENT, AHEAD = 21, 300          # otherwise lines that are compared, and s that a stamp may lie ahead of their middle
+LEAP, SURE = 3600, 10            # a time more than LEAP s ahead counts after SURE such lines in a row
+# compares clocks if at least LEAST_STATIONS named stations were heard in the last ACTIVE lines
+LEAST_STATIONS, ACTIVE = 3, 100
+MOST_OFFSETS = 1000              # the most stations with a stored lead
+RECENT, AHEAD = 21, 300          # otherwise: the lines to compare, and the s that a stamp may be ahead of their median
 
 
-Timed = tuple[bytes, bytes]      # a line as it came, and as it is written
+Timed = tuple[bytes, bytes]      # a line as it arrived, and as it is written
 
 
 class Held(NamedTuple):
-    """A line that waits: its stamp, and how many lines had come, how often the clock had leapt, and its time."""
+    """A waiting line: its stamp, and at its arrival the number of lines, the number of the clock's leaps, and the time.
+    """
 
     line: bytes
     at: int | None
@@ -38,7 +39,7 @@ class Held(NamedTuple):
 
 
 class Clock:
-    """The greatest time so far; one that is far ahead of it counts once ten lines in a row have such a time."""
+    """The greatest time so far. A time far ahead of it counts after ten lines in a row have such a time."""
 
     def __init__(self) -> None:
         self.time: int | None = None
@@ -58,30 +59,30 @@ class Clock:
         return self.time
 
     def released(self, line: bytes) -> list[Timed]:
-        """Returns the lines that are written after a line was taken: itself."""
+        """Returns the lines to write after taking a line: only this line."""
         return [(line, line)]
 
     def last(self) -> tuple[list[Timed], int]:
-        """Returns the lines that wait at the end of the stream, and how many others are left out."""
+        """Returns the lines that still wait at the end of the stream, and the number of dropped ones."""
         return [], 0
 
 
 class MedianClock:
     """The clock of most stations, or, if fewer than three have names, of most of the last lines. It can go back.
 
-    Its time is the greatest stamp that is at most a tolerance ahead of the middle. So no single station, and no few
-    lines, set it. A line ahead of it waits, with all lines after it, until the clock has followed, as it does after an
-    outage, or until so many lines have come that it will not: then the line gets the clock's time. If its station was
-    as far ahead before, it gets that at once.
+    Its time is the greatest stamp that is at most a tolerance ahead of the median, so that no single station and no few
+    lines set it. A line ahead of the clock waits, with all lines after it. If the clock follows, for example after an
+    outage, the line has its own time. If the clock has not followed after a number of lines, the line gets the clock's
+    time. If its station was as far ahead before, the line gets the clock's time at once.
     """
 
     def __init__(self, slack: int) -> None:
         self.slack, self.lines, self.leaps = slack, 0, 0
         self.held: collections.deque[Held] = collections.deque()
-        self.offsets: dict[str, int] = {}                       # of stations, how far they were ahead
+        self.offsets: dict[str, int] = {}                       # by station: how far it was ahead
         self.time: int | None = None
-        self.ahead: list[int] = []                              # none: it follows most lines at once
-        self.stations: dict[str, tuple[int, int]] = {}          # their last stamps, and the numbers of those lines
+        self.ahead: list[int] = []                              # always empty: this clock follows most lines at once
+        self.stations: dict[str, tuple[int, int]] = {}          # by name: last stamp, and that line's number
         self.recent: collections.deque[int] = collections.deque(maxlen=RECENT)
 
     def take(self, line: bytes) -> int | None:
@@ -101,7 +102,7 @@ class MedianClock:
         return self.time
 
     def released(self, line: bytes) -> list[Timed]:
-        """Returns the lines that are written after a line was taken, in order, as they came and with their times."""
+        """Returns the lines to write after taking a line, in order, as they arrived and with their times."""
         self.held.append(Held(line, stamp(line), self.lines, self.leaps, self.time or 0))
         found: list[Timed] = []
         while self.held and self.is_decided(self.held[0]):
@@ -109,8 +110,8 @@ class MedianClock:
         return found
 
     def last(self) -> tuple[list[Timed], int]:
-        """Returns the lines that wait at the end of the stream, and how many others are left out: those ahead of the
-        clock."""
+        """Returns the lines that still wait at the end of the stream, and the number of dropped ones, which are ahead
+        of the clock."""
         held, self.held = self.held, collections.deque()
         kept = [one for one in held if not self.is_ahead(one)]
         return [(one.line, one.line) for one in kept], len(held) - len(kept)
@@ -120,7 +121,7 @@ class MedianClock:
         return one.at is not None and self.time is not None and one.at > self.time + self.tolerance()
 
     def is_decided(self, one: Held) -> bool:
-        """Returns whether a line need not wait for the clock any longer."""
+        """Returns whether a line no longer needs to wait for the clock."""
         if one.at is None or self.time is None or not self.is_ahead(one):
             return True
         known = self.offsets.get(station_of(one.line))
@@ -129,16 +130,16 @@ class MedianClock:
                                                                                 known) <= self.tolerance()
 
     def has_several(self) -> bool:
-        """Returns whether enough stations have names for their clocks to be compared."""
+        """Returns whether enough stations have names to compare their clocks."""
         return len(self.stations) >= LEAST_STATIONS
 
     def tolerance(self) -> int:
-        """Returns how many seconds a stamp may lie ahead of the middle."""
+        """Returns the seconds that a stamp may be ahead of the median."""
         return self.slack if self.has_several() else AHEAD
 
     def timed(self, one: Held) -> Timed:
-        """Returns a line as it came, and with the clock's time when it came if its own is ahead of that; a leap since
-        then counts."""
+        """Returns a line as it arrived, and with its time. If its own time is ahead of the clock at its arrival, it
+        gets that clock's time; a leap of the clock since then counts."""
         if one.at is None or self.time is None or not self.is_ahead(one):
             return one.line, one.line
         at = one.time if one.leaps == self.leaps else self.time
@@ -158,7 +159,7 @@ def day_of(at: int) -> str:
 
 
 def begin_of(day: str) -> int:
-    """Returns when a day begins."""
+    """Returns the start of a day."""
     return calendar.timegm(time.strptime(day, "%Y-%m-%d"))
 
 
@@ -168,13 +169,13 @@ def days_in(folder: str) -> list[str]:
 
 
 class DayFiles:
-    """A folder with a file of lines for each day; the last file grows."""
+    """A folder with one file of lines per day; the last file grows."""
 
     def __init__(self, folder: str) -> None:
         self.folder = folder
         self.day: str | None = None
         self.out: BinaryIO | None = None
-        self.length = 0                         # of the last file, with what is buffered
+        self.length = 0                         # of the last file, including buffered bytes
         os.makedirs(folder, exist_ok=True)
         days = self.days()
         if days:
@@ -189,7 +190,7 @@ class DayFiles:
         return os.path.join(self.folder, day + ".log")
 
     def open(self, day: str) -> None:
-        """Continues a day's file after its last whole line."""
+        """Opens a day's file and continues it after its last whole line."""
         if self.out:
             self.out.close()
         out = open(self.path(day), "ab")
@@ -206,33 +207,33 @@ class DayFiles:
         self.length += len(line)
 
     def flush(self) -> None:
-        """Writes what is buffered."""
+        """Writes the buffered bytes."""
         if self.out:
             self.out.flush()
 
     def place(self) -> Mark:
-        """Returns the place after all that is written."""
+        """Returns the place after everything written so far."""
         assert self.day is not None and self.out is not None        # a line was written
         return self.day, self.length
 
     def place_for(self, at: int) -> Mark:
-        """Returns where a line would be written at a time of the clock."""
+        """Returns the place at which a line would go at a time of the clock."""
         day = day_of(at)
         return (day, 0) if self.out is None or self.day is None or day > self.day else self.place()
 
     def add_marks(self, marks: dict[int, Mark]) -> None:
-        """Stores where the lines of some times begin, once they are written."""
+        """Stores the places at which the lines of some times begin, after writing these lines."""
         for number, (day, offset) in marks.items():
             with open(self.marks_path(day), "a", encoding="ascii") as out:
                 out.write(f"{number} {offset}\n")
 
     def marks_path(self, day: str) -> str:
-        """Returns the file of a day's marks."""
+        """Returns the path of a day's marks."""
         return os.path.join(self.folder, day + ".marks")
 
     def marks(self, day: str) -> dict[int, Mark]:
-        """Returns the stored marks of a day. A line that was cut off, or a place after the end of the day's file, is
-        none."""
+        """Returns the stored marks of a day. It ignores incomplete lines, and places after the end of the day's file.
+        """
         try:
             with open(self.marks_path(day), encoding="ascii") as source:
                 told = [line.split() for line in source if MARK.fullmatch(line)]
@@ -248,7 +249,7 @@ class DayFiles:
         self.out = None
 
     def beginning(self, at: int) -> Mark:
-        """Returns where to look for the lines of a time: the first day's file that may have one."""
+        """Returns the place from which to search for the lines of a time: the first day's file that may have one."""
         return next((day for day in self.days() if day >= day_of(at)), day_of(at)), 0
 
     def after(self, day: str) -> str | None:
@@ -256,11 +257,11 @@ class DayFiles:
         return next((later for later in self.days() if later > day), None)
 
     def blocks(self, place: Mark, goes_on: Callable[[], Mark | None]) -> Iterator[bytes]:
-        """Yields the bytes from a place on as they arrive, up to the place that `goes_on` returns; yields an empty
-        block while there are no more."""
+        """Yields the bytes from a place as they arrive, up to the place that `goes_on` returns. Yields an empty block
+        while there are none."""
         day, offset = place
         while True:
-            limit = goes_on()                          # asked first: what was written before it is read below
+            limit = goes_on()                          # before the read below, which then gets all lines up to it
             later, most = self.after(day), BLOCK
             if limit and limit[0] == day:
                 most = min(most, limit[1] - offset)
@@ -277,7 +278,7 @@ class DayFiles:
 
 
 def read_at(path: str, offset: int, most: int) -> bytes:
-    """Returns at most this many bytes of a file from an offset on."""
+    """Returns at most `most` bytes of a file from an offset."""
     if most <= 0 or not os.path.exists(path):
         return b""
     with open(path, "rb") as source:
@@ -300,10 +301,10 @@ def whole_length(path: str) -> int:
 
 
 def lines_of(path: str, offset: int = 0) -> Iterator[bytes]:
-    """Yields the lines of a file from an offset on."""
+    """Yields the lines of a file from an offset."""
     try:
         with open(path, "rb") as source:
             source.seek(offset)
             yield from source
     except OSError as error:
-        raise Fault(f"{path} cannot be read: {reason(error)}") from None
+        raise Fault(f"cannot read {path}: {reason(error)}") from None

@@ -1,8 +1,7 @@
-"""The vessels of a stream as it grows: the last reports that the program accepted, and what the vessels say of
-themselves.
+"""The vessels of a growing stream: their last reports that the program accepted, and their static data.
 
-Positions are the program's rows `point`. Names, types, lengths and navigational statuses are read from the lines, as
-the program reads them.
+Positions come from the program's rows `point`. Names, types, lengths and navigational statuses come from the lines,
+decoded like the program does.
 """
 import bisect
 import time
@@ -18,9 +17,9 @@ from colregs.model.ships import status_words, type_words
 from colregs.model.tracks import NONE, Place, Track
 from colregs.shares.types import LEAST, MOST, ship_type
 
-SPAN, LEAST_REPORTS = 2400, 240     # a track has the reports of so many seconds, and no fewer than so many
-MOST_ABOUT = 20000                  # vessels whose names are stored: those that were heard last
-CUT = 32                            # reports that are too old before a track is cut
+SPAN, LEAST_REPORTS = 2400, 240     # a track has the reports of SPAN s, and at least LEAST_REPORTS reports
+MOST_ABOUT = 20000                  # the most vessels with stored names: those heard last
+CUT = 32                            # a track is cut after this many reports are too old
 # the first letters of payloads of position reports, and of those with a vessel's own data
 CLASS_A, CLASS_B, STATIC = b"123", b"B", b"5CH"
 NO_HEADING, HEADING = 360, 23       # a heading from this on is none; letters of a payload up to the heading
@@ -32,21 +31,21 @@ HULLS = {5: (422, 240), 19: (312, 271), 24: (162, 132)}
 
 @dataclass
 class About:
-    """What a vessel says of herself: her name, ITU-R M.1371 type, length in metres, navigational status, and heading in
-    degrees."""
+    """A vessel's data from her messages: her name, ITU-R M.1371 type, length in metres, navigational status, and
+    heading in degrees."""
 
     name: str = ""
     kind: int = 0
     length: int = 0
     status: int | None = None
     heading: int | None = None
-    heard: int = 0                  # the clock at her last message of these
+    heard: int = 0                  # the clock at her last such message
 
 
 @dataclass
 class Ship:
-    """A vessel with a position: her last reports by seconds since the Unix epoch, and the time at which her position
-    last changed."""
+    """A vessel with a position: her last reports by seconds since the Unix epoch, and the time of the last change of
+    her position."""
 
     mmsi: int
     track: Track = field(default_factory=Track)
@@ -58,26 +57,26 @@ class Ship:
 
 
 def name_of(bits: Bits, first: int) -> str:
-    """Returns the 20 letters of the six-bit set from a bit on; an `@` ends them."""
+    """Returns up to 20 six-bit letters from a bit; an `@` ends them."""
     codes = (bits.number(first + 6 * k, 6) for k in range(20))
     return "".join(chr(code + 64 if code < 32 else code) for code in codes).partition("@")[0].rstrip()
 
 
 class Fleet:
-    """Takes the lines of a stream and the points of the program, and forgets vessels that are silent for long."""
+    """Takes the lines of a stream and the points of the program, and forgets vessels after a long silence."""
 
     def __init__(self, gap: int) -> None:
         self.gap, self.joiner = gap, Joiner()
         self.ships: dict[int, Ship] = {}
         self.about: dict[int, About] = {}
-        # vessels with a newer report, or other data, since a user of this fleet emptied the sets
+        # vessels with a newer report, or new data, since a user of this fleet emptied the sets
         self.moved: set[int] = set()
         self.told: set[int] = set()
         self.gone: set[int] = set()
         self.clock = 0                      # the time of the latest point
-        self.arrived = time.monotonic()     # when the last point came, by this machine's clock
+        self.arrived = time.monotonic()     # the arrival of the last point, by this machine's clock
 
-    # what the lines say
+    # data from lines
 
     def take_line(self, line: bytes, clock: int) -> None:
         """Takes a line, with the time of the stream's clock."""
@@ -100,14 +99,14 @@ class Fleet:
         known = self.about.get(mmsi)
         if known and (known.status, known.heading) == (status, heading):
             known.heard = clock
-        elif sentence_of(line) is not None:                 # its sum is right
+        elif sentence_of(line) is not None:                 # its checksum is right
             known = self.note(mmsi, clock)
             if known.status != status:
                 self.told.add(mmsi)
             known.status, known.heading = status, heading
 
     def take_static(self, line: bytes, clock: int) -> None:
-        """Takes a sentence that may hold or complete a vessel's own data."""
+        """Takes a sentence that may contain or complete a vessel's static data."""
         sentence = sentence_of(line)
         message = self.joiner.take(sentence, clock) if sentence else None
         if message is None:
@@ -128,7 +127,7 @@ class Fleet:
             self.told.add(mmsi)
 
     def note(self, mmsi: int, clock: int) -> About:
-        """Returns what is known of a vessel that is heard now."""
+        """Returns the data of a vessel that is heard now."""
         known = self.about.setdefault(mmsi, About())
         known.heard = clock
         if len(self.about) > MOST_ABOUT:
@@ -136,11 +135,11 @@ class Fleet:
             self.about = {one: self.about[one] for one in latest}
         return known
 
-    # what the program accepted
+    # accepted reports
 
     def take_point(self, row: str) -> None:
-        """Takes a row `point`. Two windows report the same points: one that is not newer than the last of its vessel is
-        ignored."""
+        """Takes a row `point`. Two windows report the same points, so this ignores a point that is not newer than the
+        vessel's last one."""
         self.arrived = time.monotonic()
         fields = row.split(",")
         mmsi, at = int(fields[1]), int(fields[2])
@@ -159,7 +158,7 @@ class Fleet:
 
     @staticmethod
     def cut(track: Track, first: int) -> None:
-        """Forgets the reports before a time, if they are many."""
+        """Drops the reports before a time, if they are many."""
         k = min(bisect.bisect_left(track.times, first), len(track.times) - LEAST_REPORTS)
         if k > CUT:
             columns: list[array[Any]] = [track.times, track.xs, track.ys, track.speeds, track.courses]
@@ -181,18 +180,18 @@ class Fleet:
         return known.name if known and known.name else str(mmsi)
 
     def kind_words(self, mmsi: int) -> str:
-        """Returns the type of a vessel in words, or nothing."""
+        """Returns the type of a vessel in words, or an empty text."""
         known = self.about.get(mmsi)
         return type_words(known.kind) if known else ""
 
     def status_words(self, mmsi: int) -> str:
-        """Returns the navigational status of a vessel in words, or nothing."""
+        """Returns the navigational status of a vessel in words, or an empty text."""
         known = self.about.get(mmsi)
         return status_words(known.status) if known else ""
 
     def place(self, mmsi: int, at: float) -> Place | None:
-        """Returns where a vessel was at a time, straight between two reports, or at her last report if that is older;
-        None if nobody knows."""
+        """Returns the place of a vessel at a time, interpolated between two reports, or the place of her last report if
+        that is older; None if it is unknown."""
         ship = self.ships.get(mmsi)
         if ship is None or not ship.track.times or at < ship.track.times[0]:
             return None
@@ -207,7 +206,7 @@ class Fleet:
         )
 
     def all_about(self) -> Iterator[tuple[int, About]]:
-        """Yields what the vessels with a position say of themselves."""
+        """Yields the data of the vessels with a position."""
         for mmsi in self.ships:
             yield mmsi, self.about.get(mmsi, About())
 

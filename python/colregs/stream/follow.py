@@ -1,8 +1,8 @@
-"""Keeps overlapping runs of the program over a stream that does not end, and writes each of their rows once.
+"""Follows an endless stream with overlapping runs of the program, and writes each of their rows once.
 
-Windows begin at whole multiples of `every`, so that a restart makes the same ones, and each runs on into the next by
-the overlap. A row is of the window in whose own steps it ends; docs/TRAFFIC_SERVICE.md says why that is each row once,
-and what it needs.
+Windows begin at whole multiples of `every`, so that a restart makes the same ones, and each overlaps the next. A row
+belongs to the window whose own steps contain its end. docs/TRAFFIC_SERVICE.md says why each row then appears once, and
+under which conditions.
 """
 import argparse
 import dataclasses
@@ -34,26 +34,26 @@ from colregs.stream.runs import StreamRun, Window, WindowRun
 from colregs.stream.sources import Source
 from colregs.stream.types import StreamTypes
 
-WAITING, MOST_RUNS = 16, 12      # blocks of lines that wait at most; runs at a time beyond which lines wait
+WAITING, MOST_RUNS = 16, 12      # the most waiting blocks of lines; lines wait if more runs than this are left
 LEAST, MOST = 200000000, 799999999
 MARK = 600                       # s
-NEW = 10                         # s of the clock between looks for vessels that are in no group yet
-MOST_RESTARTS = 5                # of one run that was killed
+NEW = 10                         # s of the clock between searches for vessels without a group
+MOST_RESTARTS = 5                # of one killed run
 
 
 class Numbers:
-    """The windows' numbers: how they lie, and which steps each has for its own."""
+    """The layout of windows: their starts, and each window's own steps."""
 
     def __init__(self, scenario: Scenario, every: int, overlap: int) -> None:
         self.tick, self.every, self.ticks = scenario.tick, every, every + overlap
         self.gap, self.more = scenario.gap, scenario.gap + scenario.slack
         self.length = every * scenario.tick
-        self.warm = scenario.steps(max(scenario.gap, STRADDLE)) + 1     # until it agrees with the window before
+        self.warm = scenario.steps(max(scenario.gap, STRADDLE)) + 1     # steps until it agrees with the window before
         self.reach, self.last = scenario.reach, scenario.settled(self.ticks)
-        self.behind = self.last - every                # the last step that is the window's before
+        self.behind = self.last - every                # the last step that belongs to the window before
 
     def starts(self, clock: int) -> Iterator[int]:
-        """Yields the starts of the windows that are open at a time of the clock."""
+        """Yields the starts of the open windows at a time of the clock."""
         k = max(0, (clock - self.ticks * self.tick - self.more) // self.length)
         while k * self.length - self.gap <= clock:
             if not self.is_over(k * self.length, clock):
@@ -65,37 +65,37 @@ class Numbers:
         return clock > start + self.ticks * self.tick + self.more
 
     def settled(self, start: int, clock: int, mode: str) -> int:
-        """Returns the last step by which a row is ordered that the clock settles."""
+        """Returns the last step that the clock settles; rows up to it are final."""
         behind = 1 if mode == "watch" else self.reach + 2
         return -(-(clock - self.more - start) // self.tick) - 1 - behind
 
 
 class Listener(Protocol):
-    """What looks at a stream as it is followed. With one, each window has a run of `points` too, and new lines wait
+    """An observer of a followed stream. With a listener, each window also has a run of `points`, and new lines wait
     while the runs are behind."""
 
     def load(self, days: list[str]) -> None:
-        """Takes what an earlier run wrote into the day files of these days."""
+        """Loads what an earlier run wrote to the day files of these days."""
 
     def lines(self, lines: list[bytes], clock: int) -> None:
-        """Takes lines as they are in the day files, with the time of the clock after them."""
+        """Takes lines in the form of the day files, with the time of the clock after them."""
 
     def point(self, row: str) -> None:
         """Takes a row of `points`."""
 
     def passed(self, clock: int) -> None:
-        """Takes the time of the clock, after the lines and rows that are there."""
+        """Takes the time of the clock, after the lines and rows so far."""
 
     def ended(self) -> None:
-        """Takes the end of a stream that ended for good, after its last row."""
+        """Handles the final end of a stream, after its last row."""
 
 
-POINTS = "points"                # the mode whose rows only a listener gets
+POINTS = "points"                # the rows of this mode go only to a listener
 
 
 class Follow:
-    """A stream that is followed: its day files, the runs over its windows, and the rows that were written. Close it, or
-    use it with `with`."""
+    """A followed stream: its day files, the runs over its windows, and the written rows. Close it, or use it in a
+    `with` statement."""
 
     def __init__(self, given: argparse.Namespace, scenario: Scenario, program: str, sink: Sink,
                  listener: Listener | None = None) -> None:
@@ -107,25 +107,25 @@ class Follow:
         self.written, self.types = Written(given.days, sink), StreamTypes(given.days, scenario.slack, scenario.ranks)
         self.borders = Borders(self.numbers.last, given.every + self.numbers.warm, given.every, self.numbers.length,
                                sights_of(scenario), self.say)
-        self.restarts: dict[tuple[int, str, frozenset[int] | None], int] = {}     # of runs that were killed
-        self.windows: dict[int, Window] = {}            # those that are open, by their starts
-        self.over: set[int] = set()                     # the starts of those that are closed
+        self.restarts: dict[tuple[int, str, frozenset[int] | None], int] = {}     # of killed runs
+        self.windows: dict[int, Window] = {}            # the open windows by their starts
+        self.over: set[int] = set()                     # the starts of the closed windows
         self.runs: set[WindowRun] = set()
-        self.earliest: dict[str, int] = {}              # the first start of a window with a run in a mode, if known
-        self.heard: dict[int, int] = {}                 # when the clock last heard each vessel
+        self.earliest: dict[str, int] = {}              # by mode: the first start of a window with a run, if known
+        self.heard: dict[int, int] = {}                 # by vessel: the clock when she was last heard
         self.events: queue.Queue[tuple[Any, ...]] = queue.Queue()
-        self.held: list[tuple[WindowRun, str]] = []     # rows that wait for those of windows before them
-        self.ending: dict[int, WindowRun] = {}          # by their starts, windows without a run that wait likewise
+        self.held: list[tuple[WindowRun, str]] = []     # rows that wait for the rows of earlier windows
+        self.ending: dict[int, WindowRun] = {}          # by start: windows without a run that wait for earlier windows
         self.room = tempfile.TemporaryDirectory()
         self.grouped, self.cut, self.faults = False, False, 0
-        self.looked: int | None = None                  # when the clock was at the last look for new vessels
+        self.looked: int | None = None                  # the clock at the last search for new vessels
         self.state = os.path.join(given.days, "windows.json")
-        # the first window that is not done, as it is stored for a restart
+        # the first window that is not done, stored for a restart
         self.first: int | None = None
-        # by ten minutes of the clock, where their first line is in the day files
+        # by ten minutes of the clock: the place of their first line in the day files
         self.marks: dict[int, Mark] = {}
-        self.fresh: dict[int, Mark] = {}                # those that are not stored yet
-        # where the lines begin that are too far ahead of the clock to count yet
+        self.fresh: dict[int, Mark] = {}                # the places that are not stored yet
+        # the place of the first line that is too far ahead of the clock to count yet
         self.ahead: Mark | None = None
 
     def __enter__(self) -> "Follow":
@@ -136,7 +136,7 @@ class Follow:
         self.close()
 
     def close(self) -> None:
-        """Ends the runs that are left, and closes the day files and the sink."""
+        """Ends the remaining runs, and closes the day files and the sink."""
         for run in self.runs:
             run.stop()
         self.sink.close()
@@ -145,16 +145,16 @@ class Follow:
         self.room.cleanup()
 
     def now(self) -> int:
-        """Returns the time of the clock, which a line has set."""
+        """Returns the time of the clock; at least one line has set it."""
         assert self.clock.time is not None
         return self.clock.time
 
     # the lines
 
     def restart(self) -> None:
-        """Reads the earlier day files for the clock and the vessels, from the first window on that is not done.
+        """Reads the clock and the vessels from the earlier day files, starting at the first window that is not done.
 
-        Then it opens the windows that hold the clock.
+        Then opens the windows that contain the clock.
         """
         days, first = self.files.days()[-2:], self.undone()
         if self.listener:
@@ -167,17 +167,17 @@ class Follow:
                 self.read_again(day, begin[1] if day == begin[0] else 0)
         if self.clock.time is not None:
             for start in range(self.now() if first is None else first, self.now(), self.numbers.length):
-                if self.has_lines(start):               # a run that was killed may have been behind the clock
+                if self.has_lines(start):               # a killed run may have been behind the clock
                     self.begin_window(start, True)
             self.open(again=True)
             if first is None and self.windows:
-                # which of its rows began before it is not known
+                # it is unknown which of its rows began before it
                 self.borders.borders[min(self.windows)] = Border(known=True, comparable=False)
             self.close_those_over()
 
     def known_place(self, first: int | None) -> Mark:
-        """Returns where to begin to read the day files, and sets the clock there. Without a stored window or a mark
-        before it, that is their beginning."""
+        """Returns the place from which to read the day files, and sets the clock there. Without a stored window, or
+        without a mark before it, that is the start of the files."""
         before = [mark for mark in self.marks if first is not None and mark <= (first - self.numbers.more) // MARK]
         if not before:
             return "", 0
@@ -185,7 +185,7 @@ class Follow:
         return self.marks[max(before)]
 
     def read_again(self, day: str, offset: int) -> None:
-        """Reads a day's file from an offset on."""
+        """Reads a day's file from an offset."""
         for line in lines_of(self.files.path(day), offset):
             now = self.clock.take(line)
             if now is not None:
@@ -197,13 +197,12 @@ class Follow:
             offset += len(line)
 
     def has_lines(self, start: int) -> bool:
-        """Returns whether the day files have lines from about a window's time."""
+        """Returns whether the day files have lines near a window's time."""
         first, last = start - self.numbers.more, start + self.numbers.ticks * self.numbers.tick + self.numbers.more
         return any(first // MARK <= mark <= last // MARK for mark in self.marks)
 
     def undone(self) -> int | None:
-        """Returns the start of the first window whose rows an earlier run has not all written; None if none is
-        stored."""
+        """Returns the start of the first window whose rows an earlier run has not finished; None if none is stored."""
         try:
             with open(self.state, encoding="utf-8") as source:
                 stored = json.load(source)
@@ -213,14 +212,14 @@ class Follow:
             return None
 
     def tell_done(self) -> None:
-        """Stores for a restart which windows are not done yet."""
+        """Stores which windows are not done yet, for a restart."""
         starts = [run.window.start for run in self.runs] + list(self.windows)
         if starts and min(starts) != self.first:
             self.first = min(starts)
             replace(self.state, json.dumps({"first": self.first, **self.borders.stored()}).encode())
 
     def hear(self, line: bytes) -> None:
-        """Notes which vessel a line is of."""
+        """Notes the vessel of a line."""
         mmsi = self.senders.of(line)
         if mmsi is not None and LEAST <= mmsi <= MOST:
             self.heard[mmsi] = self.now()
@@ -243,7 +242,7 @@ class Follow:
             self.health.take(came, came != line)
             now = self.clock.time
             if now is None:
-                continue                                # nobody knows its time yet
+                continue                                # its time is still unknown
             place = self.files.place_for(now)
             self.ahead = (self.ahead or place) if self.clock.ahead else None
             if now // MARK not in self.marks:
@@ -254,7 +253,7 @@ class Follow:
             taken.append(line)
 
     def after(self, taken: list[bytes]) -> None:
-        """Does what follows lines that were written: ends windows, takes in new vessels, and stores where it is."""
+        """Runs after lines were written: ends windows, adds new vessels, and stores the position."""
         self.files.flush()
         self.files.add_marks(self.fresh)
         self.fresh = {}
@@ -267,20 +266,20 @@ class Follow:
         self.tell_done()
 
     def open(self, again: bool, place: Mark | None = None) -> None:
-        """Begins the windows that are open by now; `place` is where the lines begin that were ahead of the clock until
-        now."""
+        """Begins the windows that are open by now; `place` is the place of the first line that was ahead of the clock
+        until now."""
         for start in self.numbers.starts(self.now()):
             if start not in self.windows and start not in self.over:
                 self.begin_window(start, again, place)
 
     def place_of(self, at: int) -> Mark:
-        """Returns a place in the day files before which no line has a time as late as this."""
+        """Returns a place in the day files such that all lines before it are earlier than a time."""
         marks = [mark for mark in self.marks if mark <= at // MARK]
         return self.marks[max(marks)] if marks else self.files.beginning(at)
 
     def begin_window(self, start: int, again: bool, place: Mark | None = None) -> None:
-        """Begins the runs of a window, with the lines from now or from a place on; with `again` also with those of the
-        day files before."""
+        """Begins the runs of a window, with the lines from now or from a place; with `again`, also with earlier lines
+        of the day files."""
         if again or self.files.out is None:
             place = self.place_of(start - self.numbers.gap)
         self.written.load(start)
@@ -294,7 +293,7 @@ class Follow:
         if self.listener:
             for run in self.runs:
                 if run.mode == POINTS and run.limit is None and self.files.out:
-                    run.end_at(self.files.place(), self.now(), False)       # the new window has the points from here on
+                    run.end_at(self.files.place(), self.now(), False)       # the new window has the points from here
             self.begin(window, POINTS, None)
 
     def close_those_over(self) -> None:
@@ -312,7 +311,7 @@ class Follow:
         self.over = {start for start in self.over if start >= oldest}
         self.heard = {mmsi: at for mmsi, at in self.heard.items() if at >= oldest}
         at_work = min([run.window.start for run in self.runs] + list(self.windows), default=self.now())
-        # the end of a window can write rows of the one before
+        # the end of a window can write rows of the window before
         self.written.forget(at_work - 2 * self.numbers.length)
         self.borders.forget(oldest)
         self.marks = {mark: place for mark, place in self.marks.items() if mark >= oldest // MARK - 1}
@@ -330,13 +329,15 @@ class Follow:
         self.earliest = {}
 
     def vessels(self, window: Window) -> set[int]:
-        """Returns who can be a subject of a window: the scenario's subjects, or who was heard since its lines began."""
+        """Returns the possible subjects of a window: the scenario's subjects, or the vessels heard since its lines
+        began.
+        """
         return set(self.scenario.subjects) or {
             mmsi for mmsi, at in self.heard.items() if at >= window.start - self.numbers.gap
         }
 
     def split(self, window: Window, vessels: list[int], modes: Collection[str] = ()) -> None:
-        """Begins runs of groups of subjects instead of one of all pairs."""
+        """Begins runs of groups of subjects instead of one run of all pairs."""
         self.grouped = True
         window.add_groups(vessels)
         size = min(self.given.group, MOST_SUBJECTS)
@@ -345,7 +346,7 @@ class Follow:
                 self.begin(window, mode, frozenset(vessels[k:k + size]))
 
     def take_in_new(self, all_of_them: bool) -> None:
-        """Begins runs for the vessels that are in no group of a window that is split."""
+        """Begins runs for the vessels without a group in split windows."""
         if self.clock.time is None or self.looked is not None and not all_of_them and self.now() < self.looked + NEW:
             return
         self.looked = self.now()
@@ -356,7 +357,7 @@ class Follow:
                     self.split(window, sorted(new))
 
     def ended(self, run: WindowRun, words: str) -> None:
-        """Takes the end of a run."""
+        """Handles the end of a run."""
         self.runs.discard(run)
         self.earliest = {}
         status = run.status or 0
@@ -377,8 +378,8 @@ class Follow:
         """Audits a window with too many vessels by areas, once its lines are over."""
         if any(isinstance(other, AreaRun) and other.window is run.window for other in self.runs):
             return
-        self.say(f"more than 4096 vessels in the window from {run.window.start}: it is audited by areas when it is "
-                 "over")
+        self.say(f"the window from {run.window.start} has more than 4096 vessels; an audit by areas starts after its "
+                 "end")
         new = AreaRun(run.window, self.scenario, self.numbers.ticks, self.program, self.files, self.events.put)
         self.runs.add(new)
         self.earliest = {}
@@ -386,11 +387,11 @@ class Follow:
             new.end_at(run.limit, run.closed, run.cut)
 
     def begin_again(self, run: WindowRun) -> None:
-        """Begins a run again that was killed, from the day files; the rows that it wrote are not written again."""
+        """Restarts a killed run from the day files; it does not repeat the rows that the run already wrote."""
         self.restarts[run.key()] = self.restarts.get(run.key(), 0) + 1
         self.health.restarts += 1
-        self.say(f"a run of `{run.mode}` from {run.window.start} was killed by signal {-(run.status or 0)}, and "
-                 "begins again from the day files")
+        self.say(f"signal {-(run.status or 0)} killed a run of `{run.mode}` from {run.window.start}; it starts again "
+                 "from the day files")
         before = set(self.runs)
         self.begin(run.window, run.mode, run.group)
         if run.limit and run.closed is not None:
@@ -401,12 +402,12 @@ class Follow:
         """Splits a run with too many pairs into runs of groups, and a group into two."""
         vessels = sorted(run.group or self.vessels(run.window))
         if len(vessels) < 2:
-            self.fault(f"{vessels[0]} alone is in contact with more vessels than 4096 pairs take: take a smaller "
+            self.fault(f"{vessels[0]} alone has more contacts than the 4096 pairs of a run: use a smaller "
                        "`detect.watch`, or a shorter --ticks-each")
             return
         before = set(self.runs)
         if run.group is None:
-            self.say(f"more than 4096 pairs in the window from {run.window.start}: it is split by subjects")
+            self.say(f"the window from {run.window.start} has more than 4096 pairs: split by subjects")
             self.split(run.window, vessels, [run.mode])
         else:
             for half in (vessels[:len(vessels) // 2], vessels[len(vessels) // 2:]):
@@ -418,7 +419,7 @@ class Follow:
     # the rows
 
     def row(self, run: WindowRun, row: str) -> None:
-        """Writes a row if it is of its window's own steps, and settled."""
+        """Writes a row if it ends in its window's own steps and is settled."""
         numbers, start = self.numbers, run.window.start
         first, last = steps_of(row)
         fields = row.split(",", 3)
@@ -426,26 +427,26 @@ class Follow:
             return
         marks = self.borders.take(start, row) if run.mode == "audit" else ()
         if run.cut and run.closed is not None and last > numbers.settled(start, run.closed, run.mode):
-            return                                      # what comes later may still change it
+            return                                      # later lines may still change it
         if last > numbers.last and first < numbers.every + numbers.warm:
             self.tell_long(run, row)
         if numbers.behind < last <= numbers.last or last > numbers.last and self.is_last(run):
             self.health.rows += self.written.write(row, run.mode, start, numbers.tick, marks)
 
     def tell_long(self, run: WindowRun, row: str) -> None:
-        """Reports once per run that a row is longer than the overlap."""
+        """Reports that a row is longer than the overlap, once per run."""
         if run.note_long():
             self.say(f"a row of the window from {run.window.start} is longer than the overlap, so the next window "
-                     f"reports it otherwise: {row}")
+                     f"reports it differently; give a longer --overlap: {row}")
 
     def is_last(self, run: WindowRun) -> bool:
-        """Returns whether a run is of the last window of a stream that ended for good."""
+        """Returns whether a run belongs to the last window of a stream that ended for good."""
         following = run.window.start + self.numbers.length - self.numbers.gap
         return self.given.whole and run.closed is not None and following > run.closed
 
     def is_early(self, run: WindowRun) -> bool:
-        """Returns whether a window before this run's is not done: its rows come first, and none that comes later delays
-        them. So do its points, since a listener ignores points that are older than those that it has."""
+        """Returns whether a window before this run's window is not done. The rows and the points of that window come
+        first: later rows must not delay them, and a listener ignores points that are older than those that it has."""
         if run.mode not in self.earliest:
             starts = [other.window.start for other in self.runs if other.mode == run.mode]
             if not starts:
@@ -454,7 +455,7 @@ class Follow:
         return self.earliest[run.mode] < run.window.start
 
     def handle(self, event: tuple[Any, ...]) -> None:
-        """Takes a row or the end of a run."""
+        """Handles a row or the end of a run."""
         if event[0] == "row" and self.is_early(event[1]):
             self.held.append((event[1], event[2]))
         elif event[0] == "row" and event[1].mode == POINTS:
@@ -472,11 +473,11 @@ class Follow:
                 self.tell_done()
 
     def has_audit(self, start: int) -> bool:
-        """Returns whether a run of `audit` over the window that begins at a time has not ended."""
+        """Returns whether a run of `audit` over the window from `start` has not ended."""
         return any(run.mode == "audit" and run.window.start == start for run in self.runs)
 
     def hand_on(self) -> None:
-        """Hands on the rows that waited for windows before them, and ends the windows without a run, in order."""
+        """Passes on the rows that waited for earlier windows, and ends the windows without a run, in order."""
         held: dict[int, list[tuple[WindowRun, str]]] = {}
         for run, row in self.held:
             held.setdefault(run.window.start, []).append((run, row))
@@ -488,22 +489,22 @@ class Follow:
                 self.end_window(self.ending.pop(start))
 
     def end_window(self, run: WindowRun) -> None:
-        """Ends a window whose last run has ended: rows of the one before it that continue after that one, and that this
-        window lacks, are written with a mark."""
+        """Ends a window whose last run has ended. Writes, with a mark, the rows of the window before that continue
+        after that window but that this window lacks."""
         start, following = run.window.start, run.window.start + self.numbers.length
         self.write_over(start - self.numbers.length, self.borders.end(start))
         if following not in self.ending and not self.has_audit(following) and not self.is_last(run):
             self.write_over(start, self.borders.end(following))         # no window follows
 
     def write_over(self, start: int, rows: list[tuple[str, Marks]]) -> None:
-        """Writes rows of the window that begins at a time that continue after it."""
+        """Writes rows of the window from `start` that continue after it."""
         for row, marks in rows:
             self.health.rows += self.written.write(row, "audit", start, self.numbers.tick, (*marks, AFTER))
 
-    # the whole
+    # the whole stream
 
     def run(self, source: Source, stop: threading.Event) -> int:
-        """Takes the stream to its end, or until `stop` is set; returns the exit status."""
+        """Follows the stream to its end, or until `stop` is set; returns the exit status."""
         room = threading.Semaphore(WAITING)
         self.restart()
         threading.Thread(target=self.read, args=(source, room), daemon=True).start()
@@ -528,30 +529,30 @@ class Follow:
             elif event:
                 self.handle(event)
             if self.listener and self.clock.time is not None and (event is None or self.clock.time != passed):
-                passed = self.clock.time                # not after each of many rows at one time
+                passed = self.clock.time                # once for many rows at the same time
                 self.listener.passed(passed)
         source.stop()
         self.finish()
         return FAILED if self.faults else DONE
 
     def is_behind(self) -> bool:
-        """Returns whether new lines wait for the runs, so that a listener gets rows and points of about one time
-        together."""
+        """Returns whether new lines must wait for the runs, so that a listener gets rows and points of about the same
+        time together."""
         return self.listener is not None and any(run.behind for run in self.runs)
 
     def crowded(self) -> bool:
-        """Returns whether many runs only have to end: those of open windows are no reason to wait."""
+        """Returns whether many runs of closed windows have not ended; runs of open windows are no reason to wait."""
         return sum(run.limit is not None for run in self.runs) >= MOST_RUNS
 
     def next(self, wait: bool) -> tuple[Any, ...] | None:
-        """Returns the next event, or None if there is none for a while."""
+        """Returns the next event, or None after a while without one."""
         try:
             return self.events.get(timeout=0.2 if wait else 0.001)
         except queue.Empty:
             return None
 
     def read(self, source: Source, room: threading.Semaphore) -> None:
-        """Hands on the lines of the source."""
+        """Passes on the lines of the source."""
         try:
             for lines, mark in source.lines():
                 room.acquire()
@@ -561,7 +562,7 @@ class Follow:
             self.events.put(("end", error))
 
     def finish(self) -> None:
-        """Ends all runs; if the stream continues some time, only the rows that are settled are written."""
+        """Ends all runs. If the stream continues later, writes only settled rows."""
         self.cut = not self.given.whole
         waiting, left_out = self.clock.last()
         taken: list[bytes] = []
@@ -569,7 +570,7 @@ class Follow:
         if taken:
             self.after(taken)
         if left_out:
-            self.say(f"the last {left_out} lines are ahead of the clock of most, and are not used")
+            self.say(f"ignores the last {left_out} lines: their times are ahead of the clock of most stations")
         if self.clock.time is not None:
             self.take_in_new(True)
             for run in self.runs:
@@ -588,13 +589,15 @@ class Follow:
         report("follow", words)
 
     def fault(self, words: str) -> None:
-        """Reports what failed; the stream is followed further."""
+        """Reports a failure; the tool continues to follow the stream."""
         self.faults += 1
         self.say(words)
 
 
 def sights_of(scenario: Scenario) -> dict[str, Sight]:
-    """Returns what the scenario's formulas see, looking back by ticks; those that the program will refuse have none."""
+    """Returns the sights of the scenario's formulas, with look-back in ticks; without formulas that the program
+    refuses.
+    """
     found = {}
     for name, text in scenario.formulas.items():
         try:

@@ -1,5 +1,4 @@
-"""The last minutes of two vessels of a stream, in the form in which marks are computed of a case
-(colregs/model/marks.py)."""
+"""The last minutes of two vessels of a stream, in the form of a case, for computing marks (colregs/model/marks.py)."""
 from array import array
 from collections.abc import Iterable, Mapping
 
@@ -16,8 +15,8 @@ def shifted(track: Track, start: int) -> Track:
 
 
 class Lately:
-    """Two vessels of a fleet from 20 minutes before a stretch to its end. Of a stretch longer than the stored tracks,
-    only its end counts."""
+    """Two vessels of a fleet from 20 minutes before a stretch to its end. If the stretch is longer than the stored
+    tracks, only its end counts."""
 
     def __init__(self, fleet: Fleet, tick: int, subject: int, other: int, first: int, last: int) -> None:
         self.tick, self.gap = tick, fleet.gap
@@ -34,32 +33,32 @@ class Lately:
         self.vessels = {mmsi: vessel_of(mmsi, fleet.about.get(mmsi, About())) for mmsi in (subject, other)}
 
     def stretches(self) -> list[Stretch]:
-        """Returns the one stretch."""
+        """Returns the only stretch."""
         return [self.row]
 
     def moment(self, step: int) -> int:
-        """Returns when a step begins, in seconds since the Unix epoch."""
+        """Returns the start of a step, in seconds since the Unix epoch."""
         return self.start + step * self.tick
 
     def rest(self, row: Stretch) -> str:
-        """Returns who lies still in a stretch: `subject`, `other`, `both` or nobody."""
+        """Returns which vessel is at rest in a stretch: `subject`, `other`, `both` or an empty text."""
         first, last = row.first * self.tick, (row.last + 1) * self.tick
         still = [mmsi in self.tracks and rest.at_rest(self.tracks[mmsi], first, last) for mmsi in row.pair]
         return rest.MARKS[still[0], still[1]]
 
     def lost(self, row: Stretch) -> lost.Lost | None:
-        """Returns None: while a stretch is new, nobody knows whether contact is lost."""
+        """Returns None: while a stretch is new, it is unknown whether contact will be lost."""
         return None
 
 
 def vessel_of(mmsi: int, about: About) -> Vessel:
-    """Returns a vessel as a row of a report has it."""
+    """Returns a vessel in the form of a report's row."""
     return Vessel(mmsi, about.name, about.kind, about.length, None, None)
 
 
 def marks_of(fleet: Fleet, tick: int, pair: tuple[int, int], first: int, last: int) -> tuple[str, list[str]]:
-    """Returns who of two vessels lies still between two times, and the marks of the stretch; nobody and none if one has
-    no position."""
+    """Returns which of two vessels is at rest between two times, and the marks of the stretch; an empty text and no
+    marks if a vessel has no position."""
     if not all(mmsi in fleet.ships for mmsi in pair):
         return "", []
     lately = Lately(fleet, tick, pair[0], pair[1], first, last)
@@ -71,7 +70,7 @@ def marks_of(fleet: Fleet, tick: int, pair: tuple[int, int], first: int, last: i
 
 
 def rest_of(fleet: Fleet, pair: Iterable[int], first: int, last: int) -> str:
-    """Returns who of two vessels lies still between two times. This is cheap, and `marks_of` is not."""
+    """Returns which of two vessels is at rest between two times. This is cheap; `marks_of` is not."""
     ships = [fleet.ships.get(mmsi) for mmsi in pair]
     still = [ship is not None and rest.at_rest(ship.track, max(first, last - SPAN), last) for ship in ships]
     return rest.MARKS[still[0], still[1]]

@@ -1,5 +1,4 @@
-"""Rows of a stream as JSON lines, each once: a file of rows for each day, and beside it standard output, a file or a
-command."""
+"""Rows of a stream as JSON lines, each once: in one file per day, and on standard output, in a file or to a command."""
 import json
 import os
 import subprocess
@@ -14,14 +13,13 @@ from colregs.stream.day_files import day_of, whole_length
 
 
 def as_values(text: str, mode: str, start: int, tick: int, marks: Iterable[str] = ()) -> dict[str, Any]:
-    """Returns a row of the program as a dictionary, with times instead of steps; `row` and `run` are as the program has
-    them.
+    """Returns a row of the program as a dictionary, with times instead of steps; `row` and `run` are unchanged.
 
     `marks` say why one run over the whole stream may have another row (colregs/stream/borders.py).
     """
     row = row_of(text.split(","))
     if not isinstance(row, (Meeting, Verdict, Alarm)):
-        raise ValueError(f"`{text}` is no row of a stream")
+        raise ValueError(f"`{text}` is not a row of a stream")
     made: dict[str, Any] = {
         "mode": mode, "run": start, "row": text, "kind": text.partition(",")[0], "subject": row.subject,
         "other": row.other
@@ -39,24 +37,23 @@ def as_values(text: str, mode: str, start: int, tick: int, marks: Iterable[str] 
 
 
 def steps_of(text: str) -> tuple[int, int]:
-    """Returns the first step of a row and the one by which it is ordered: its last, or the one that decides an
-    alarm."""
+    """Returns the first step of a row and the step that orders it: its last one, or the one that decides an alarm."""
     fields = text.split(",")
     at = 5 if fields[0] == "verdict" else 4
     return int(fields[at]), int(fields[at + 1])
 
 
-MISSING = "missing"              # the kind of a line that says that a window has no rows, or not all
+MISSING = "missing"              # the kind of a line that reports missing rows of a window
 
 
 class Sink(Protocol):
-    """Where rows go."""
+    """A destination of rows."""
 
     def write(self, line: str) -> None:
         """Writes one line."""
 
     def close(self) -> None:
-        """Writes what is left, and ends."""
+        """Writes the remaining rows, and ends."""
 
 
 class Standard:
@@ -72,13 +69,13 @@ class Standard:
 
 
 class File:
-    """A file that rows are added to."""
+    """A file to which rows are appended."""
 
     def __init__(self, path: str) -> None:
         try:
             self.out = open(path, "a", encoding="utf-8")
         except OSError as error:
-            raise Fault(f"{path} cannot be written: {reason(error)}") from None
+            raise Fault(f"cannot write {path}: {reason(error)}") from None
 
     def write(self, line: str) -> None:
         """Writes one line at once."""
@@ -94,7 +91,7 @@ NOT_RUN = 126, 127        # statuses of a shell that cannot run its command
 
 
 class Command:
-    """A command of the shell that reads rows; if it has ended, it is started again once per row."""
+    """A shell command that reads rows. If it has ended, each row starts it again at most once."""
 
     def __init__(self, words: str) -> None:
         self.words = words
@@ -114,7 +111,7 @@ class Command:
                 self.child.wait()
                 self.child = None
                 if not again:
-                    raise Fault(f"`{self.words}` takes no rows") from None
+                    raise Fault(f"`{self.words}` does not read rows; check the command") from None
 
     def close(self) -> None:
         """Ends the command's input, and waits for its end."""
@@ -128,8 +125,8 @@ class Command:
 
 
 class Written:
-    """The rows that were written, by mode and window; each goes to the sink and then into the day's file, which a
-    restart reads."""
+    """The written rows by mode and window. Each row goes to the sink and then to the day's file, which a restart reads.
+    """
 
     def __init__(self, folder: str, sink: Sink) -> None:
         self.folder, self.sink = folder, sink
@@ -139,7 +136,7 @@ class Written:
         self.out_path = ""
 
     def path(self, start: int) -> str:
-        """Returns the file of the rows of the day on which a window starts."""
+        """Returns the path of the rows of the day on which a window starts."""
         return os.path.join(self.folder, day_of(start) + ".rows")
 
     def load(self, start: int) -> None:
@@ -156,7 +153,7 @@ class Written:
                     self.known.setdefault((row["mode"], row["run"]), set()).add(row["row"])
 
     def write(self, row: str, mode: str, start: int, tick: int, marks: Iterable[str] = ()) -> bool:
-        """Writes a row that was not written yet, and returns whether it was not."""
+        """Writes a row unless it was written before; returns whether it wrote it."""
         self.load(start)
         known = self.known.setdefault((mode, start), set())
         if row in known:
@@ -166,7 +163,7 @@ class Written:
         return True
 
     def lack(self, mode: str, start: int, seconds: int, why: str) -> None:
-        """Writes once that rows of a window may be missing."""
+        """Writes a line, once, that rows of a window may be missing."""
         self.load(start)
         known = self.known.setdefault((mode, start), set())
         if MISSING not in known:
@@ -183,7 +180,8 @@ class Written:
         out.flush()
 
     def file(self, path: str) -> TextIO:
-        """Returns a day's file: it stays open, because a harbour can have thousands of rows a second in a replay."""
+        """Returns a day's file. It stays open, because the replay of a harbour can have thousands of rows per
+        second."""
         if self.out is None or path != self.out_path:
             self.close()
             self.out, self.out_path = open(path, "a", encoding="utf-8"), path

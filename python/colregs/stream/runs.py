@@ -1,5 +1,5 @@
-"""A run of the program over a window of a stream: fed from the day files as they grow, its rows handed on as they
-come."""
+"""A run of the program over a window of a stream: it reads the day files as they grow and passes on its rows as they
+arrive."""
 import subprocess
 import threading
 from collections.abc import Callable, Collection
@@ -7,48 +7,47 @@ from typing import Any
 
 from colregs.stream.day_files import BLOCK, DayFiles, Mark
 
-PAUSE = 0.05                     # s between looks at a file that does not grow
+PAUSE = 0.05                     # s between checks of a file that does not grow
 
 
 class Window:
-    """A window of a stream: its start, where its lines begin in the day files, and the lines of ship types that stand
-    before them."""
+    """A window of a stream: its start, the place of its first line in the day files, and lines with ship types to put
+    before it."""
 
     def __init__(self, start: int, place: Mark, types: bytes = b"") -> None:
         self.start, self.place, self.types, self.grouped = start, place, types, False
-        self.heard: set[int] = set()                    # who is in a group
+        self.heard: set[int] = set()                    # the vessels in a group
 
     def add_groups(self, vessels: Collection[int]) -> None:
-        """Takes vessels whose groups run from now on."""
+        """Adds vessels whose groups run from now on."""
         self.grouped = True
         self.heard |= set(vessels)
 
 
 def is_of(group: Collection[int] | None, subject: int, other: int, own: Collection[int]) -> bool:
-    """Returns whether a row is for the run of a group to report, where `own` are the scenario's subjects: its subject
-    is in the group, or is no subject at all and the other is."""
+    """Returns whether the run of a group reports a row: its subject is in the group; or its subject is not among the
+    scenario's subjects `own`, and the other vessel is in the group."""
     return group is None or subject in group or bool(own) and subject not in own and other in group
 
 
 class WindowRun:
-    """A run over a window, with all pairs or those of a group of subjects."""
+    """A run over a window, with all pairs or the pairs of a group of subjects."""
 
     def __init__(self, window: Window, mode: str, group: frozenset[int] | None) -> None:
         self.window, self.mode, self.group = window, mode, group
-        self.counts: dict[str, int] = {}                # lines by their outcome, once the run has ended
-        self.status: int | None = None                  # of the program, once the run has ended
-        self.limit: Mark | None = None                  # where its log ends
-        self.closed: int | None = None                  # and where the clock is there
+        self.counts: dict[str, int] = {}                # lines by outcome, after the run has ended
+        self.status: int | None = None                  # the program's exit status, after the run has ended
+        self.limit: Mark | None = None                  # the end of its log
+        self.closed: int | None = None                  # the clock at that end
         self.cut, self.long = False, False
-        self.behind = False                             # whether more lines are there than one block of them
+        self.behind = False                             # whether more than one block of lines waits
 
     def key(self) -> tuple[int, str, frozenset[int] | None]:
-        """Returns what distinguishes this run from others: its window's start, its mode and its group."""
+        """Returns the key of this run: its window's start, its mode and its group."""
         return self.window.start, self.mode, self.group
 
     def end_at(self, place: Mark, clock: int, cut: bool) -> None:
-        """Ends the log of this run at a place, where the clock is at a time; `cut` says that the stream continues some
-        time."""
+        """Ends the log of this run at a place and the clock there; `cut` is true if the stream continues later."""
         self.limit, self.closed, self.cut = place, clock, cut
 
     def note_long(self) -> bool:
@@ -57,7 +56,7 @@ class WindowRun:
         return first
 
     def is_mine(self, subject: int, other: int, own: Collection[int]) -> bool:
-        """Returns whether a row is this run's to report."""
+        """Returns whether this run reports a row."""
         return is_of(self.group, subject, other, own)
 
     def stop(self) -> None:
@@ -71,7 +70,7 @@ class StreamRun(WindowRun):
     def __init__(self, words: list[str], window: Window, mode: str, group: frozenset[int] | None, files: DayFiles,
                  rows: Callable[[tuple[Any, ...]], None]) -> None:
         super().__init__(window, mode, group)
-        # in a group of its own: a signal of the terminal ends the tool, which ends its runs in order
+        # in its own process group: a signal of the terminal ends the tool, which then ends its runs in order
         self.child: subprocess.Popen[bytes] = subprocess.Popen(words, stdin=subprocess.PIPE, stdout=subprocess.PIPE,
                                                                stderr=subprocess.PIPE, process_group=0)
         self.threads = [
@@ -100,7 +99,7 @@ class StreamRun(WindowRun):
             pass                                        # the program has ended, which `read` reports
 
     def read(self, _: object, rows: Callable[[tuple[Any, ...]], None]) -> None:
-        """Hands on the program's rows, and then how it ended."""
+        """Passes on the program's rows, and then the end of the run."""
         error: list[bytes] = []
         stdout, stderr = self.child.stdout, self.child.stderr
         assert stdout is not None and stderr is not None

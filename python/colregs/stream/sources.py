@@ -1,4 +1,4 @@
-"""Where a stream comes from: standard input, a file that grows, or a command that is begun again where it ends."""
+"""The sources of a stream: standard input, a growing file, or a command that restarts after its end."""
 import json
 import os
 import subprocess
@@ -10,17 +10,17 @@ from typing import BinaryIO, Protocol
 from colregs.errors import Fault, report
 from colregs.io.files import replace
 
-# bytes of a read; s between looks at a file; s before a command is begun again
+# bytes of a read; s between checks of a file; s before a command restarts
 BLOCK, PAUSE, AGAIN = 1 << 16, 0.2, 5
 STATE = "source.json"           # in the folder of the day files: how far a log was read
 
 
-Mark = dict[str, int] | None                 # what a restart needs to know of the lines taken
+Mark = dict[str, int] | None                 # the position of taken lines, for a restart
 Lines = tuple[list[bytes], Mark]
 
 
 class Source(Protocol):
-    """Where a stream comes from."""
+    """A source of a stream."""
 
     def lines(self) -> Iterator[Lines]:
         """Yields lists of whole lines as they arrive, each with a mark for `done`."""
@@ -29,17 +29,17 @@ class Source(Protocol):
         """Notes that the lines up to a mark are taken."""
 
     def stop(self) -> None:
-        """Stops what writes the stream."""
+        """Stops the process that writes the stream."""
 
 
 def lines_of_blocks(blocks: Iterable[bytes]) -> Iterator[Lines]:
-    """Yields lists of whole lines as they arrive, without a mark; what is after the last line feed waits."""
+    """Yields lists of whole lines as they arrive, without a mark. Bytes after the last line feed wait."""
     rest = b""
     for block in blocks:
         lines = (rest + block).split(b"\n")
         rest = lines.pop()
         if len(rest) > 1 << 20:
-            rest = rest[:2048]                          # no line of a log is so long
+            rest = rest[:2048]                          # longer than any line of a log
         if lines:
             yield [line + b"\n" for line in lines], None
 
@@ -58,14 +58,14 @@ class Standard:
         return lines_of_blocks(blocks_of(sys.stdin.fileno()))
 
     def done(self, mark: Mark) -> None:
-        """Does nothing: nobody reads a line of standard input again."""
+        """Does nothing: a restart cannot read standard input again."""
 
     def stop(self) -> None:
         """Does nothing: another process writes standard input."""
 
 
 class Command:
-    """A command of the shell, begun again some seconds after its end, unless the stream is to end with it."""
+    """A shell command. It restarts some seconds after its end, unless the stream ends with it."""
 
     def __init__(self, words: str, ends: bool) -> None:
         self.words, self.ends, self.stopped = words, ends, False
@@ -81,11 +81,11 @@ class Command:
             self.child.wait()
             if self.ends or self.stopped:
                 return
-            report("follow", f"`{self.words}` ended with status {self.child.returncode}, and is started again")
+            report("follow", f"`{self.words}` ended with status {self.child.returncode}; it starts again")
             time.sleep(AGAIN)
 
     def done(self, mark: Mark) -> None:
-        """Does nothing: a command writes no line again."""
+        """Does nothing: a command does not repeat lines."""
 
     def stop(self) -> None:
         """Stops the command."""
@@ -95,18 +95,18 @@ class Command:
 
 
 class File:
-    """A file that grows; where it is replaced or cut off, the new one is read from its beginning. A restart goes on
-    behind the lines taken."""
+    """A growing file. If another file replaces it, or it is truncated, it is read again from its start. A restart
+    continues after the lines taken."""
 
     def __init__(self, path: str, state: str, ends: bool) -> None:
         self.path, self.state, self.ends = path, state, ends
         if not os.path.exists(path):
-            raise Fault(f"{path} is not there")
+            raise Fault(f"{path} does not exist")
         if os.path.isdir(path):
             raise Fault(f"{path} is a folder, and no log")
 
     def place(self) -> int:
-        """Returns where a run before this one stopped, if the file is the same."""
+        """Returns the offset at which an earlier run stopped, if the file is the same; otherwise 0."""
         try:
             with open(self.state, encoding="utf-8") as source:
                 told = json.load(source)
@@ -130,7 +130,7 @@ class File:
             offset = 0
 
     def growing(self, source: BinaryIO, inode: int) -> Iterator[bytes]:
-        """Yields the blocks of a file until another file replaces it, or it is cut off."""
+        """Yields the blocks of a file until another file replaces it, or it is truncated."""
         while True:
             block = source.read(BLOCK)
             if block:
@@ -148,7 +148,7 @@ class File:
                 return
 
     def done(self, mark: Mark) -> None:
-        """Stores for a restart how far the lines were taken."""
+        """Stores the position of the lines taken, for a restart."""
         replace(self.state, json.dumps(mark).encode())
 
     def stop(self) -> None:

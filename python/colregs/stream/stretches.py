@@ -1,7 +1,7 @@
-"""Alarms of `watch` as stretches: one from a rule's first broken step to its last, with who, where and what may explain
-it.
+"""Alarms of `watch` as stretches: one from a rule's first broken step to its last, with vessels, place, and marks that
+may explain it.
 
-The program writes a row per broken step. Rows of one pair and rule whose steps follow each other make one stretch.
+The program writes one row per broken step. Rows of one pair and rule with successive steps make one stretch.
 """
 import collections
 import itertools
@@ -22,22 +22,22 @@ from colregs.stream.types import EVER
 
 Key = tuple[int, int, str]      # the vessel that a rule binds, the other one, and the rule
 BOTH, AT_REST = "both", "at rest"       # both vessels of a pair are at rest, and the mark of such a stretch
-FORGOTTEN = 7200                # s after her last report that a vessel is forgotten
-AGAIN = 60                      # s of the stream's clock between two looks at who is at rest in one stretch
-COUNTED = 60                    # s of the clock between two lines that count what is hidden
-# s of this machine's clock. Alarms and points come from two runs, so an alarm waits until the points up to its time are
-# there. A vessel may fall silent, so it waits no longer than this after the last point ..
+FORGOTTEN = 7200                # s after her last report until a vessel is forgotten
+AGAIN = 60                      # s of the stream's clock between two checks for vessels at rest in a stretch
+COUNTED = 60                    # s of the clock between two lines with the number of hidden stretches
+# s of this machine's clock. Alarms and points come from two runs, so an alarm waits for the points up to its time. A
+# vessel may fall silent, so it waits no longer than this after the last point ..
 PATIENCE = 5
-FOR_PLACE = 60                  # .. nor than this in all, which is how long it waits if nobody knows its place
-FOR_ALARMS = 30                 # how long the end of a stretch waits for alarms
-# what a line says of a stretch: it is one of two vessels at rest, it begins, it is over
+FOR_PLACE = 60                  # .. and no longer than this in all, which is also the wait if its place is unknown
+FOR_ALARMS = 30                 # the end of a stretch waits this long for alarms
+# the states of a stretch in a line: two vessels at rest, it begins, it is over
 RESTS, BEGINS, OVER = "rests", "begins", "over"
 
 
 @dataclass
 class AlarmStretch:
-    """A stretch: when its first broken step begins and its last one ends, and when the step ends that decided the last
-    alarm."""
+    """A stretch: the start of its first broken step, the end of its last one, and the end of the step that decided the
+    last alarm."""
 
     number: int
     key: Key
@@ -50,8 +50,8 @@ class AlarmStretch:
 
 
 class Stretches:
-    """Joins alarms to stretches. `reach` is how far the rules look ahead, in steps: so long after its last step a
-    stretch can grow."""
+    """Joins alarms to stretches. `reach` is the look-ahead of the rules in steps: a stretch can grow for so long after
+    its last step."""
 
     def __init__(self, scenario: Scenario) -> None:
         self.tick = scenario.tick
@@ -60,8 +60,7 @@ class Stretches:
         self.numbers = itertools.count(1)
 
     def take(self, key: Key, step: int, decided: int) -> AlarmStretch:
-        """Takes an alarm by the time at which its step begins and the deciding step ends; returns the stretch that it
-        is part of."""
+        """Takes an alarm with the start of its step and the end of the deciding step; returns its stretch."""
         known = self.open.setdefault(key, [])
         near = [one for one in known if one.first - self.tick <= step <= one.last]
         if not near:
@@ -84,7 +83,7 @@ class Stretches:
         return clock > one.last + self.wait
 
     def is_open(self, one: AlarmStretch) -> bool:
-        """Returns whether a stretch is not closed yet: it is not over, or alarms may be on their way."""
+        """Returns whether a stretch is not closed yet: it is not over, or more alarms may arrive."""
         return any(other is one for other in self.open.get(one.key, ()))
 
     def close(self, one: AlarmStretch) -> None:
@@ -101,8 +100,8 @@ class Stretches:
 
 def about(fleet: Fleet, earth: Earth, tick: int, key: Key, first: int, last: int,
           known: tuple[str, list[str]] | None = None) -> dict[str, Any]:
-    """Returns the names, types, place and marks of a stretch. The place is the subject's when the first step begins, in
-    degrees. `known` says who is at rest, and the marks, if they need not be computed."""
+    """Returns the names, types, place and marks of a stretch. The place is the subject's at the start of the first
+    step, in degrees. `known` has the vessels at rest and the marks if they are known already."""
     subject, other, _ = key
     place = fleet.place(subject, first)
     still, marks = known or marks_of(fleet, tick, (subject, other), first, last)
@@ -114,8 +113,7 @@ def about(fleet: Fleet, earth: Earth, tick: int, key: Key, first: int, last: int
 
 
 def alarm_of(row: dict[str, Any], tick: int) -> tuple[Key, int, int]:
-    """Returns of a row of the stream, an alarm: its pair and rule, when its step begins, and when the step ends that
-    decides it."""
+    """Returns the pair and rule of an alarm's row, the start of its step, and the end of the step that decides it."""
     fields, start = str(row["row"]).split(","), int(row["run"])
     return (int(fields[1]), int(fields[2]),
             fields[3]), start + int(fields[4]) * tick, start + (int(fields[5]) + 1) * tick
@@ -131,33 +129,33 @@ def rows_in(path: str) -> Iterator[dict[str, Any]]:
 
 
 class StretchBook:
-    """The stretches of a stream with what is known of their vessels. Its lines are also in a file per day, so that a
-    restart writes none twice."""
+    """The stretches of a stream with the data of their vessels. It also writes its lines to one file per day, so that a
+    restart repeats none."""
 
     def __init__(self, folder: str, scenario: Scenario, fleet: Fleet, tell: Callable[[dict[str, Any]], None],
                  joined: Callable[[AlarmStretch], None] | None = None, patience: int = PATIENCE) -> None:
-        """Takes what to call with each line, perhaps what to call with a stretch that an alarm has joined, and how many
-        seconds to wait for points that come late."""
+        """`tell` gets each line, `joined` each stretch that an alarm has joined, and `patience` is how many seconds to
+        wait for late points."""
         self.folder, self.fleet, self.tell, self.joined = folder, fleet, tell, joined
         self.stretches, self.earth = Stretches(scenario), Earth(scenario.values["reference"])
         self.patience = patience
-        # the last state that was reported of each open stretch, and the clock then
+        # the last reported state of each open stretch, and the clock then
         self.states: dict[int, tuple[str, int]] = {}
         self.restored: list[dict[str, Any]] = []                # the lines that an earlier run wrote
-        # what an earlier run reported: the beginnings of stretches by state, pair and rule
+        # the reports of an earlier run: the starts of stretches by state, pair and rule
         self.before: dict[tuple[str, Key], set[int]] = {}
-        # alarms, and when each came
+        # alarms, each with its arrival
         self.waiting: collections.deque[tuple[dict[str, Any], float]] = collections.deque()
-        # when to report by this machine's clock that stretches are over that are so by the stream's
+        # by this machine's clock: when to report the end of stretches that are over by the stream's clock
         self.due: dict[int, float] = {}
         self.clock = 0
 
     def path(self, at: int) -> str:
-        """Returns the file of the stretches that begin on the day of a time."""
+        """Returns the path of the stretches that begin on the day of a time."""
         return os.path.join(self.folder, day_of(at) + ".stretches")
 
     def load(self, days: list[str]) -> None:
-        """Takes what an earlier run wrote on these days: alarms, and the lines about their stretches."""
+        """Loads what an earlier run wrote on these days: alarms, and the lines about their stretches."""
         for day in days:
             path = os.path.join(self.folder, day + ".stretches")
             if os.path.exists(path):
@@ -172,17 +170,16 @@ class StretchBook:
                     self.join_again(row)
 
     def told_before(self, state: str, one: AlarmStretch) -> bool:
-        """Returns whether an earlier run reported this of a stretch."""
+        """Returns whether an earlier run reported this state of a stretch."""
         return any(one.first <= first < one.last for first in self.before.get((state, one.key), ()))
 
     def take(self, row: dict[str, Any]) -> None:
-        """Takes a row of the stream that is an alarm. It waits until the points up to its time are there, for they come
-        from another run."""
+        """Takes an alarm's row. The alarm waits for the points up to its time, because they come from another run."""
         self.waiting.append((row, time.monotonic()))
         self.release(False)
 
     def release(self, all_of_them: bool) -> None:
-        """Joins the alarms that need not wait any longer."""
+        """Joins the alarms that no longer need to wait."""
         while self.waiting:
             row, came = self.waiting[0]
             if not all_of_them and self.may_learn_more(row, came):
@@ -191,7 +188,7 @@ class StretchBook:
             self.join(row)
 
     def may_learn_more(self, row: dict[str, Any], came: float) -> bool:
-        """Returns whether points up to the time of an alarm may still come."""
+        """Returns whether points up to the time of an alarm may still arrive."""
         (subject, _, _), first, decided = alarm_of(row, self.stretches.tick)
         if decided <= self.fleet.clock:
             return False
@@ -211,7 +208,7 @@ class StretchBook:
             self.look(one, state)
 
     def extended(self, row: dict[str, Any]) -> AlarmStretch:
-        """Returns the stretch of an alarm, with the alarm."""
+        """Adds an alarm to its stretch; returns the stretch."""
         one = self.stretches.take(*alarm_of(row, self.stretches.tick))
         self.due.pop(one.number, None)
         if self.joined:
@@ -219,8 +216,8 @@ class StretchBook:
         return one
 
     def join_again(self, row: dict[str, Any]) -> None:
-        """Joins an alarm of an earlier run. If that run was stopped before it reported it, the alarm waits like a new
-        one."""
+        """Joins an alarm of an earlier run. If that run stopped before it reported the alarm, the alarm waits like a
+        new one."""
         one = self.extended(row)
         state = next((state for state in (BEGINS, RESTS) if self.told_before(state, one)), None)
         if state:
@@ -229,14 +226,14 @@ class StretchBook:
             self.waiting.append((row, time.monotonic()))
 
     def look(self, one: AlarmStretch, before: str) -> None:
-        """Reports that a stretch began, or that it is one of two vessels at rest."""
+        """Reports that a stretch began, or that both its vessels are at rest."""
         state = RESTS if rest_of(self.fleet, one.key[:2], one.first, one.last) == BOTH else BEGINS
         self.states[one.number] = state, self.clock
         if state != before and not self.told_before(state, one):
             self.write(one, state)
 
     def write(self, one: AlarmStretch, state: str, rested: bool = False) -> None:
-        """Reports a stretch, and stores that. `rested` says that it is over and was one of two vessels at rest all the
+        """Reports a stretch, and stores its state. `rested` is true if it is over and both vessels were at rest all the
         time."""
         subject, other, rule = one.key
         told = {
@@ -251,7 +248,7 @@ class StretchBook:
 
     def pass_time(self, clock: int) -> None:
         """Reports the stretches that are over by now. The clock can be ahead of the alarms, so each stretch first waits
-        for those on their way."""
+        for alarms that may still arrive."""
         self.clock, now = clock, time.monotonic()
         self.release(False)
         for one in self.stretches.over(clock):
@@ -266,7 +263,7 @@ class StretchBook:
             self.write(one, OVER, state[0] == RESTS)
 
     def finish(self, is_whole: bool) -> None:
-        """Joins the alarms that wait; if the stream ended for good, all stretches are over."""
+        """Joins the waiting alarms; if the stream ended for good, all stretches are over."""
         self.release(True)
         if is_whole:
             for one in self.stretches.over(EVER):
@@ -274,10 +271,10 @@ class StretchBook:
 
 
 class StretchSink:
-    """A sink that gets a line when a stretch of alarms begins and one when it is over, instead of a line per alarm;
-    other rows go on as they are.
+    """A sink that writes one line when a stretch of alarms begins and one when it is over, instead of one line per
+    alarm. It passes on other rows unchanged.
 
-    Pairs at rest are only counted, unless `all_pairs` asks for them.
+    It only counts stretches of pairs at rest, unless `all_pairs` is true.
     """
 
     def __init__(self, sink: Sink, scenario: Scenario, folder: str, all_pairs: bool, patience: int = PATIENCE) -> None:
@@ -286,10 +283,10 @@ class StretchSink:
         self.book = StretchBook(folder, scenario, self.fleet, self.tell, patience=patience)
         self.clock = 0
         self.count = 0                                  # stretches of pairs at rest
-        self.counted = 0, 0                             # how many at the last line that says so, and the clock then
+        self.counted = 0, 0                             # their number at the last line with it, and the clock then
 
     def load(self, days: list[str]) -> None:
-        """Takes what an earlier run wrote on these days."""
+        """Loads the files that an earlier run wrote on these days."""
         self.book.load(days)
 
     def lines(self, lines: list[bytes], clock: int) -> None:
@@ -312,7 +309,7 @@ class StretchSink:
             self.tell_count(clock)
 
     def ended(self) -> None:
-        """Takes the end of a stream that ended for good."""
+        """Handles the final end of a stream."""
         self.book.finish(True)
 
     def write(self, line: str) -> None:
@@ -333,13 +330,13 @@ class StretchSink:
             json.dumps(told | {"state": OVER if told["state"] == OVER else BEGINS}, ensure_ascii=False) + "\n")
 
     def tell_count(self, clock: int) -> None:
-        """Writes how many stretches of pairs at rest were not written since the beginning."""
+        """Writes the number of stretches of pairs at rest that were not written since the start."""
         self.counted = self.count, clock
         self.sink.write(
             json.dumps({"mode": "watch", "kind": "hidden", "stretches": self.count, "until": iso(clock)}) + "\n")
 
     def close(self) -> None:
-        """Writes what is left, and ends."""
+        """Writes the remaining lines, and ends."""
         self.book.finish(False)
         if self.counted[0] != self.count:
             self.tell_count(self.clock)

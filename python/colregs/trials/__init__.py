@@ -1,1 +1,1 @@
-"""Sea trials: meetings made from seeds, in which own ship follows her pilot in simulated time."""
+"""Sea trials: encounters drawn from seeds, in which own ship follows her pilot in simulated time."""

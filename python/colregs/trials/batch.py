@@ -1,4 +1,4 @@
-"""Runs many trials, side by side, and gives their results in the order of their seeds."""
+"""Runs many trials in parallel, and yields their results in the order of their seeds."""
 from __future__ import annotations
 
 import sys
@@ -17,7 +17,7 @@ SHOWN_EVERY = 0.5      # s between two drawings of it
 
 @dataclass(frozen=True)
 class Job:
-    """One run: its setting and its seed, and whether its tracks are wanted."""
+    """One run: its setting, its seed, and whether to record its tracks."""
 
     setting: Setting
     seed: int
@@ -25,14 +25,14 @@ class Job:
 
 
 class Worker:
-    """What each process of a batch has: the scenario, and a runner of the program."""
+    """The state of each worker process: the scenario, and a runner of the program."""
 
     scenario: PilotScenario
     runner: ClosingRunner
 
 
 def begin_worker(path: str, program: str | None) -> None:
-    """Reads the scenario and makes the runner, once in each process."""
+    """Reads the scenario and makes the runner, once per process."""
     Worker.scenario, Worker.runner = PilotScenario.read(path), runner_of(program)
 
 
@@ -42,7 +42,7 @@ def run_job(job: Job) -> Result:
 
 
 def run_all(path: str, program: str | None, jobs: Sequence[Job], processes: int) -> Iterator[Result]:
-    """Yields the result of each job, in their order. Without a program the library runs, if it is installed."""
+    """Yields the result of each job, in order. Without a program it uses the library, if that is installed."""
     if processes == 1:
         begin_worker(path, program)
         yield from map(run_job, jobs)

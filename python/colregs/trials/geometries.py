@@ -1,5 +1,5 @@
-"""Fixed meetings: crossing angles by ratios of speed, and geometries of our own of the kind that the literature on
-collision avoidance uses."""
+"""Fixed encounters: crossing angles by ratios of speed, and geometries in the style of the literature on collision
+avoidance."""
 from __future__ import annotations
 
 import math
@@ -15,9 +15,9 @@ from colregs.trials.trial import Setting
 ANGLES = range(0, 360, 10)                       # degrees: the other's course against own ship's
 RATIOS = (0.5, 0.75, 1.0, 1.25, 1.5, 2.0)        # her speed against own ship's
 LENGTH = 100                                     # m
-SLOWEST = 1.5                                    # m/s: two that close more slowly meet too late to be a trial
-# Each geometry is a list of others: course against own ship's in degrees, and ratio of speed. All would be nearest at
-# one moment if all kept on.
+SLOWEST = 1.5                                    # m/s: two vessels that close more slowly meet too late for a trial
+# Each geometry is a list of others: course relative to own ship's in degrees, and ratio of speed. If all kept course
+# and speed, all would be nearest at the same moment.
 AHEAD, STARBOARD, PORT, SLOW, FAST = (180.0, 1.0), (270.0, 1.0), (90.0, 1.0), (0.0, 0.4), (0.0, 1.7)
 BOW_STARBOARD, BOW_PORT, QUARTER_STARBOARD, QUARTER_PORT = (225.0, 1.0), (135.0, 1.0), (315.0, 1.3), (45.0, 1.3)
 GEOMETRIES: tuple[tuple[tuple[float, float], ...], ...] = (
@@ -31,15 +31,15 @@ GEOMETRIES: tuple[tuple[tuple[float, float], ...], ...] = (
 
 
 def begin_of(scenario: PilotScenario, own: Track, number: int, angle: float, ratio: float, seconds: float) -> Begin:
-    """Returns one of the others, who would meet own ship after so many seconds."""
+    """Returns one of the others, whose track meets own ship's after `seconds`."""
     track = Track((own.course + angle) % 360, own.speed * ratio)
     return Begin(FIRST_OTHER + number, f"OTHER {number + 1}", LENGTH, nearest_place(own, track, seconds, (0.0, 0.0)),
                  track, "fixed")
 
 
 def crossing_jobs(scenario: PilotScenario, setting: Setting) -> list[Job]:
-    """Returns a run for each angle and ratio at which the two close; its seed is ten times the angle, and the number of
-    the ratio."""
+    """Returns one run per angle and ratio at which the two close. Its seed is ten times the angle plus the index of the
+    ratio."""
     jobs = []
     for angle in ANGLES:
         for number, ratio in enumerate(RATIOS):
@@ -53,7 +53,7 @@ def crossing_jobs(scenario: PilotScenario, setting: Setting) -> list[Job]:
 
 
 def geometry_jobs(scenario: PilotScenario, setting: Setting) -> list[Job]:
-    """Returns a run for each of the geometries, numbered from 1; its seed is its number."""
+    """Returns one run per geometry, numbered from 1; its seed is its number."""
     jobs = []
     for number, others in enumerate(GEOMETRIES, 1):
         tracks = [Track((setting.track.course + angle) % 360, setting.track.speed * ratio) for angle, ratio in others]

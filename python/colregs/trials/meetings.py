@@ -1,4 +1,4 @@
-"""Meetings drawn from a seed: where the others begin, so that they would come near own ship if all kept on."""
+"""Encounters drawn from a seed: start places at which the others come near own ship if all keep course and speed."""
 from __future__ import annotations
 
 import math
@@ -11,16 +11,16 @@ from colregs.pilot.states import Track
 
 OWN_LENGTH = 100           # m
 FIRST_OTHER = 200000100    # the MMSI of the first of the others
-SHORTEST = 600.0           # s until two that keep on are nearest, at least
-# the others begin so much farther off than the watch or the horizon reach, so that no meeting has begun
+SHORTEST = 600.0           # the least time until two vessels that keep course and speed are nearest, in seconds
+# the others start farther off than the watch or the horizon reach, by this factor, so that no meeting has begun
 EARLIER = 1.2
-MISS = 150                 # m: the standard deviation of the place at which another would be nearest
+MISS = 150                 # m: the standard deviation of the place of closest approach
 
 
 @dataclass(frozen=True)
 class Kind:
-    """A kind of meeting by its geometry: the other's course against own ship's in degrees, and her speed against own
-    ship's."""
+    """A kind of encounter by its geometry: the other's course relative to own ship's in degrees, and the ratio of their
+    speeds."""
 
     name: str
     courses: tuple[float, float]
@@ -39,7 +39,7 @@ ANY = "any"
 
 @dataclass(frozen=True)
 class Begin:
-    """How one of the others begins: her MMSI, her name, her length (m), her place (m), and her course and speed."""
+    """The start of one of the others: her MMSI, her name, her length (m), her place (m), and her course and speed."""
 
     mmsi: int
     name: str
@@ -50,13 +50,14 @@ class Begin:
 
 
 def nearest_place(own: Track, other: Track, seconds: float, miss: Place) -> Place:
-    """Returns where another begins who is at `miss` from own ship, who begins at nought, after so many seconds."""
+    """Returns the start place from which the other is at `miss` from own ship after `seconds`; own ship starts at the
+    origin."""
     mine, theirs = velocity(own), velocity(other)
     return (mine[0] - theirs[0]) * seconds + miss[0], (mine[1] - theirs[1]) * seconds + miss[1]
 
 
 def seconds_to_nearest(scenario: PilotScenario, own: Track, other: Track) -> float:
-    """Returns the least time to the nearest approach with which the meeting has not begun at first."""
+    """Returns the least time to the closest approach for which the encounter has not yet begun at the start."""
     mine, theirs = velocity(own), velocity(other)
     closing = max(0.1, math.dist(mine, theirs))
     horizon = whole(scenario.values, "detect", "horizon")
@@ -65,7 +66,7 @@ def seconds_to_nearest(scenario: PilotScenario, own: Track, other: Track) -> flo
 
 def drawn(scenario: PilotScenario, own: Track, kinds: tuple[str, ...], targets: tuple[int, int],
           draw: random.Random) -> tuple[str, list[Begin]]:
-    """Returns the kind of a run, one of the list, and its others, at least `targets[0]` and at most `targets[1]`."""
+    """Draws the kind of a run from `kinds`, and from `targets[0]` to `targets[1]` others."""
     name, found = draw.choice(kinds), list[Begin]()
     for number in range(draw.randint(*targets)):
         kind = KINDS[draw.choice(list(KINDS)) if name == ANY else name]

@@ -1,5 +1,5 @@
-"""The page of trials: one file that asks nothing of a network, with the table, the worst runs as pictures with a slider
-of time, and polar pictures."""
+"""The page of trials: one file that needs no network, with the table, the worst runs as pictures with a time slider,
+and polar pictures."""
 from __future__ import annotations
 
 import html
@@ -25,7 +25,7 @@ def asset(name: str) -> str:
 
 
 def run_words(result: Result) -> str:
-    """Returns what happened in a run, in a few sentences."""
+    """Summarizes a run in a few sentences."""
     names = {begin.mmsi: begin.name for begin in result.others}
     words = [
         f"Seed {result.seed}: least distance {result.least:.0f} m, {result.replans} plans, {result.none} times none, "
@@ -42,7 +42,7 @@ def run_words(result: Result) -> str:
 
 
 def run_picture(scenario: PilotScenario, result: Result) -> Json:
-    """Returns what the page draws of a run; own ship is the first vessel, and has no domain."""
+    """Returns the data that the page draws of a run; own ship is the first vessel, and has no domain."""
     lengths = [begin.length for begin in result.others]
     return {
         "title": result.kind if " " in result.kind else f"{result.kind} {result.seed}",
@@ -55,7 +55,7 @@ def run_picture(scenario: PilotScenario, result: Result) -> Json:
 
 
 def crossing_picture(results: Sequence[Result]) -> Json | None:
-    """Returns what the polar pictures draw, or nothing if there are no runs for them."""
+    """Returns the data of the polar pictures, or None without runs for them."""
     values = [{
         "angle": result.seed // 10, "ratio": RATIOS[result.seed % 10], "least": round(result.least, 1),
         "turn": result.first_turn
@@ -65,7 +65,7 @@ def crossing_picture(results: Sequence[Result]) -> Json | None:
 
 def page(title: str, about: str, scenario: PilotScenario, grouped: Sequence[Result], pictured: Sequence[Result],
          crossing: Sequence[Result]) -> str:
-    """Returns the text of the page. No text of the data can end the script that holds it."""
+    """Returns the text of the page. It escapes the data, so no text in it can end the surrounding script."""
     data = {
         "about": about, "groups": [asdict(group) for group in groups_of(grouped)], "times": measured_parts(grouped),
         "runs": [run_picture(scenario, result) for result in pictured], "crossing": crossing_picture(crossing)

@@ -1,4 +1,4 @@
-"""Ships in simulated time: how they move, and what they report."""
+"""Ships in simulated time: their motion and their reports."""
 from __future__ import annotations
 
 import math
@@ -15,8 +15,8 @@ CARGO = 70                 # type of ship
 
 @dataclass(frozen=True)
 class Errors:
-    """What a ship's reports lack: the standard deviations of place (m), course and heading (degrees) and speed (knots),
-    how seldom and how late."""
+    """The errors of a ship's reports: the standard deviations of place (m), course and heading (degrees) and speed
+    (knots), the interval, the losses and the delay."""
 
     small: bool                # class B: reports by message 18, without a heading
     interval: int              # s between two reports
@@ -24,19 +24,19 @@ class Errors:
     course: float = 0.0
     heading: float = 0.0
     speed: float = 0.0
-    missed: float = 0.0        # the part of the reports that no receiver hears
-    delay: int = 0             # s: a report comes up to so much later than its moment
+    missed: float = 0.0        # the share of the reports that no receiver hears
+    delay: int = 0             # s: the greatest delay of a report
 
 
 EXACT = Errors(False, 10)
 CLASS_A = Errors(False, 10, place=5.0, course=1.0, heading=0.5, speed=0.1, missed=0.1, delay=3)
 CLASS_B = Errors(True, 30, place=8.0, course=3.0, speed=0.2, missed=0.2, delay=5)
-DRIFT = 0.95               # how much of an error of place stays in 10 s: it wanders, and does not leap
+DRIFT = 0.95               # the share of a place error that remains after 10 s: the error wanders instead of jumping
 
 
 @dataclass
 class Ship:
-    """A ship: her place in metres, her course and speed, what she steers, and how fast she turns and changes speed."""
+    """A ship: her place in metres, her course and speed, her order, and how fast she turns and changes speed."""
 
     mmsi: int
     name: str
@@ -45,14 +45,14 @@ class Ship:
     state: Track
     rates: Rates
     order: Track = field(init=False)
-    drift: Place = field(init=False)       # metres a second to the east and to the north
+    drift: Place = field(init=False)       # metres per second to the east and to the north
 
     def __post_init__(self) -> None:
-        """Lets her steer what she is on."""
+        """Orders her present course and speed."""
         self.order, self.drift = self.state, velocity(self.state)
 
     def step(self) -> None:
-        """Moves her on by a second, turning toward her order."""
+        """Moves her by one second, turning toward her order."""
         if self.state is not self.order and self.state != self.order:
             self.state = turned(self.state, self.order, self.rates, 1)
             self.drift = velocity(self.state)
@@ -68,7 +68,7 @@ class Plane:
     """The scenario's plane: metres to latitude and longitude in 1/10000 minute (docs/PLANE.md)."""
 
     def __init__(self, latitude: int, longitude: int) -> None:
-        """Takes the reference in 1/10000 minute."""
+        """`latitude` and `longitude` are the reference in 1/10000 minute."""
         self.latitude, self.longitude = latitude, longitude
         self.east = math.cos(math.radians(round(abs(latitude) / 60000) / 10)) * 1852
 
@@ -79,8 +79,8 @@ class Plane:
 
 @dataclass(frozen=True, order=True)
 class Sent:
-    """A line with the time at which it comes, in seconds since the Unix epoch; a report's course and speed, as it has
-    them."""
+    """A line with its arrival time, in seconds since the Unix epoch, and the course and speed in it if it is a
+    report."""
 
     at: int
     line: bytes
@@ -88,20 +88,20 @@ class Sent:
 
 
 class Transmitter:
-    """What one ship sends, and what of it is heard."""
+    """The sentences that one ship sends, and those that a receiver hears."""
 
     def __init__(self, ship: Ship, plane: Plane, errors: Errors, draw: random.Random) -> None:
-        """Takes a source of random numbers, which is used for errors alone."""
+        """`draw` is a source of random numbers for errors alone."""
         self.ship, self.plane, self.errors, self.draw = ship, plane, errors, draw
         self.next, self.next_static = draw.randrange(errors.interval), 0
         self.wander = [draw.gauss(0, errors.place), draw.gauss(0, errors.place)] if errors.place else [0.0, 0.0]
 
     def is_due(self, second: int) -> bool:
-        """Returns whether she sends anything in a second."""
+        """Returns whether she sends a line in a second."""
         return second >= self.next or second >= self.next_static
 
     def lines(self, second: int, start: int) -> list[Sent]:
-        """Returns the lines of a second that are heard."""
+        """Returns the lines of a second that a receiver hears."""
         found = list[Sent]()
         if second >= self.next_static:
             self.next_static = second + STATIC_EVERY
@@ -120,7 +120,7 @@ class Transmitter:
         return found
 
     def report(self, second: int) -> tuple[bytes, Track]:
-        """Returns a position report of this second, and the course and speed that it has."""
+        """Returns a position report of this second, and the course and speed in it."""
         errors, draw = self.errors, self.draw
         if errors.place:
             step = errors.place * math.sqrt(1 - DRIFT ** 2)

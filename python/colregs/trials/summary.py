@@ -1,5 +1,5 @@
-"""What trials show together: for each kind its collisions, domains, distances, answers, rules and ways lost, as rows
-and as JSON."""
+"""Totals of trials: for each kind the collisions, domains, distances, answers, rules and way lost, as rows and as
+JSON."""
 from __future__ import annotations
 
 import math
@@ -15,27 +15,27 @@ Json = dict[str, object]
 
 @dataclass(frozen=True)
 class Group:
-    """The runs of one kind with one number of others. Distances are in metres, shares in percent, quartiles from the
-    least to the greatest."""
+    """The runs of one kind with one number of others. Distances are in metres, shares in percent, and quartiles in
+    ascending order."""
 
     kind: str
     others: int
     runs: int
-    collisions: int            # runs in which own ship came nearer to another than half their lengths
-    domains: int               # runs in which she entered the domain of one who did not begin within it
+    collisions: int            # runs in which own ship came nearer to another than half the sum of their lengths
+    domains: int               # runs in which she entered a domain that she did not start in
     least: tuple[float, ...]   # least distances: the least, the quartiles, the greatest
     replans: int
     none: int
     none_share: float
     none_runs: int
     held: int
-    lapsed: int                # held past the promise: neither a plan nor a promise
-    escapes: int               # of these, with a plan that keeps out of all domains
+    lapsed: int                # moments without a plan and after the end of the last promise
+    escapes: int               # those of them with a plan that keeps out of all domains
     broke: int                 # runs in which own ship broke a rule
     broke_share: float
-    planned: int               # of these, runs in which she followed a new plan when a breach began
+    planned: int               # those of them in which she followed a new plan when a breach began
     rules: dict[str, int]      # runs in which she broke each rule
-    reasons: dict[str, int]    # why plans failed where all did
+    reasons: dict[str, int]    # if all plans failed: the reasons
     way_lost: float            # median
     turns: float               # mean number of changes of the course to steer
     faults: int                # runs with an answer that was neither a plan nor `none`
@@ -47,18 +47,18 @@ HEAD = ("kind", "others", "runs", "collisions", "domains", "least", "least_quart
 
 
 def quartiles(values: Sequence[float]) -> tuple[float, ...]:
-    """Returns the least, the quartiles and the greatest of values, all taken from them."""
+    """Returns the minimum, the quartiles and the maximum of values; each is one of the values."""
     ordered = sorted(values)
     return tuple(round(ordered[k * (len(ordered) - 1) // 4], 1) for k in range(5))
 
 
 def percent(part: int, whole: int) -> float:
-    """Returns a part of a whole in percent, to a hundredth."""
+    """Returns the percentage of a part in a whole, to two decimals."""
     return round(100 * part / whole, 2) if whole else 0.0
 
 
 def group_of(kind: str, others: int, results: Sequence[Result]) -> Group:
-    """Returns what the runs of one kind show."""
+    """Returns the totals of the runs of one kind."""
     rules, reasons = Counter[str](), Counter[str]()
     for result in results:
         rules.update({breach.rule for breach in result.broken})
@@ -88,12 +88,12 @@ def parts_of(results: Sequence[Result]) -> list[tuple[str, int, Sequence[Result]
 
 
 def groups_of(results: Sequence[Result]) -> list[Group]:
-    """Returns a group for each kind and number of others, and one of all if there are several."""
+    """Returns one group per kind and number of others, and one of all runs if there are several."""
     return [group_of(*part) for part in parts_of(results)]
 
 
 def rows_of(groups: Sequence[Group]) -> str:
-    """Returns the groups as CSV, with a head."""
+    """Returns the groups as CSV, with a header."""
     lines = [",".join(HEAD)]
     for group in groups:
         rules = " ".join(f"{rule}:{count}" for rule, count in group.rules.items())
@@ -105,7 +105,7 @@ def rows_of(groups: Sequence[Group]) -> str:
 
 
 def run_json(result: Result) -> Json:
-    """Returns one run as JSON: the same for the same seed. Seconds of the clock are no part of it."""
+    """Returns one run as JSON, which depends only on the seed and the setting. It has no elapsed times."""
     found = asdict(result)
     for key in ("seconds", "fixes", "log"):
         del found[key]
@@ -116,25 +116,24 @@ def run_json(result: Result) -> Json:
 
 
 def measured(results: Sequence[Result]) -> Json:
-    """Returns how long plans took, in seconds of the clock: different each time."""
+    """Returns the elapsed seconds of the plans, which differ each time."""
     seconds = [value for result in results for value in result.seconds]
     return {"plans": len(seconds), "median": round(statistics.median(seconds), 4), "greatest": round(max(seconds), 4)
             } if seconds else {"plans": 0}
 
 
 def measured_parts(results: Sequence[Result]) -> list[Json]:
-    """Returns how long the plans of each group took."""
+    """Returns the elapsed seconds of the plans of each group."""
     return [{"kind": kind, "others": others} | measured(part) for kind, others, part in parts_of(results)]
 
 
 def report_json(scenario: str, setting: Setting, results: Sequence[Result], grouped: Sequence[Result]) -> Json:
-    """Returns all runs, and the groups of those that have the names of their groups; only what is `measured` differs
-    from one time to the next."""
+    """Returns all runs and the named groups. Only the part `measured` differs from one time to the next."""
     return {"scenario": scenario, "setting": asdict(setting), "groups": [asdict(group) for group in groups_of(grouped)],
             "runs": [run_json(result) for result in results],
             "measured": measured(results) | {"groups": measured_parts(grouped)}}
 
 
 def worst(results: Sequence[Result], count: int) -> list[Result]:
-    """Returns the worst runs, the worst first."""
+    """Returns the worst `count` runs, the worst first."""
     return sorted(results, key=lambda result: (result.badness, -result.seed), reverse=True)[:count]

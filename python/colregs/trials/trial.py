@@ -1,4 +1,4 @@
-"""One run: own ship follows her pilot among others in simulated time, and the program audits the whole run."""
+"""One run: own ship follows her pilot among other ships in simulated time, and the program audits the whole run."""
 from __future__ import annotations
 
 import math
@@ -17,19 +17,19 @@ from colregs.pilot.states import Cause, Decision, State, Track, swing
 from colregs.trials.meetings import OWN_LENGTH, Begin, drawn
 from colregs.trials.ships import CLASS_A, CLASS_B, EXACT, Errors, Plane, Sent, Ship, Transmitter
 
-START = 1700000040         # seconds since the Unix epoch: when each run begins, at a full minute
-WARM = 60                  # s: own ship's pilot begins once all have reported
+START = 1700000040         # the start of each run, in seconds since the Unix epoch: a full minute
+WARM = 60                  # s: own ship's pilot begins after all ships have reported
 MOST = 7200                # s: no run is longer
-AFTER = 180                # s: a run goes on for so long after own ship has passed all others and is on her track again
+AFTER = 180                # s: a run ends this long after own ship has passed all others and is on her track again
 HISTORY = 3600             # s
-FIX_EVERY = 10             # s between two places of a run that pictures have
-PATIENCE = 600             # s of the clock: simulated time does not pass while the program plans
+FIX_EVERY = 10             # s between two places of a run in pictures
+PATIENCE = 600             # s elapsed: simulated time stands still while the program plans
 OTHERS = "straight", "planning", "contrary"
 
 
 @dataclass(frozen=True)
 class Setting:
-    """How runs are made: everything but the seed."""
+    """The settings of runs: everything but the seed."""
 
     kinds: tuple[str, ...] = ("any",)
     targets: tuple[int, int] = (1, 1)
@@ -38,14 +38,14 @@ class Setting:
     sluggish: bool = False
     every: int = 60                    # s between two plans
     track: Track = Track(0.0, 14.0)
-    begins: tuple[Begin, ...] = ()     # the others, if they are not drawn,
+    begins: tuple[Begin, ...] = ()     # fixed others instead of drawn ones,
     label: str = ""                    # and the kind of the run
 
 
 @dataclass
 class Fix:
-    """Where everybody is at a moment, for pictures: seconds after the start, and places in whole metres, own ship's
-    first."""
+    """All positions at a moment, for pictures: seconds after the start, and places in whole metres, own ship's first.
+    """
 
     second: int
     places: list[tuple[int, int]]
@@ -53,7 +53,7 @@ class Fix:
 
 @dataclass
 class Breach:
-    """A rule that own ship broke in the audit of the whole run; `planned` says that she followed a new plan when the
+    """A rule that own ship broke in the audit of the whole run; `planned` is true if she followed a new plan when the
     breach began."""
 
     rule: str
@@ -65,41 +65,41 @@ class Breach:
 
 @dataclass
 class Result:
-    """What came of a run. Distances are in metres, times in seconds after the start."""
+    """The result of a run. Distances are in metres, times in seconds after the start."""
 
     seed: int
     kind: str
     others: list[Begin] = field(default_factory=list)
     least: float = math.inf
     nearest: int = 0
-    room: float = math.inf             # the least distance from the edge of a domain; below zero inside
+    room: float = math.inf             # the least distance from the edge of a domain; negative inside
     collided: list[int] = field(default_factory=list)
     entered: list[int] = field(default_factory=list)
     replans: int = 0
     none: int = 0                      # answers that every plan fails
-    held: int = 0                      # moments at which an old plan was held
-    lapsed: int = 0                    # moments without a plan and without a promise
-    escapes: int = 0                   # of these, moments at which a plan that breaks a rule keeps out of all domains
-    other_causes: int = 0              # moments without a plan for another cause
+    held: int = 0                      # moments at which own ship held an old plan
+    lapsed: int = 0                    # moments without a plan and after the end of the last promise
+    escapes: int = 0                   # those of them at which a plan breaks a rule but keeps out of all domains
+    other_causes: int = 0              # moments without a plan for other causes
     turns: int = 0                     # moments at which the course to steer changed
     first_turn: float | None = None    # degrees of the first course off the track, starboard positive
     manoeuvred: bool = False
     broken: list[Breach] = field(default_factory=list)
     meetings: list[tuple[int, str]] = field(default_factory=list)
     reasons: dict[str, int] = field(default_factory=dict)
-    way_lost: float = 0.0              # metres along the track that she is behind
+    way_lost: float = 0.0              # metres that she is behind along the track
     off_track: float = 0.0             # metres beside the track at the end
     length: int = 0                    # seconds
     fault: str = ""
     fixes: list[Fix] = field(default_factory=list)
     states: list[tuple[int, str, float, float]] = field(default_factory=list)
     log: bytes = b""
-    # of the clock for each plan: measured, and different each time
+    # elapsed seconds of each plan: measured, and different each time
     seconds: list[float] = field(default_factory=list)
 
     @property
     def badness(self) -> tuple[bool, bool, int, int, int, float]:
-        """Returns the order of the worst runs: collisions, domains, lapses, rules, then the least room."""
+        """Returns the sort key of the worst runs: collisions, domains, lapses, rules, then the least room."""
         return bool(self.collided), bool(self.entered), self.lapsed, len(self.broken), self.none, -self.room
 
 
@@ -107,18 +107,18 @@ class Sailor:
     """A ship with a pilot."""
 
     def __init__(self, ship: Ship, pilot: Pilot, wanted: Track) -> None:
-        """Takes the track that she wants."""
+        """`wanted` is the track that she wants."""
         self.ship, self.pilot, self.wanted = ship, pilot, wanted
         self.decision: Decision | None = None
 
     def plan(self, record: Record, now: int, reported: Track | None) -> Decision:
-        """Asks the pilot at a time, and returns what it says. `reported` is of her latest report."""
+        """Returns the pilot's decision at a time. `reported` is from her latest report."""
         self.pilot.shorten(record, now, Patience(PATIENCE))
         self.decision = self.pilot.step(record, now, self.wanted, reported, PATIENCE, recheck=False)
         return self.decision
 
     def steer(self, now: int) -> None:
-        """Puts the helm as the last decision says for a time."""
+        """Steers by the last decision at a time."""
         if self.decision is None:
             return
         leg = next((leg for leg in self.decision.legs if now < leg.ends), None)
@@ -131,11 +131,11 @@ class Sailor:
 
 
 class Wrong:
-    """What one of the others does who turns the wrong way: at a moment, to a course."""
+    """One of the others who turns the wrong way: at a moment, to a course."""
 
     def __init__(self, ship: Ship, until_nearest: float, draw: random.Random) -> None:
-        """Draws the moment, between a third of the time to the nearest approach and nine tenths, and a turn to port,
-        seldom to starboard."""
+        """Draws the moment, between a third and nine tenths of the time to the closest approach, and a turn: mostly to
+        port, seldom to starboard."""
         self.ship, self.at = ship, round(until_nearest * draw.uniform(0.35, 0.9))
         turn = draw.uniform(20, 60) * (-1 if draw.random() < 0.8 else 1)
         self.course = (ship.state.course + turn) % 360
@@ -147,11 +147,11 @@ class Wrong:
 
 
 class Trial:
-    """A run of a seed."""
+    """One run with its seed."""
 
     def __init__(self, scenario: PilotScenario, runner: Runner, setting: Setting, seed: int,
                  pictured: bool = False) -> None:
-        """Draws the run. Each source of random numbers has its own seed, so that noise changes no meeting."""
+        """Draws the run. Each source of random numbers has its own seed, so that noise changes no encounter."""
         self.scenario, self.runner, self.setting, self.seed, self.pictured = scenario, runner, setting, seed, pictured
         kind, begins = setting.label, list(setting.begins)
         if not begins:
@@ -173,18 +173,18 @@ class Trial:
         self.domains = [(ship, self.radius(ship)) for ship in self.ships[1:]]
         self.inside = {ship.mmsi for ship in self.ships[1:] if math.hypot(*ship.place) < self.radius(ship)}
         self.waiting: list[tuple[int, int, Sent]] = []
-        self.reported: dict[int, Track | None] = {}        # by the number of the ship, of her latest report that came
+        self.reported: dict[int, Track | None] = {}        # by the ship's index: her latest course and speed
         self.lines: list[bytes] = []
         self.passed = 0
 
     def errors(self, own: bool) -> Errors:
-        """Returns the errors of a ship's reports: own ship has a set of class A."""
+        """Returns the errors of a ship's reports. Own ship has a class A transponder."""
         if not self.setting.noise:
             return EXACT
         return CLASS_A if own or self.noise.random() < 0.6 else CLASS_B
 
     def make_own(self) -> Sailor:
-        """Returns own ship. A sluggish one turns and changes speed more slowly than her scenario says."""
+        """Returns own ship. If she is sluggish, she turns and changes speed more slowly than her scenario says."""
         sluggish = random.Random(f"{self.seed} sluggish").uniform(0.4, 0.9) if self.setting.sluggish else 1.0
         ship = Ship(self.scenario.own, "OWN SHIP", OWN_LENGTH, (0.0, 0.0), self.setting.track,
                     Rates(self.rates.turn * sluggish, self.rates.speed * sluggish))
@@ -199,11 +199,11 @@ class Trial:
         return [Sailor(ship, self.pilot(self.scenario.with_own(mmsi=ship.mmsi)), ship.state) for ship in self.ships[1:]]
 
     def make_wrong(self, draw: random.Random) -> list[Wrong]:
-        """Returns what each of the others does who turns the wrong way."""
+        """Returns the wrong turn of each of the others who makes one."""
         return [Wrong(ship, self.until_nearest(ship), draw) for ship in self.ships[1:]]
 
     def until_nearest(self, ship: Ship) -> float:
-        """Returns the seconds until own ship and another are nearest, if both keep on from their beginnings."""
+        """Returns the seconds until own ship and another are nearest, if both keep course and speed from the start."""
         apart = ship.place
         mine = velocity(self.setting.track)
         drift = ship.drift[0] - mine[0], ship.drift[1] - mine[1]
@@ -215,7 +215,7 @@ class Trial:
         return float(self.scenario.base + self.scenario.lengths * ship.length)
 
     def run(self) -> Result:
-        """Runs to the end, and returns what came of it."""
+        """Runs to the end; returns the result."""
         for second in range(MOST + 1):
             self.send(second)
             if second >= WARM and second % self.setting.every == 0:
@@ -233,7 +233,7 @@ class Trial:
         return self.result
 
     def send(self, second: int) -> None:
-        """Sends what each ship sends in a second; late lines wait until they come."""
+        """Sends the lines of each ship in a second; late lines wait until they arrive."""
         for number, sender in enumerate(self.senders):
             if sender.is_due(second):
                 self.waiting += [(sent.at, number, sent) for sent in sender.lines(second, START)]
@@ -246,7 +246,7 @@ class Trial:
                 self.reported[number] = sent.reported or self.reported.get(number)
 
     def plan(self, second: int) -> None:
-        """Lets each ship with a pilot plan, and counts what own ship's says."""
+        """Lets each ship with a pilot plan, and counts own ship's decision."""
         for number, sailor in enumerate(self.sailors):
             before, clock = sailor.decision, time.monotonic()
             decision = sailor.plan(self.record, START + second, self.reported.get(number))
@@ -255,7 +255,7 @@ class Trial:
                 self.count(second, before, decision)
 
     def count(self, second: int, before: Decision | None, decision: Decision) -> None:
-        """Counts a decision of own ship's."""
+        """Counts a decision of own ship."""
         result = self.result
         result.replans += 1
         result.none += decision.cause is Cause.EVERY_PLAN_FAILS
@@ -291,7 +291,7 @@ class Trial:
             result.fixes.append(Fix(second, [(round(ship.place[0]), round(ship.place[1])) for ship in self.ships]))
 
     def is_over(self, second: int) -> bool:
-        """Returns whether own ship has passed all others some time ago, and is on her course and at her speed again."""
+        """Returns whether own ship passed all others some time ago, and has her course and speed again."""
         own, wanted = self.ships[0], self.setting.track
         clear = whole(self.scenario.values, "detect", "clear")
         back = abs(swing(own.state.course, wanted.course)) < 1 and abs(own.state.speed - wanted.speed) < 0.2
@@ -300,14 +300,14 @@ class Trial:
         return second - self.passed >= AFTER
 
     def is_past(self, ship: Ship, clear: int) -> bool:
-        """Returns whether own ship and another draw apart, farther off than the distance at which a meeting ends."""
+        """Returns whether own ship and another draw apart, at more than the distance at which a meeting ends."""
         own = self.ships[0]
         apart = ship.place[0] - own.place[0], ship.place[1] - own.place[1]
         drift = ship.drift[0] - own.drift[0], ship.drift[1] - own.drift[1]
         return math.hypot(*apart) > clear and apart[0] * drift[0] + apart[1] * drift[1] > 0
 
     def finish(self) -> None:
-        """Measures the way that was lost, and lets the program audit the whole run."""
+        """Measures the way lost, and lets the program audit the whole run."""
         result = self.result
         result.length = result.fixes[-1].second
         own, seconds = self.ships[0], result.length
@@ -322,7 +322,7 @@ class Trial:
             result.fixes = []
 
     def audit(self) -> None:
-        """Takes own ship's meetings and the rules that she broke from the program's audit of the whole run."""
+        """Adds own ship's meetings and the rules that she broke to the result, from the program's audit of the run."""
         result, tick = self.result, self.scenario.tick
         window = Window(START, tick, max(1, result.length // tick))
         text = self.scenario.text(window, subjects=(self.scenario.own,))

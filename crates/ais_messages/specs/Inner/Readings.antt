@@ -6,7 +6,7 @@ use Rattle.ais_messages.specs.declared.message.MessageCause.{MessageCause}
 use Rattle.ais_messages.specs.declared.message.Decoded.{Decoded}
 use Rattle.ais_messages.specs.declared.message.Decoded.TheVariants as decoded
 
--- what bits are read as, once their layout is known, or why they have none
+-- the reading of bits of a known layout, or why they have none
 abbrev pub decoded_by : List Bool → Result Layout MessageCause → Decoded
 decoded_by bits (Ok layout) = decoded.Message (message_of layout bits)
 decoded_by bits (Err cause) = decoded.Dropped cause

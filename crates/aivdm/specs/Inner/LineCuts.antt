@@ -1,4 +1,4 @@
--- The cuts by which a line is read, on lists, in the order of the code.
+-- The cuts of reading a line, on lists, in the order of the code.
 use Rattle.std.specs.Prelude.{ℕ, ◌-◌, ◌==◌, Bool, true, not, ◌&&◌, ◌||◌, List, [], ◌∷◌, length, take, drop, nat_le, Option, Some, None, Result, Ok, Err, if◌then◌else◌}
 use Rattle.std.specs.List.{slice_split, before_first, after_first, list_all}
 use Rattle.std.specs.Char.{is_ascii_uppercase, is_ascii_digit, is_ascii_alphanumeric}
@@ -23,7 +23,7 @@ before_byte byte bytes = before_first (λ other. other == byte) bytes
 abbrev pub after_byte : ℕ → List ℕ → List ℕ
 after_byte byte bytes = after_first (λ other. other == byte) bytes
 
--- the number that two hexadecimal digits spell, or the cause for which they drop the line
+-- the number that two hexadecimal digits spell, or why they drop the line
 abbrev pub told_or : LineCause → Option ℕ → Result ℕ LineCause
 told_or cause None = Err cause
 told_or cause (Some sum) = Ok sum
@@ -47,12 +47,12 @@ abbrev pub first_time : Option ℕ → Option ℕ → Option ℕ
 first_time None time = time
 first_time (Some stamp) time = Some stamp
 
--- the stamp in the fields that are left, after the time of those before them
+-- the stamp in the remaining fields, given the time in the earlier ones
 abbrev pub stamp_among : Option ℕ → List (List ℕ) → Result (Option ℕ) LineCause
 stamp_among stamp [] = Ok stamp
 stamp_among stamp (field ∷ fields) = time_in field >>= λ time. stamp_among (first_time stamp time) fields
 
--- the stamp in what stands before the `*`
+-- the stamp in the bytes before the `*`
 unfoldable pub stamp_in : List ℕ → Result (Option ℕ) LineCause
 stamp_in content =
     if list_all (λ byte. not (byte == 92)) content
@@ -155,7 +155,7 @@ with_count count = digit_at count.2 >>= with_seq count
 unfoldable pub cut_at : List ℕ → Result Cut LineCause
 cut_at bytes = count_at bytes >>= with_count
 
--- what lies between `!` and the `*` before a suffix of this length
+-- the bytes between `!` and the `*`, given the length of the suffix
 abbrev pub summed_in : List ℕ → ℕ → List ℕ
 summed_in bytes suffix = take (length bytes - suffix - 3 - 1) (drop 1 bytes)
 

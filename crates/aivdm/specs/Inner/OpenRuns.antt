@@ -28,7 +28,7 @@ awaits run part =
     (run.total == total_of part) && nat_lt run.count (number_of_part part) && (number_of_part part - run.count == 1)
     && nat_le part.time (run.since + 30)
 
--- what a part of its key results in
+-- the result of a part of its key
 abbrev pub joined_on : Begun → Taken → Joined
 joined_on run part =
     if awaits run part then (if nat_lt (number_of_part part) (total_of part) then Waiting else Message (run.bits ++ part_bits part)) else Orphan
@@ -42,7 +42,7 @@ run_on run part =
     else record run { count = 0; bits = [] })
     else record run { count = 0 }
 
--- what a part results in, by the message of its key, if there is one
+-- the result of a part, by the message of its key, if there is one
 abbrev pub joined_by : Option Begun → Taken → Joined
 joined_by None part = if number_of_part part == 1 then Waiting else Orphan
 joined_by (Some run) part = if number_of_part part == 1 then Waiting else joined_on run part
@@ -52,7 +52,7 @@ abbrev pub run_by : Option Begun → Taken → Option Begun
 run_by None part = if number_of_part part == 1 then Some (begun_by part) else None
 run_by (Some run) part = if number_of_part part == 1 then Some (begun_by part) else Some (run_on run part)
 
--- a message that replaces the first of its key, or is added at the end
+-- a message replaces the first of its key, or is appended
 abbrev pub put : SentenceFields → Begun → List Begun → List Begun
 put sentence new [] = new ∷ []
 put sentence new (run ∷ runs) = if has_key sentence run then new ∷ runs else run ∷ put sentence new runs
@@ -61,7 +61,7 @@ abbrev pub put_some : SentenceFields → Option Begun → List Begun → List Be
 put_some sentence None runs = runs
 put_some sentence (Some new) runs = put sentence new runs
 
--- what the next part results in, and the open messages after it
+-- the result of the next part, and the open messages after it
 unfoldable pub joined_next : List Begun → Taken → Joined
 joined_next runs part = joined_by (find (has_key part.sentence) runs) part
 

@@ -1,4 +1,4 @@
--- What the functions that cut a line return, with their slices as lists.
+-- The results of the functions that cut a line, with their slices as lists.
 use Rattle.std.specs.Prelude.{ℕ, List, [], Option, Some, None, Result, Ok, Err}
 use Rattle.std.specs.List.{slice_split}
 use Rattle.std.specs.Prelude.{◌==◌}

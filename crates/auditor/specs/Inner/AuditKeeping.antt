@@ -1,4 +1,4 @@
--- What an audit keeps of all traces.
+-- The state of an audit for all traces.
 use Rattle.std.specs.Prelude.{◌≡◌, List, [], ◌∷◌, ◌++◌}
 use Rattle.mtl_formulas.specs.FormulaTree.{FormulaTree}
 use Rattle.mtl_formulas.specs.Traces.{Trace}

@@ -1,4 +1,4 @@
--- What one more track brings to the totals. Each number of a total stands still at its type's end.
+-- The totals after one more track. Each number of a total saturates at the maximum of its type.
 use Rattle.std.specs.Prelude.{ℕ, ◌≡◌, ◌+◌, Bool, List, [], ◌∷◌, ◌++◌, length}
 use Rattle.audit_rows.specs.declared.counts.MarkCounts.{MarkCounts}
 use Rattle.audit_rows.specs.MarkCounts.{AreCounts}
@@ -16,7 +16,7 @@ with_counts counts total = record {
   runs = told (total.runs + counts.runs);
 }
 
--- The totals have one more track, with these counts, whose rule is the one that passes the test.
+-- The totals include one more track, with these counts, of the rule that passes the test.
 pub record AddsTrack (is_its : ℕ → Bool) (counts : MarkCounts) (old new : List Total) : Type 0 where
   pub as_many : length new ≡ length old
   pub tallies : (rules : ℕ) (tracks : List Track) (track : Track) → ((rule : ℕ) → is_of_rule rule track.topic ≡ is_its rule)

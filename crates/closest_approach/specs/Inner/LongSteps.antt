@@ -1,4 +1,4 @@
--- Separation while both vessels go on as in a step.
+-- Separation while both vessels continue as in a step.
 use Rattle.std.specs.Prelude.{ℕ, ◌*◌, ◌<◌, ◌≤◌}
 use Rattle.motion.specs.Steps.{RelativeMove}
 use Rattle.closest_approach.specs.Separation.{IsApart}

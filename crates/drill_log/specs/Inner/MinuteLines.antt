@@ -1,4 +1,4 @@
--- What is left of the log of a drill, while it is made.
+-- The rest of the log of a drill while it is made.
 use Rattle.std.specs.Prelude.{ℕ, ◌+◌, ◌-◌, ◌*◌, List, ◌++◌, flat_map}
 use Rattle.std.specs.List.{range_with_len}
 use Rattle.fixed_geometry.specs.Place.{Place}
@@ -11,10 +11,10 @@ use Rattle.drill_log.specs.declared.vessel.Vessel.{Vessel}
 abbrev pub lines_at : Place → ℕ → List Vessel → ℕ → List ℕ
 lines_at reference start vessels minutes = flat_map (λ vessel. report_line (record { time = start + 60 * minutes; report = report_by vessel reference minutes })) vessels
 
--- the lines of the minutes that are not made yet
+-- the lines of the minutes not made yet
 abbrev pub unmade : MinuteLog → List ℕ
 unmade log = flat_map (lines_at log.reference log.start log.vessels.items) (range_with_len log.made (log.reports - log.made))
 
--- what is left to read: of the lines that were made last, and of those that are not made yet
+-- the bytes left to read: of the lines made last, and of those not made yet
 abbrev pub left_of : MinuteLog → List ℕ
 left_of log = log.block.left ++ unmade log

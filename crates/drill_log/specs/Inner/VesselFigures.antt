@@ -1,4 +1,4 @@
--- The figures of a vessel of the drill, as they are kept.
+-- The stored figures of a vessel of the drill.
 use Rattle.std.specs.Prelude.{ℕ, ◌+◌, ◌≤◌, ◌<◌, IfSome, Some, None, unsigned_abs}
 use Rattle.ais_messages.specs.MessageFields.{place_of}
 use Rattle.ais_messages.specs.declared.message.PositionReport.{PositionReport}

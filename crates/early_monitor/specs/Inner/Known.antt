@@ -12,8 +12,8 @@ is_decided No = true
 is_decided Open = false
 is_decided Yes = true
 
--- The position that a place stands for. Place 0 is for the one that lies the reach before the last row, and the last place, whose
--- index is the reach, for the last row's own.
+-- The position of an index. Index 0 is for the position one reach before the last row, and the last index, which equals
+-- the reach, for the last row's own position.
 abbrev pub position_at : Trace → FormulaTree → ℕ → ℕ
 position_at rows t k = (k + length rows) - (reach_of t + 1)
 
@@ -21,7 +21,7 @@ position_at rows t k = (k + length rows) - (reach_of t + 1)
 abbrev pub is_known : Trace → FormulaTree → ℕ → Bool
 is_known rows t k = nat_le (reach_of t + 1) (k + length rows) && is_decided (value_in rows t (position_at rows t k))
 
--- what a monitor has noted of a place; beyond the last one there is nothing
+-- a monitor's note at an index; there is none beyond the last index
 abbrev pub known_at : List Bool → ℕ → Bool
 known_at known k = get_or known k false
 

@@ -1,4 +1,5 @@
--- What a state that passes rows beyond the last one stands for, and how it looks at the positions that this may decide, place after place.
+-- The model of a state that passes rows beyond the last one, and its checks of the positions that this may decide,
+-- index by index.
 use Rattle.std.specs.Prelude.{◌≡◌, ℕ, ◌+◌, ◌-◌, ◌<◌, ◌≤◌, [], ◌∷◌, ◌++◌, length, Option, Some, None}
 use Rattle.mtl_formulas.specs.declared.atom.Atom.{Atom}
 use Rattle.mtl_formulas.specs.declared.verdict.Verdict.{Verdict}
@@ -12,29 +13,29 @@ use Rattle.early_monitor.specs.declared.pass_state.PassState.{PassState}
 use Rattle.mtl_early.specs.Decided.{IsDecidedNow}
 use Rattle.early_monitor.specs.Inner.Known.{is_known, known_at}
 
--- The program is one of this formula alone.
+-- The program has only this formula.
 abbrev pub IsPassProgramOf : PassProgram → FormulaTree → Type 0
 IsPassProgramOf p t = IsProgramOf p.program (t ∷ []) × (p.reach ≡ reach_of t)
 
--- Both of its states are of this program.
+-- Both of its states belong to this program.
 abbrev pub IsStateOf : Program → PassState → Type 0
 IsStateOf p s = AreStatesOf p s.ahead s.state
 
--- how many rows were fed
+-- the number of rows so far
 abbrev pub fed_rows : PassState → ℕ
 fed_rows s = fed_of s.state
 
--- at how many places it has yet to look
+-- the number of positions still to check
 abbrev pub left_to_look : PassState → ℕ
 left_to_look s = (s.reach + 1) - s.place
 
--- It has checked all places.
+-- It has checked all positions.
 abbrev pub HasLookedAll : PassState → Type 0
 HasLookedAll s = s.place ≡ s.reach + 1
 
 -- ---- between rows
 
--- These rows were fed to the state of the program of this formula, and all positions that they decide were given.
+-- The state of this formula's program has taken these rows and returned all positions that they decide.
 pub record IsAt (p : Program) (s : PassState) (t : FormulaTree) (rows : Trace) : Type 0 where
   pub follows : Follows p s.state (t ∷ []) rows
   pub reach : s.reach ≡ reach_of t
@@ -43,7 +44,8 @@ pub record IsAt (p : Program) (s : PassState) (t : FormulaTree) (rows : Trace) :
 
 -- ---- after a row
 
--- It has checked the places before its own. What it has noted of those is by all rows, and of the others by the rows before the last.
+-- It has checked the positions before its own. Its notes on those take all rows into account, the others only the rows
+-- before the last.
 pub record IsLooking (p : Program) (s : PassState) (t : FormulaTree) (before : Trace) (row : Atom → Verdict) : Type 0 where
   pub follows : Follows p s.state (t ∷ []) (before ++ row ∷ [])
   pub reach : s.reach ≡ reach_of t
@@ -58,14 +60,14 @@ pub record IsDecidedAt (a : ℕ × Verdict) (t : FormulaTree) (rows : Trace) (pl
   pub decided : IsDecidedNow t rows a.0
   pub value : a.1 ≡ value_in rows t a.0
 
--- The last row decides the position at a place, with its value. `None` where it decides none there.
+-- The position at an index that the last row decides, with its value; `None` if it decides none there.
 abbrev pub IsLooked : Option (ℕ × Verdict) → FormulaTree → Trace → ℕ → Type 0
 IsLooked None t rows place = (j : ℕ) → j + (reach_of t + 1) ≡ place + length rows → ¬ IsDecidedNow t rows j
 IsLooked (Some a) t rows place = IsDecidedAt a t rows place
 
--- ---- while positions are given
+-- ---- while it returns positions
 
--- These rows were fed, and of the positions that the last one decides those before `from` were given.
+-- It has taken these rows and returned those positions before `from` that the last row decides.
 pub record IsGiving (p : Program) (s : PassState) (t : FormulaTree) (rows : Trace) (from : ℕ) : Type 0 where
   pub before : Trace
   pub row : Atom → Verdict
@@ -74,7 +76,7 @@ pub record IsGiving (p : Program) (s : PassState) (t : FormulaTree) (rows : Trac
   pub passed : (j : ℕ) → from ≤ j → j + (reach_of t + 1) < s.place + length rows → ¬ IsDecidedNow t rows j
   pub behind : from ≤ (s.place + length rows) - (reach_of t + 1)
 
--- how it goes on after an answer
+-- its state after an answer
 abbrev pub Continues : Program → Option (ℕ × Verdict) → PassState → FormulaTree → Trace → Type 0
 Continues p None s t rows = IsAt p s t rows
 Continues p (Some a) s t rows = IsGiving p s t rows (a.0 + 1)

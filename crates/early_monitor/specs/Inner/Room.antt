@@ -1,4 +1,4 @@
--- That a state is one of its program is known by one proof at most, so that a monitor may keep it as a fact.
+-- At most one proof shows that a state belongs to its program, so a monitor may store it as a fact.
 use native.Mathlib.Nat.{ℕ_set}
 use Rattle.std.specs.Coded.{le_prop}
 use Rattle.mtl_monitor.specs.declared.node.Operator.{Operator}

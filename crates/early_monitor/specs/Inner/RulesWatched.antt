@@ -1,4 +1,4 @@
--- What the rules of a watch are, and what each keeps of a trace.
+-- The rules of a watch, and the state of each for a trace.
 use Rattle.std.specs.Prelude.{ℕ, ◌≡◌, ◌≢◌, ◌<◌, List, [], ◌∷◌, length, get_or, Option, Some, None}
 use Rattle.mtl_formulas.specs.FormulaTree.{FormulaTree, leaf}
 use Rattle.mtl_formulas.specs.declared.atom.Atom.TheVariants.{Always}
@@ -16,17 +16,18 @@ use Rattle.early_monitor.specs.Alarms.{tree_of_rule}
 use Rattle.rule_program.specs.Lags.{lags_of}
 use Rattle.early_monitor.specs.Inner.EarlyStates.{HasGivenAll, IsAt, IsEarlyProgramOf, IsStateOf, rows_fed}
 
--- A rule of this formula is watched so: as one of a program of its own, or else each No comes with the last row that it reaches.
+-- The form of a rule with this formula: it has its own program, or each No comes with the last row that it reaches.
 abbrev pub IsWatchedAs : Option EarlyRule → FormulaTree → Type 0
 IsWatchedAs None t = HasValidParts t × ((lags_of t).no ≡ reach_of t)
 IsWatchedAs (Some early) t = IsEarlyProgramOf early.program t
 
--- so each rule of a list
+-- the same for each rule of a list
 pub record AreEarlyRules (early : List (Option EarlyRule)) (rules : List NamedTree) : Type 0 where
   pub as_many : length early ≡ length rules
   pub each : (k : ℕ) → k < length rules → IsWatchedAs (get_or early k None) (tree_of_rule rules k)
 
--- What stands for a rule in the program of all: its formula, or where it is watched by a program of its own one that costs nothing.
+-- The formula of a rule in the program of all: its own formula, or one that costs nothing if the rule has its own
+-- program.
 abbrev pub plain_tree : Option EarlyRule → FormulaTree → FormulaTree
 plain_tree None t = t
 plain_tree (Some early) t = leaf Always
@@ -35,7 +36,7 @@ abbrev pub plain_trees : List (Option EarlyRule) → List NamedTree → List For
 plain_trees (early ∷ more) (rule ∷ rules) = plain_tree early rule.tree ∷ plain_trees more rules
 plain_trees _ _ = []
 
--- The program has what stands for each of these rules, at the rule's index.
+-- The program has the formula of each of these rules at the rule's index.
 pub record IsPlainProgram (p : Program) (early : List (Option EarlyRule)) (rules : List NamedTree) : Type 0 where
   pub of : IsProgramOf p (plain_trees early rules)
   pub as_many : length early ≡ length rules
@@ -48,31 +49,31 @@ pub record AreWatched (w : WatchedRules) (rules : List NamedTree) : Type 0 where
 abbrev pub early_at : WatchedRules → ℕ → Option EarlyRule
 early_at w k = get_or w.early.items k None
 
--- ---- what the program keeps of a trace
+-- ---- the state of the program for a trace
 
 -- A rule has no program of its own, and its latest value is not No.
 abbrev pub IsCalmRule : WatchedRules → TraceState → ℕ → Type 0
 IsCalmRule w values k = (early_at w k ≡ None) × (last_value w.program values k ≢ No)
 
--- So are all rules: a row that changes none of their values brings no alarm.
+-- The same for all rules: a row that changes none of their values has no alarm.
 abbrev pub IsCalm : WatchedRules → TraceState → Type 0
 IsCalm w values = (k : ℕ) → k < length w.early.items → IsCalmRule w values k
 
--- ---- what a rule keeps of a trace
+-- ---- the state of a rule for a trace
 
--- It is of the rule, was fed so many rows, and has given all that they decide.
+-- It belongs to the rule, has taken this many rows, and has returned all that they decide.
 abbrev pub FitsRule : ℕ → Option EarlyRule → Option EarlyState → Type 0
 FitsRule fed None state = Unit {0}
 FitsRule fed (Some early) None = ⊥
 FitsRule fed (Some early) (Some state) = IsStateOf early.program state × HasGivenAll state × (rows_fed state ≡ fed)
 
--- It was fed these rows.
+-- It has taken these rows.
 abbrev pub StandsForRule : Option EarlyRule → Option EarlyState → FormulaTree → Trace → Type 0
 StandsForRule None state t rows = Unit {0}
 StandsForRule (Some early) None t rows = ⊥
 StandsForRule (Some early) (Some state) t rows = IsAt early.program state t rows
 
--- Each rule keeps this of a trace before its first row.
+-- Each rule has this state before the first row of a trace.
 pub record AreBegun (w : WatchedRules) (states : List (Option EarlyState)) : Type 0 where
   pub as_many : length states ≡ length w.early.items
   pub fits : (k : ℕ) → k < length w.early.items → FitsRule 0 (early_at w k) (get_or states k None)

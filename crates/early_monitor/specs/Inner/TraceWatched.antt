@@ -1,4 +1,4 @@
--- What is kept of one trace of a watch.
+-- The state of one trace of a watch.
 use Rattle.std.specs.Prelude.{ℕ, ◌≡◌, ◌<◌, List, length, get_or, Option, None, true}
 use Rattle.mtl_monitor.specs.Following as monitor
 use Rattle.traces.specs.Audited.{AuditNumbers}
@@ -9,15 +9,15 @@ use Rattle.early_monitor.specs.declared.watched_trace.WatchedTrace.{WatchedTrace
 use Rattle.early_monitor.specs.Alarms.{tree_of_rule}
 use Rattle.early_monitor.specs.Inner.RulesWatched.{FitsRule, IsCalm, StandsForRule, early_at, plain_trees}
 
--- how many steps it has
+-- the number of its steps
 abbrev pub steps_of : WatchedTrace → ℕ
 steps_of trace = monitor.fed_of trace.values
 
--- what the rule at an index keeps of it
+-- the state of the rule at an index for it
 abbrev pub kept_at : List (Option EarlyState) → ℕ → Option EarlyState
 kept_at states k = get_or states k None
 
--- It goes on by these rules: all that is kept of it has as many steps.
+-- It continues with these rules: all parts of its state have the same number of steps.
 pub record IsReady (w : WatchedRules) (trace : WatchedTrace) : Type 0 where
   pub fits : monitor.Fits w.program trace.values
   pub unended : monitor.past_of trace.values ≡ 0
@@ -25,7 +25,7 @@ pub record IsReady (w : WatchedRules) (trace : WatchedTrace) : Type 0 where
   pub early : (k : ℕ) → k < length w.early.items → FitsRule (steps_of trace) (early_at w k) (kept_at trace.early.items k)
   pub calm : trace.calm ≡ true → IsCalm w trace.values
 
--- It stands for what the steps of a trace so far answer to the atoms.
+-- Its model is the values of the atoms at the steps of a trace so far.
 pub record StandsFor (w : WatchedRules) (numbers : AuditNumbers) (trace : WatchedTrace) (known : Known) : Type 0 where
   pub pair : trace.pair ≡ known.pair
   pub start : trace.start ≡ known.start

@@ -1,4 +1,4 @@
--- What is kept of all traces of a watch, and the alarms that a step of each comes to.
+-- The state of all traces of a watch, and the alarms of a step of each.
 use Rattle.std.specs.Prelude.{ℕ, ◌≤◌, ◌↔◌, List, ◌++◌}
 use Rattle.std.specs.List.{AllZip, Contains}
 use Rattle.mtl_monitor.specs.Following.{count_of}
@@ -13,20 +13,20 @@ use Rattle.early_monitor.specs.Inner.Breaches.{IsBreachOf}
 use Rattle.early_monitor.specs.Inner.RulesWatched.{AreWatched}
 use Rattle.early_monitor.specs.Inner.TraceWatched as trace
 
--- One of the traces is so broken, as the step with this number decides.
+-- One of the traces has this breach, and the step with this number decides it.
 pub record IsBreachAmong (numbers : AuditNumbers) (step : ℕ) (knowns : List Known) (alarm : Alarm) : Type 0 where
   pub known : Known
   pub among : Contains knowns known
   pub breach : IsBreachOf numbers step known alarm
 
--- What is kept of each trace stands for it, and the alarms are those that the step of the first traces decides: the others have not
--- taken it.
+-- The state of each trace matches it, and the alarms are those that the step decides in the first traces; the others
+-- have not taken it.
 pub record AreFound (w : WatchedRules) (alarms : List Alarm) (numbers : AuditNumbers) (step : ℕ) (values : List WatchedTrace) (done rest : List Known) (given : Unit {0}) : Type 0 where
   pub rules : AreWatched w numbers.rules
   pub stand : AllZip (trace.StandsFor w numbers) values (done ++ rest)
   pub alarms_are : (alarm : Alarm) → Contains alarms alarm ↔ IsBreachAmong numbers step done alarm
 
--- A trace that ends brings no alarm.
+-- The end of a trace has no alarm.
 abbrev pub watch_keeper : WatchKeeper → Keeper WatchedTrace (Unit {0})
 watch_keeper keeper = record {
   Sound = count_of keeper.rules.program ≤ 17;

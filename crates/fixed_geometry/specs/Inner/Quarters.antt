@@ -1,4 +1,4 @@
--- A vector by the quarter of the circle that it lies in.
+-- A vector by its quarter of the circle.
 use Rattle.std.specs.Prelude.{◌≡◌, ◌+◌, ◌≤◌, ◌^◌, ◌≤ℤ◌, Some, pos, unsigned_abs}
 use Rattle.fixed_geometry.specs.Bearing.{bearing_of, quarter_angle}
 use Rattle.fixed_geometry.specs.declared.point.Point.{Point}
@@ -12,7 +12,7 @@ pub record IsOfAQuarter (way : Quartered) : Type 0 where
   pub starboard : pos 0 ≤ℤ way.starboard
   pub starboard_small : unsigned_abs way.starboard ≤ 2 ^ 62
 
--- The bearing is the quarter's beginning and what the vector has turned within the quarter.
+-- The bearing is the quarter's start plus the angle within the quarter.
 pub record IsInQuarter (r : Point) (way : Quartered) : Type 0 where
   pub of_a_quarter : IsOfAQuarter way
   pub bearing : bearing_of r ≡ Some (way.start + quarter_angle way.ahead way.starboard)

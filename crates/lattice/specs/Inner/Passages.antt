@@ -1,4 +1,4 @@
--- Own ship under way by a plan, as a step begins.
+-- Own ship under a plan at the start of a step.
 use Rattle.std.specs.Prelude.{ℕ, ◌≡◌, ◌+◌, ◌*◌, ◌/◌, ◌<◌, ◌≤◌, List, pos, ◌*ℤ◌}
 use Rattle.fixed_geometry.specs.Sizes.{IsWithin}
 use Rattle.fixed_geometry.specs.Velocity.{velocity_of}
@@ -10,11 +10,11 @@ use Rattle.lattice.specs.declared.passage.Orders.{Orders}
 use Rattle.lattice.specs.declared.passage.Passage.{Passage}
 use Rattle.lattice.specs.declared.under_way.UnderWay.{UnderWay}
 
--- where a velocity leads in a tick of this many seconds
+-- the displacement of a velocity in a tick of this many seconds
 abbrev pub way_by : ℕ → Point → Point
 way_by tick velocity = record { x = pos tick *ℤ velocity.x; y = pos tick *ℤ velocity.y }
 
--- what is ordered in a step, and the step with which the next leg begins
+-- the orders in a step, and the step at which the next leg begins
 pub record AreOrders (grid : Grid) (plan : List ℕ) (start : UnderWay) (step : ℕ) (orders : Orders) : Type 0 where
   pub course : orders.course ≡ ordered_course grid (choice_in_force grid plan step) start.direction
   pub speed : orders.speed ≡ ordered_speed grid (choice_in_force grid plan step) start.speed
@@ -23,7 +23,7 @@ pub record AreOrders (grid : Grid) (plan : List ℕ) (start : UnderWay) (step : 
   pub small : orders.speed ≤ 1022
   pub until : orders.until ≡ (step / grid.leg_ticks + 1) * grid.leg_ticks
 
--- The way is that of the vessel's direction and speed.
+-- The displacement is that of the vessel's direction and speed.
 pub record IsOnHerWay (tick : ℕ) (passage : Passage) : Type 0 where
   pub way : passage.way ≡ way_by tick (velocity_of passage.vessel.direction passage.vessel.speed)
   pub short : IsWithin (tick * GREATEST_VELOCITY) passage.way

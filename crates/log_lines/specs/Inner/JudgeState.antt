@@ -1,4 +1,4 @@
--- What is stored of the lines of a log, after one more line.
+-- The state after one more line of a log.
 use Rattle.std.specs.Prelude.{ℕ, ◌≡◌, ◌≤◌, Bool, length, List, [], ◌∷◌, ◌++◌, Option, Some, None, Result, Ok, Err}
 use Rattle.aivdm.specs.FragmentJoining.{Taken}
 use Rattle.aivdm.specs.OpenMessages.{StandsFor as JoinerStandsFor}
@@ -40,12 +40,12 @@ abbrev pub listed : {A : Type 0} → Result A LineOutcome → List A
 listed (Ok value) = value ∷ []
 listed (Err came) = []
 
--- how many vessels are held after one more message, if there is one
+-- the number of vessels after one more message, if there is one
 abbrev pub held_with : JudgingNumbers → List Sent → Result Sent LineOutcome → ℕ
 held_with numbers before next = length (held_of numbers (before ++ listed next))
 
--- What is stored of these messages: the book stands for them and holds no more vessels than it can, and ship types are noted if
--- ranks count.
+-- The state after these messages: the book's model is these messages, it is within its limit of vessels, and ship types
+-- are noted if ranks count.
 pub record Keeps (kept : BookValue) (types : Option (List (ℕ × List Change))) (numbers : JudgingNumbers) (ranked : Bool) (messages : List Sent) : Type 0 where
   pub book : BookStandsFor kept numbers messages
   pub few : length (held_of numbers messages) ≤ greatest_held

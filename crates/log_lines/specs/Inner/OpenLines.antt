@@ -1,4 +1,4 @@
--- An open line that goes on.
+-- An open line that continues.
 use Rattle.std.specs.Prelude.{ℕ, ◌≡◌, ◌==◌, List, ◌++◌, length, if◌then◌else◌}
 use Rattle.log_lines.specs.GrowingLog.{open_part}
 use Rattle.log_lines.specs.Standing.{OpenLineStandsFor}

@@ -1,4 +1,4 @@
--- What is stored of the times of the lines so far.
+-- The state of the times of the lines so far.
 use Rattle.std.specs.Prelude.{ℕ, ◌≡◌, ◌<◌, ◌^◌, Bool, ◌&&◌, nat_le, max, List, Option, Some, None, if◌then◌else◌}
 use Rattle.std.specs.List.{last_or}
 use Rattle.log_lines.specs.LineTimes.{clock_of, is_in_window, is_late, stamps_of}
@@ -29,7 +29,7 @@ at_least stamp (Some clock) = max stamp clock
 abbrev pub clock_behind : Bool → Option ℕ → ℕ → Option ℕ
 clock_behind within clock stamp = if within then Some (at_least stamp clock) else clock
 
--- what is stored after a line with this stamp, or with none
+-- the state after a line with this stamp, or without one
 abbrev pub times_behind : LineTimes → Option ℕ → LineTimes
 times_behind times None = times
 times_behind times (Some stamp) = record times {

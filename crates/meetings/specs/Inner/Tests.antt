@@ -1,4 +1,4 @@
--- The tests that answer the atoms.
+-- The tests that compute the atoms.
 use Rattle.std.specs.Prelude.{ℕ, ◌*◌, Bool, true, false, ◌&&◌, ◌||◌, ◌==◌, not, nat_le, Option, Some, None, is_some, pos, neg_ℤ, ◌*ℤ◌, int_le, int_lt}
 use Rattle.fixed_geometry.specs.Bearing.{bearing_of, lies_to_port}
 use Rattle.fixed_geometry.specs.Plane.{dot_of, norm2_of, turn_of}
@@ -73,7 +73,7 @@ is_first (Some meeting) = meeting.age == 0
 abbrev pub rank_counts : Option Meeting → Bool
 rank_counts meeting = is_some meeting && (not (is_kind class.Overtaking meeting) && not (is_kind class.Overtaken meeting))
 
--- what a row keeps of the state and of the step
+-- the state of a row from the engagement's state and the step
 abbrev pub meeting_of : EngagementState → Option Meeting
 meeting_of Apart = None
 meeting_of (Engaged kind age a b) = Some (record { kind = kind; age = age })

@@ -1,4 +1,4 @@
--- What the legs of one vessel hold.
+-- The order of one vessel's legs.
 use Rattle.std.specs.Prelude.{◌≤◌, List}
 use Rattle.std.specs.List.{All, AllPairs}
 use Rattle.motion.specs.TickStates.{IsLeg}

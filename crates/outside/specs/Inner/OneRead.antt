@@ -1,4 +1,4 @@
--- What one read of a source that is read whole does.
+-- The effect of one read of a source that is read to its end.
 use Rattle.std.specs.Prelude.{ℕ, ◌≡◌, ◌<◌, List, ◌++◌, length, Option}
 use Rattle.std.specs.Io.KnownBytes.{Consumes}
 

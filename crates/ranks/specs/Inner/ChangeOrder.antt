@@ -1,4 +1,4 @@
--- What is kept of one vessel.
+-- The stored changes of one vessel.
 use Rattle.std.specs.Prelude.{◌<◌, ◌≢◌, List, [], ◌∷◌}
 use Rattle.std.specs.List.{AllPairs}
 use Rattle.ranks.specs.declared.change.Change.{Change}

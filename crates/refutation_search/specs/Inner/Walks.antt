@@ -10,7 +10,7 @@ use Rattle.refutations.specs.RightLists.{ends_from, first_of, IsEntry, KnowsRule
 use Rattle.refutations.specs.declared.entry.Reason.{Reason}
 use Rattle.refutations.specs.declared.entry.WhyEntry.{WhyEntry}
 
--- A reason holds towards a target under a plan up to a last tick, and none that comes before it does.
+-- A reason holds towards a target under a plan up to a last tick, and no earlier one in the order does.
 pub record IsFirstTowards (situation : Situation) (plan : List ℕ) (last : ℕ) (target : Target) (reason : Reason) : Type 0 where
   pub holds : Holds situation plan last target reason
   pub known : KnowsRule situation reason
@@ -21,7 +21,7 @@ pub record IsFirstTowards (situation : Situation) (plan : List ℕ) (last : ℕ)
 pub record NoneIsShorter (situation : Situation) (legs : ℕ) (plan : List ℕ) : Type 0 where
   pub none : (entry : WhyEntry) → 1 ≤ length entry.prefix → length entry.prefix < legs → entry.prefix ≡ take (length entry.prefix) plan → ¬ IsGood situation entry
 
--- the number of the first plan that extends the prefix of this many legs that has a number
+-- the number of the first plan that extends the prefix with this number of legs and this number
 abbrev pub first_extension : Situation → ℕ → ℕ → ℕ
 first_extension situation legs number = number * choices_of situation.lattice ^ (situation.lattice.legs - legs)
 
@@ -31,7 +31,7 @@ pub record IsNext (situation : Situation) (before : List WhyEntry) (entry : WhyE
   pub canonical : IsCanonicalFor situation (numbered situation (ends_from situation 0 before)) entry
   pub begins : first_of situation entry ≡ ends_from situation 0 before
 
--- Each entry is so, and together they cover the plans below a number.
+-- Each entry is canonical so, and together they cover the plans below a number.
 pub record IsWalkedTo (situation : Situation) (entries : List WhyEntry) (end : ℕ) : Type 0 where
   pub each : (k : ℕ) → k < length entries → IsSomeAnd (slice_get entries k) (IsNext situation (take k entries))
   pub ends : ends_from situation 0 entries ≡ end

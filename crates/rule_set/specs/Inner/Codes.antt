@@ -1,4 +1,4 @@
--- How the logic stores a tree, and a list of rules: each constructor by a number, and then its arguments.
+-- How the logic stores a tree, and a list of rules: each constructor as a number, and then its arguments.
 use Rattle.std.proofs.Common.{◌≡◌, ◌≢◌, ℕ, List, refl, ap, arith}
 use Rattle.std.specs.Coded.{Coded, code_by, coded×, coded_ℕ, coded_list}
 use base.Stored.{Gv, gnil, gnum, gcons}

@@ -1,4 +1,4 @@
--- What is built of a rule: small enough that its nodes bound its depth.
+-- A rule in construction, small enough that its nodes bound its depth.
 use Rattle.std.specs.Prelude.{ℕ, ◌≡◌, ◌≤◌}
 use Rattle.std.specs.Coded.{le_prop}
 use Rattle.mtl_formulas.specs.declared.formula.Formula.{Formula}

@@ -1,4 +1,4 @@
--- What a list of rules stands for.
+-- The model of a list of rules.
 use Rattle.std.specs.Prelude.{◌≡◌, List, [], ◌∷◌, ◌++◌, map, Result, Ok, Err}
 use Rattle.out_of_memory.specs.declared.Memory.{Memory}
 use Rattle.mtl_formulas.specs.FormulaTree.{tree_of}
@@ -11,7 +11,7 @@ named_tree rule = rule_named rule.name (tree_of rule.formula)
 abbrev pub named_trees : List Rule → List NamedTree
 named_trees rules = map named_tree rules
 
--- The rule that was made is after those before it.
+-- The new rule follows the earlier ones.
 abbrev pub IsPut : List Rule → Result Rule Memory → List Rule → Type 0
 IsPut before (Ok rule) after = after ≡ before ++ rule ∷ []
 IsPut before (Err fault) after = ⊥

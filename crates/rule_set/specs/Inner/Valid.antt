@@ -1,4 +1,4 @@
--- A tree has valid parts in one way.
+-- A tree has valid parts in only one way.
 use Rattle.std.specs.Coded.{le_prop, Unit-prop}
 use Rattle.mtl_formulas.specs.declared.atom.Atom.{Atom}
 use Rattle.mtl_formulas.specs.declared.atom.Atom.TheVariants.{Age, Clear, Close}

@@ -1,4 +1,4 @@
--- What the table of keys says of a key that counts.
+-- Facts of the table of keys about a key that counts.
 use Rattle.std.specs.Prelude.{ℕ, ℤ, pos, ◌&&◌, nat_le, int_le, codes, List, find, Bool, true, false, if◌then◌else◌, Option, Some, None}
 use Rattle.std.specs.Str.{bytes_eq}
 use Rattle.scenario_keys.specs.ScenarioKeys.{Row}
@@ -18,7 +18,7 @@ abbrev pub kind_of : Basis → Option Row → Option Kind
 kind_of basis None = None
 kind_of basis (Some row) = if counts basis row.when then Some row.kind else None
 
--- what a key must hold
+-- the value that a key must have
 unfoldable pub kind_at : Basis → List ℕ → List ℕ → Option Kind
 kind_at basis table name = kind_of basis (find (is_named table name) (rows_by basis.need_own))
 
@@ -50,7 +50,7 @@ most_in (Some (range.TicksFromOneTo most)) = most
 most_in (Some (range.TicksTo most)) = most
 most_in (Some (range.Optional least most otherwise)) = most
 
--- The key must be there, and its range lies within these two numbers, whatever the tick.
+-- The key is required, and its range is within these two numbers, whatever the tick.
 abbrev pub lies_in : ℤ → ℤ → Option Range → Bool
 lies_in low high None = false
 lies_in low high (Some (range.FromTo least most)) = int_le low least && int_le most high
@@ -59,7 +59,7 @@ lies_in low high (Some (range.TicksFromOneTo most)) = int_le low (pos 1) && int_
 lies_in low high (Some (range.TicksTo most)) = int_le low (pos 0) && int_le most high
 lies_in low high (Some (range.Optional least most otherwise)) = false
 
--- The key may be left out for this number, which is in its range, and the range lies within the first two numbers.
+-- The key is optional with this default, which is in its range, and the range is within the first two numbers.
 abbrev pub may_lie_in : ℤ → ℤ → ℤ → Option Range → Bool
 may_lie_in low high otherwise (Some (range.Optional least most other)) =
     (int_le low least && int_le most high) && (int_le least otherwise && int_le otherwise most)
@@ -71,7 +71,7 @@ begins_with_the_tick (Some (range.FromTheTickTo most)) = true
 begins_with_the_tick (Some (range.TicksFromOneTo most)) = true
 begins_with_the_tick _ = false
 
--- The key holds multiples of the tick.
+-- The key has multiples of the tick.
 abbrev pub are_ticks : Option Range → Bool
 are_ticks (Some (range.TicksFromOneTo most)) = true
 are_ticks (Some (range.TicksTo most)) = true
@@ -87,7 +87,7 @@ list_range_in (Some _) = None
 abbrev pub list_range_at : Basis → List ℕ → List ℕ → Option ListRange
 list_range_at basis table name = list_range_in (kind_at basis table name)
 
--- the least length; a list that is left out has none
+-- the least length; an absent list has length 0
 abbrev pub fewest_of : ListRange → ℕ
 fewest_of range = if range.is_optional then 0 else range.fewest
 
@@ -109,7 +109,7 @@ abbrev pub high_in : Option ListRange → ℤ
 high_in None = pos 0
 high_in (Some range) = range.high
 
--- The integers of its lists lie within these numbers.
+-- The integers of its lists are within these numbers.
 abbrev pub lists_lie_in : ℤ → ℤ → Option ListRange → Bool
 lists_lie_in low high None = false
 lists_lie_in low high (Some range) = int_le low range.low && int_le range.high high

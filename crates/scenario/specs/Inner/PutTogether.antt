@@ -1,4 +1,4 @@
--- The document of version 2 as it is put together, one member after the other.
+-- The construction of the document of version 2, one member after the other.
 use Rattle.std.specs.Prelude.{ℕ, codes, List, [], ◌∷◌, is_some, if◌then◌else◌, Option, Some, None}
 use Rattle.std.specs.Cmp.Lexicographic.{slice_cmp}
 use Rattle.std.specs.Ordering.{match_ordering, nat_cmp}
@@ -7,7 +7,7 @@ use Rattle.toml.specs.Data as toml
 use Rattle.scenario_keys.specs.ScenarioKeys.{rows, Row}
 use Rattle.scenario.specs.Migration.{is_key_of, new_value, table_names}
 
--- members in the order of their names, and one more, in the place of one of its name
+-- members in the order of their names, and one more, which replaces one of the same name
 
 abbrev pub with_member : List ℕ → Data → Members → Members
 with_member name found no_members = member name found no_members
@@ -22,7 +22,7 @@ abbrev pub with_found : List ℕ → Option Data → Members → Members
 with_found name None members = members
 with_found name (Some found) members = with_member name found members
 
--- the keys of a table, with what they hold in version 2, put to what is there
+-- the keys of a table with their values in version 2, added to the members
 
 abbrev pub with_key : Members → List ℕ → Row → Members → Members
 with_key document table row members =

@@ -1,4 +1,4 @@
--- An answer whose value is seen by a view.
+-- A result with the model of its value.
 use Rattle.std.specs.Prelude.{Result, Ok, Err}
 
 abbrev pub viewed : {A B E : Type 0} → (A → B) → Result A E → Result B E

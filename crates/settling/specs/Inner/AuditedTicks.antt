@@ -1,4 +1,4 @@
--- An audit as one who takes ticks.
+-- An audit as a taker of ticks.
 use Rattle.std.specs.Prelude.{◌-◌, List, length}
 use Rattle.audit_rows.specs.declared.row.Row.{Row}
 use Rattle.auditor.specs.AuditRows.{AreAuditRowsBelow}
@@ -8,7 +8,7 @@ use Rattle.auditor.specs.declared.audit.Audit.{Audit}
 use Rattle.traces.specs.Audited.{AuditNumbers, Sighting}
 use Rattle.settling.specs.Inner.TakenTicks.{Taker}
 
--- The audit stands for these ticks and rows, which are those that the ticks decide.
+-- The audit's model is these ticks and rows, and the rows are those that the ticks decide.
 pub record HasAudited (audit : Audit) (numbers : AuditNumbers) (ticks : List Sighting) (given : List Row) : Type 0 where
   pub stands : AuditStandsFor audit numbers ticks given
   pub rows : AreAuditRowsBelow numbers ticks (settled_by numbers (length ticks - 1)) given

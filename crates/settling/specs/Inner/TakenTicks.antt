@@ -1,4 +1,4 @@
--- What one keeps who takes the ticks of a window as they are handed out, and gives items with each: an audit rows, a watch alarms.
+-- The state of a taker of a window's ticks, which returns items for each tick: an audit returns rows, a watch alarms.
 use Rattle.std.specs.Prelude.{ℕ, ◌≡◌, ◌+◌, ◌<◌, ◌≤◌, ◌↔◌, [], ◌∷◌, ◌++◌, List}
 use Rattle.log_lines.specs.SentLines.{sent}
 use Rattle.log_lines.specs.Standing.{StandsFor as JudgeStandsFor}
@@ -13,8 +13,8 @@ use Rattle.traces.specs.Audited.{AuditNumbers, SeenVessels, Sighting, last_sight
 use Rattle.traces.specs.ManyTraces.{HaveMoreThan}
 use Rattle.traces.specs.declared.all_traces.TheConstants.{MOST_TRACES}
 
--- One who takes ticks: how many it was given, and how many the window has; which vessels are seen at the latest; and for which numbers,
--- ticks and given items it stands.
+-- A taker of ticks: the number of ticks so far and in the window; the vessels seen at the latest tick; and its model:
+-- numbers, ticks and returned items.
 pub record Taker (Item : Type 0) : Type 1 where
   pub Sound : Type 0
   pub count : ℕ
@@ -25,7 +25,7 @@ pub record Taker (Item : Type 0) : Type 1 where
   pub seen_last : (numbers : AuditNumbers) (ticks : List Sighting) (given : List Item)
       → Stands numbers ticks given → latest ≡ (last_sighting ticks).vessels
 
--- With the tick at which this is seen it takes a further one, and gives these items.
+-- It takes another tick with this sighting, and returns these items.
 pub record TakesNext {Item : Type 0} (old new : Taker Item) (seen : Sighting) (items : List Item)
     : Type 0 where
   pub sound : new.Sound
@@ -36,19 +36,19 @@ pub record TakesNext {Item : Type 0} (old new : Taker Item) (seen : Sighting) (i
   pub few : (numbers : AuditNumbers) (before : List Sighting) (given : List Item)
       → old.Stands numbers before given → HaveMoreThan MOST_TRACES numbers (before ++ seen ∷ []) → ⊥
 
--- That tick begins too many traces for it.
+-- That tick begins too many traces.
 abbrev pub IsTooManyFor : {Item : Type 0} → Taker Item → Sighting → Type 0
 IsTooManyFor {Item} old seen = (numbers : AuditNumbers) (before : List Sighting) (given : List Item)
     → old.Stands numbers before given → HaveMoreThan MOST_TRACES numbers (before ++ seen ∷ [])
 
--- It was given no tick of the scenario's window.
+-- It has taken no tick of the scenario's window.
 pub record IsBeforeAll {Item : Type 0} (taker : Taker Item) (scenario : Scenario) : Type 0 where
   pub sound : taker.Sound
   pub count : taker.count ≡ 0
   pub last : taker.last_tick ≡ scenario.window.ticks
   pub stands : taker.Stands (audit_numbers scenario) [] []
 
--- It has taken all ticks of the scenario's window, as these lines show them, and these items were given.
+-- It has taken all ticks of the scenario's window, by these lines, and returned these items.
 pub record HasTakenAll {Item : Type 0} (taker : Taker Item) (scenario : Scenario)
     (lines : List (List ℕ)) (given : List Item) : Type 0 where
   pub sound : taker.Sound
@@ -58,7 +58,7 @@ pub record HasTakenAll {Item : Type 0} (taker : Taker Item) (scenario : Scenario
       (sighted scenario (sent scenario lines)) → ⊥
 
 module _ {Item : Type 0} (taker : Taker Item) (ticks : SettledTicks) (scenario : Scenario) where
-  -- The ticks that were handed out were taken, as these lines show them, and these items were given.
+  -- It has taken the ticks returned so far, by these lines, and returned these items.
   pub record HasTaken (lines : List (List ℕ)) (given : List Item) : Type 0 where
     pub sound : taker.Sound
     pub next : taker.count ≡ handed_out ticks
@@ -68,17 +68,17 @@ module _ {Item : Type 0} (taker : Taker Item) (ticks : SettledTicks) (scenario :
     pub few : HaveMoreThan MOST_TRACES (audit_numbers scenario)
         (seen_first scenario (sent scenario lines) (handed_out ticks)) → ⊥
 
-  -- They were taken, and are settled.
+  -- It has taken them, and they are settled.
   pub record IsSettling (lines : List (List ℕ)) (given : List Item) : Type 0 where
     pub taken : HasTaken lines given
     pub settled : (i : ℕ) → i < handed_out ticks → IsSettled scenario lines i
 
-  -- The settled ticks are those that were taken.
+  -- The settled ticks are those that it has taken.
   pub record HasTakenSettled (lines : List (List ℕ)) (given : List Item) : Type 0 where
     pub settled : (i : ℕ) → IsSettled scenario lines i ↔ (i < handed_out ticks)
     pub taken : HasTaken lines given
 
-  -- So it was with lines that the judge has taken, before further ones.
+  -- The same held for lines that the judge has taken, before further ones.
   pub record HasTakenOneLog (judge : Judge) : Type 0 where
     pub lines : List (List ℕ)
     pub more : List (List ℕ)

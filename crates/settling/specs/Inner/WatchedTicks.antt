@@ -1,4 +1,4 @@
--- A watch as one who takes ticks.
+-- A watch as a taker of ticks.
 use Rattle.std.specs.Prelude.{List}
 use Rattle.early_monitor.specs.Alarms.{AreAlarms}
 use Rattle.early_monitor.specs.Watching.{IsSound, StandsFor as WatchStandsFor, given_of, last_tick_of, latest_vessels}
@@ -7,7 +7,7 @@ use Rattle.early_monitor.specs.declared.watch.Watch.{Watch}
 use Rattle.traces.specs.Audited.{AuditNumbers, Sighting}
 use Rattle.settling.specs.Inner.TakenTicks.{Taker}
 
--- The watch stands for these ticks, and these are their alarms.
+-- The watch's model is these ticks, and these are their alarms.
 pub record HasWatched (watch : Watch) (numbers : AuditNumbers) (ticks : List Sighting) (given : List Alarm) : Type 0 where
   pub stands : WatchStandsFor watch numbers ticks
   pub alarms : AreAlarms numbers ticks given

@@ -1,4 +1,4 @@
--- What a message changes of what is kept of a vessel, and what holds of it.
+-- The effect of a message on the stored data of a vessel, and facts about that data.
 use Rattle.std.specs.Prelude.{ℕ, ◌≡◌, ◌+◌, ◌-◌, ◌*◌, ◌<◌, ◌≤◌, ◌⊎◌, Bool, ◌||◌, is_some, List, [], ◌∷◌, ◌++◌, length, All, Option, Some, None, IfSome, Result, Ok, Err, if◌then◌else◌}
 use Rattle.std.specs.List.{last_or}
 use Rattle.std.specs.List.Sorted.{IsNonDecreasingBy}
@@ -21,7 +21,7 @@ use Rattle.tracks.specs.declared.keeping.Keeping.{Keeping}
 use Rattle.tracks.specs.declared.keeping.Keeping.TheVariants.{Latest}
 use Rattle.tracks.specs.declared.statics.Statics.{Statics}
 
--- ---- what a message changes
+-- ---- the effect of a message
 
 -- a report at its point, or why it has none
 abbrev pub with_point : Reported → Result Point ReportCause → Result Accepted ReportCause
@@ -41,7 +41,7 @@ abbrev pub points_with : List Accepted → Option Accepted → List Accepted
 points_with points None = points
 points_with points (Some accepted) = points ++ accepted ∷ []
 
--- the reports that are kept, with one more
+-- the stored reports, with one more
 abbrev pub kept_with : Keeping → List Accepted → Option Accepted → List Accepted
 kept_with keeping points None = points
 kept_with keeping points (Some accepted) = kept_points keeping (points ++ accepted ∷ [])
@@ -55,7 +55,7 @@ abbrev pub joined_after : ℕ → Option Accepted → Accepted → Option Leg
 joined_after gap None now = None
 joined_after gap (Some latest) now = joined gap latest now
 
--- the counts, with one report more, which is joined to the one before it or not
+-- the counts with one more report, which is joined to the previous one or not
 abbrev pub counts_more : Counts → Bool → Counts
 counts_more counts joined = record { reports = counted (counts.reports + 1); legs = if joined then counted (counts.legs + 1) else counts.legs }
 
@@ -75,33 +75,33 @@ vessel_with keeping gap vessel accepted = record {
 abbrev pub told : VesselValue → Option StaticReport → VesselValue
 told vessel report = record vessel { statics = statics_with vessel.statics report }
 
--- what is kept of a vessel after a message of hers
+-- the stored data of a vessel after a message of hers
 unfoldable pub vessel_after : Keeping → JudgingNumbers → VesselValue → Sent → VesselValue
 vessel_after keeping numbers vessel one =
     told (vessel_with keeping numbers.gap vessel (accepted_in numbers (last_or None vessel.points) (reported_in one))) (static_in one.message)
 
--- nothing is known yet
+-- no data yet
 abbrev pub untold : VesselValue
 untold = record { points = []; legs = []; counts = record { reports = 0; legs = 0 }; statics = record { name = None; ship = None } }
 
--- The message makes its vessel held if nothing was known about her.
+-- The message adds its vessel to the book if there was no data of her.
 abbrev pub makes_held : JudgingNumbers → Sent → Bool
 makes_held numbers one = is_some (static_in one.message) || is_some (accepted_in numbers None (reported_in one))
 
--- ---- what is forgotten
+-- ---- the forgotten data
 
--- a vessel once her reports before a time are forgotten
+-- a vessel after forgetting her reports before a time
 abbrev pub vessel_since : ℕ → ℕ → VesselValue → VesselValue
 vessel_since gap time vessel = record vessel { points = points_since time vessel.points; legs = legs_between gap (points_since time vessel.points) }
 
--- ---- what holds of what is kept
+-- ---- facts about the stored data
 
--- A report that is accepted after another is later, and where it is joined to it no faster than 102.2 knots.
+-- A report accepted after another one is later, and, if it is joined to it, reached at no more than 102.2 knots.
 pub record Follows (gap : ℕ) (latest now : Accepted) : Type 0 where
   pub after : latest.time < now.time
   pub slow : now.time ≤ latest.time + gap → 81 * distance2 latest now ≤ square (4630 * 1022 * (now.time - latest.time))
 
--- Reports stand in the order of their times.
+-- Reports are in the order of their times.
 abbrev pub AreInOrder : List Accepted → Type 0
 AreInOrder reports = IsNonDecreasingBy (λ (report : Accepted). report.time) reports
 
