@@ -218,7 +218,7 @@ class WrongUses(InFolder):
         for words in (("no.toml", example("crossing.log")), (wrong, "no.log")):
             status, out, error = self.tool("colregs-doctor", "--program", PROGRAM, *words)
             self.assertEqual((status, out), (2, ""))
-            self.assertRegex(error, "^doctor: .*cannot be (read|opened): no such file or directory\n$")
+            self.assertRegex(error, "^doctor: cannot (read|open) .*: no such file or directory\n$")
 
 
 class Keys(unittest.TestCase):

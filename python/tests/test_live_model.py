@@ -340,7 +340,7 @@ class Doors(InFolder):
         for word, mode, told in (
             ("short", 0o600, "at least 16 letters"),
             ("0123456789abcdef", 0o644, "other users can read the token"),
-            ("0123456789 abcdef", 0o600, "a word of"),
+            ("0123456789 abcdef", 0o600, "one word of"),
         ):
             with self.assertRaisesRegex(Fault, told):
                 access_of("127.0.0.1:0", None, self.token(word, mode), [], None)
