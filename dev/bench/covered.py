@@ -36,7 +36,8 @@ def measured(folder: str, program: str, names: list[str]) -> tuple[int, dict[str
                        (os.path.join(folder, "sitecustomize.py"), START)):
         with open(path, "w", encoding="utf-8") as out:
             out.write(text)
-    environment = {**os.environ, "COVERAGE_PROCESS_START": settings, "PYTHONPATH": folder}
+    path = os.path.dirname(sys.executable) + os.pathsep + os.environ.get("PATH", os.defpath)    # `python3` is this one
+    environment = {**os.environ, "COVERAGE_PROCESS_START": settings, "PYTHONPATH": folder, "PATH": path}
     tests = [sys.executable, os.path.join(TOP, "python", "tests", "run"), os.path.abspath(program), *names]
     status = subprocess.run(tests, env=environment, stdout=sys.stderr).returncode
     report = os.path.join(folder, "report.json")

@@ -1,5 +1,6 @@
 """How every command ends: its exit status, and one line `NAME: what is wrong` on standard error if something stops
 it."""
+import contextlib
 import os
 import sys
 from collections.abc import Callable
@@ -21,15 +22,20 @@ def reason(error: OSError) -> str:
 
 
 def report(name: str, words: str) -> None:
-    """Writes one line of a command on standard error."""
-    print(f"{name}: {words}", file=sys.stderr, flush=True)
+    """Writes one line of a command on standard error; if that cannot be written, the exit status has to do."""
+    with contextlib.suppress(OSError):
+        print(f"{name}: {words}", file=sys.stderr, flush=True)
 
 
 def end(name: str, main: Callable[[], int], failed: int = FAILED) -> NoReturn:
     """Runs a command's main and leaves with its status; `failed` is the status of a Fault and of a file that cannot be
     read or written."""
+    open_missing()
     try:
-        status = main()
+        try:
+            status = main()
+        except SystemExit as ended:         # of argparse, after a help page or a wrong command line
+            status = int(ended.code or DONE)
         sys.stdout.flush()
     except Fault as fault:
         report(name, str(fault))
@@ -43,6 +49,18 @@ def end(name: str, main: Callable[[], int], failed: int = FAILED) -> NoReturn:
         report(name, f"{place}: {reason(error)}")
         status = failed
     sys.exit(status)
+
+
+def open_missing() -> None:
+    """Opens what a caller closed of standard input, output and error, so that no file of ours gets their numbers.
+    Standard input then is empty, and a write to standard output fails."""
+    for number, (name, mode) in enumerate((("stdin", "r"), ("stdout", "w"), ("stderr", "w"))):
+        if getattr(sys, name) is None:
+            null = os.open(os.devnull, os.O_WRONLY if name == "stderr" else os.O_RDONLY)
+            if null != number:
+                os.dup2(null, number)
+                os.close(null)
+            setattr(sys, name, open(number, mode, encoding="utf-8", errors="backslashreplace"))
 
 
 def discard_output() -> None:

@@ -153,8 +153,7 @@ def main() -> int:
             print(f"{passed:.0f} s: {health['lines']} of {count} lines, due in {due:.0f} s; server "
                   f"{own / max(1, due):.2f} CPU seconds per second, with the program {every / max(1, due):.2f}; "
                   f"{most_memory(server.child.pid):.0f} MiB; {health['rows']} rows, {health['at_rest']} at rest; "
-                  f"answers {health['answer_seconds']} s "
-                  f"{health['answer_fault']}", flush=True)
+                  f"answers {health['answer_seconds']} s {health['answer_fault']}", flush=True)
         print(server.ask("/metrics")[1].decode(), flush=True)
         server.stop()
         print("\n".join(server.said))

@@ -8,6 +8,7 @@ import math
 from collections.abc import Iterator
 from dataclasses import dataclass
 
+from given import InFolder, PROGRAM
 from colregs.io.sentences import block, class_a, sentence, sentences, voyage
 
 START, TICK, STEPS = 1700000000, 10, 360
@@ -94,3 +95,19 @@ def log() -> str:
         lines.append((-1, block(START) + first + b"\n" + second))
         lines += vessel.reports()
     return b"".join(line + b"\n" for _, line in sorted(lines, key=lambda entry: entry[0])).decode()
+
+
+class InStrait(InFolder):
+    """A test with the log and the scenario of the strait in its folder."""
+
+    def setUp(self) -> None:
+        super().setUp()
+        self.write("strait.toml", SCENARIO)
+        self.write("strait.log", log())
+
+    def make(self, out: str, *words: str, logs: str = "strait.log") -> str:
+        """Makes a case; returns its summary."""
+        status, said, error = self.tool("colregs-case", logs, "--scenario", "strait.toml", "--program", PROGRAM, "-o",
+                                        out, *words)
+        self.assertEqual(status, 0, error)
+        return said

@@ -28,9 +28,9 @@ def udp(payload: bytes, ipv6: bool = False) -> bytes:
                                                  bytes(8)) + data
 
 
-def pcap(order: str, magic: int, *packets: bytes) -> bytes:
-    """Returns a pcap by its specification: an hour of packets, one per second."""
-    head = struct.pack(order + "IHHiIII", magic, 2, 4, 0, 0, 65535, 1)
+def pcap(order: str, magic: int, *packets: bytes, link: int = 1) -> bytes:
+    """Returns a pcap of a link type by its specification: an hour of packets, one per second."""
+    head = struct.pack(order + "IHHiIII", magic, 2, 4, 0, 0, 65535, link)
     return head + b"".join(
         struct.pack(order + "4I", AT + k, 5, len(data), len(data)) + data for k, data in enumerate(packets))
 
@@ -82,6 +82,25 @@ class Captures(Logs):
         for size in range(4, 80, 7):
             for log in pcap("<", 0xA1B2C3D4, udp(S)), pcapng(udp(S)):
                 self.assertRegex(self.made(log[:size])[0].notes[0], "^log is cut off|no sentence and no row")
+
+    def test_each_link_type_has_its_own_head_before_the_packet(self) -> None:
+        """The heads of LINKTYPE_ETHERNET with a tag of IEEE 802.1Q, NULL, RAW, LINUX_SLL and LINUX_SLL2, and one whose
+        packets are none of the Internet."""
+        four, six = udp(S)[14:], udp(S, ipv6=True)[14:]
+        sll, sll2 = bytes(14), bytes(18)
+        for link, head in ((1, bytes(12) + b"\x81\x00\x00\x05"), (113, sll), (276, b"")):
+            for kind, data in ((b"\x08\x00", four), (b"\x86\xdd", six)):
+                packet = head + kind + (sll2 if link == 276 else b"") + data
+                self.assertEqual(self.made(pcap("<", 0xA1B2C3D4, packet, link=link))[1], TAGGED, link)
+        for link, head in ((0, b"\x02\x00\x00\x00"), (101, b"")):
+            for data in (four, six):
+                self.assertEqual(self.made(pcap("<", 0xA1B2C3D4, head + data, link=link))[1], TAGGED, link)
+        self.assertEqual(self.made(pcap("<", 0xA1B2C3D4, four, link=147))[1], "")
+
+    def test_a_later_fragment_gives_no_line(self) -> None:
+        packet = bytearray(udp(S))
+        packet[14 + 7] = 1                      # the fragment's offset in 8 bytes (RFC 791)
+        self.assertEqual(self.made(pcap("<", 0xA1B2C3D4, bytes(packet), udp(S)))[1].count("\n"), 1)
 
     def test_a_compressed_capture_is_read(self) -> None:
         found, out = self.made(gzip.compress(pcap("<", 0xA1B2C3D4, udp(S))))

@@ -13,8 +13,9 @@ from typing import Any
 import crowd
 from drawn_logs import METRE, START, in_parts, scenario_text, stamped, voyage
 from given import InFolder, PROGRAM, text_of, with_program
+from colregs.errors import Fault
 from colregs.io import sentences
-from colregs.io.lines import Joiner, Sentence, Stamps, bits_of, line_of, sentence_of, stamp_of_block
+from colregs.io.lines import Joiner, Sentence, bits_of, line_of, sentence_of, stamp_of, stamp_of_block
 from colregs.model.formulas import YES, sight_of
 from colregs.model.scenario import Scenario
 from colregs.run.limits import next_step
@@ -296,7 +297,7 @@ class Parts(InFolder):
             (b"\\s:a!b,c:5*" + b"%02X" % sentences.total(b"s:a!b,c:5") + b"\\!", 5),
             (b"!AIVDM", None),
         ):
-            self.assertEqual(Stamps().of(line), stamp, line)
+            self.assertEqual(stamp_of(line), stamp, line)
         self.assertEqual(stamp_of_block(b"\\*00\\"), None)
         self.assertIsNotNone(sentence_of(good + b"\r\n"))
         for wrong in (good[:-1] + b"8", good.replace(b",1,1,", b",1,2,"), good + b"x", good[1:],
@@ -329,6 +330,13 @@ class Parts(InFolder):
             sight = sight_of(text)
             self.assertEqual((sight.back, sight.ahead, sight.values == {YES}, sight.no_edge),
                              (back, ahead, meetings, no_edge), text)
+
+    def test_a_text_that_is_no_formula_is_refused(self) -> None:
+        # by the grammar of docs/FORMULAS.md, and none deeper than anybody writes
+        for text in ("", "seen seen", "G[0,60 seen", "G[x,60] seen", "G seen", "clear(x)", "clear", "seen &", "#", "U",
+                     "seen U[0,60]", "(" * 300 + "seen" + ")" * 300, "!" * 300 + "seen"):
+            with self.assertRaisesRegex(Fault, "is no formula, at its byte", msg=text):
+                sight_of(text)
 
     def test_times_of_few_lines_are_not_believed(self) -> None:
         spans = [

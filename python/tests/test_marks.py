@@ -6,7 +6,7 @@ from typing import Any
 
 import browser
 import strait
-from given import InFolder, PROGRAM, with_program
+from given import with_program
 from colregs.model import ships
 
 
@@ -23,14 +23,10 @@ class Words(unittest.TestCase):
 
 
 @with_program
-class Strait(InFolder):
+class Strait(strait.InStrait):
     def setUp(self) -> None:
         super().setUp()
-        self.write("strait.toml", strait.SCENARIO)
-        self.write("strait.log", strait.log())
-        status, self.said, error = self.tool("colregs-case", "strait.log", "--scenario", "strait.toml", "--program",
-                                             PROGRAM, "-o", "made", "--all")
-        self.assertEqual(status, 0, error)
+        self.said = self.make("made", "--all")
 
     def asked(self, what: str, where: str = "1", values: tuple[int, ...] = ()) -> list[Any]:
         """Returns rows of the case's meetings."""

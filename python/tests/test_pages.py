@@ -46,6 +46,18 @@ class Pages(InFolder):
             self.assertRegex(text, r"\n\n[A-Z]\w+s [^\n]+\.\n\n")
             self.assertRegex(text, r"(?s)\nExit status: .*\bIt needs Python 3\.11 or later\.\n")
 
+    @with_program
+    def test_a_folder_gets_the_pages_and_the_completions_of_the_program(self) -> None:
+        self.assertEqual(pages.main(self.folder, PROGRAM), 0)
+        made = {os.path.relpath(os.path.join(folder, name), self.folder)
+                for folder, _, names in os.walk(self.folder) for name in names}
+        self.assertEqual(made, {*pages.pages(), "zsh/_colregs", "fish/colregs.fish"})
+        shown = subprocess.run([PROGRAM, "--help"], capture_output=True, text=True, check=True).stdout
+        modes = set(re.findall(r"(?m)^ +- (\w+):", shown))
+        self.assertTrue({"points", "audit", "plan"} <= modes)
+        self.assertEqual(set(re.findall(r"__fish_use_subcommand -a (\w+)", text_of(self.path("fish/colregs.fish")))),
+                         modes)
+
     def test_the_old_names_are_the_new_commands(self) -> None:
         for old, new in OLD.items():
             self.assertEqual(text_of(os.path.join(TOOLS, old)), text_of(os.path.join(TOOLS, new)))
@@ -55,6 +67,23 @@ class Pages(InFolder):
             status, out, error = self.within(name, "--nothing")
             self.assertEqual((status, out, error.count("\n")), (2, "", 1), error)
             self.assertTrue(error.startswith(name.removeprefix("colregs-") + ": "), error)
+
+    def test_a_value_that_an_option_does_not_take_is_refused_by_the_options_name(self) -> None:
+        wrong: tuple[tuple[str, str, str, list[str]], ...] = (
+            ("tagged", "--offset", "1", []), ("tagged", "--offset", "+25:00", []),
+            ("tagged", "--date", "14.11.2023", []), ("tagged", "--mmsi", "992000001", []),
+            ("case", "--jobs", "0", ["LOG", "-o", "OUT"]), ("follow", "--modes", "plan", ["S", "--days", "D"]),
+            ("follow", "--modes", "audit,audit", ["S"]), ("live", "--speed", "0", ["S", "--days", "D"]),
+            ("live", "--speed", "fast", ["S", "--days", "D"]),
+            ("pilot", "--offsets", "0,x", ["S", "--track", "0,9"]), ("pilot", "--speed", "0", ["S", "--route", "R"]),
+            ("pilot", "--every", "x", ["S", "--track", "0,9"]), ("trials", "--kinds", "ramming", ["S"]),
+            ("trials", "--targets", "4..1", ["S"]), ("trials", "--targets", "few", ["S"]),
+            ("trials", "--track", "north", ["S"]), ("trials", "--runs", "0", ["S"]),
+        )
+        for name, option, value, words in wrong:
+            status, out, error = self.within(f"colregs-{name}", *words, f"{option}={value}")
+            self.assertEqual((status, out, error.count("\n")), (2, "", 1), error)
+            self.assertTrue(error.startswith(f"{name}: argument {option}: "), error)
 
     def test_each_command_has_its_tool_in_the_clone(self) -> None:
         self.assertEqual(COMMANDS, [f"colregs-{name}" for name in pages.names()])

@@ -6,7 +6,7 @@ import unittest
 
 import browser
 import strait
-from given import InFolder, PROGRAM, with_program
+from given import with_program
 from colregs.case import sweep
 from colregs.errors import Fault
 from colregs.model.rows import Verdict
@@ -38,14 +38,10 @@ class Sweeps(unittest.TestCase):
 
 
 @with_program
-class Page(InFolder):
+class Page(strait.InStrait):
     def setUp(self) -> None:
         super().setUp()
-        self.write("strait.toml", strait.SCENARIO)
-        self.write("strait.log", strait.log())
-        status, self.said, error = self.tool("colregs-case", "strait.log", "--scenario", "strait.toml", "--program",
-                                             PROGRAM, "-o", "made", "--sweep", "safe=100,500")
-        self.assertEqual(status, 0, error)
+        self.said = self.make("made", "--sweep", "safe=100,500")
 
     def test_a_meeting_is_described_in_a_sentence(self) -> None:
         base = sqlite3.connect(self.path("made/case.db"))

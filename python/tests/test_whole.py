@@ -106,18 +106,7 @@ class Long(InFolder):
 
 
 @with_program
-class LeftOut(InFolder):
-    def setUp(self) -> None:
-        super().setUp()
-        self.write("strait.toml", strait.SCENARIO)
-        self.write("strait.log", strait.log())
-
-    def make(self, out: str, *words: str, logs: str = "strait.log") -> str:
-        status, said, error = self.tool("colregs-case", logs, "--scenario", "strait.toml", "--program", PROGRAM, "-o",
-                                        out, *words)
-        self.assertEqual(status, 0, error)
-        return said
-
+class LeftOut(strait.InStrait):
     def meetings(self, out: str) -> set[tuple[int, int]]:
         base = sqlite3.connect(self.path(out + "/case.db"))
         self.addCleanup(base.close)

@@ -17,7 +17,7 @@ from colregs.case.progress import Bar
 from colregs.errors import Fault, reason
 from colregs.model.reports import Case
 from colregs.model.scenario import MOST_SUBJECTS, MOST_TICKS, Scenario
-from colregs.run.limits import STATUS, next_step
+from colregs.run.limits import STATUS
 from colregs.run.program import Run, window_options
 from colregs.shares import join, plans, runs
 from colregs.shares.jobs import Job, Kept, job_of
@@ -120,8 +120,7 @@ def one_run(place: Place, case: Case, scenario: Scenario, asked: Wanted, near: s
         write(place.path(place.scenario), scenario.text)
         return None
     if done.status:
-        step = next_step(done.status, done.words) or "; docs/ROWS.md says what to do at each status"
-        raise Fault(f"`audit` ended with status {done.status}, {done.words}{step}")
+        raise done.fault("audit")
     return done.text.decode()
 
 
@@ -172,10 +171,8 @@ def windows(place: Place, case: Case, index: str) -> list[dict[str, Any]]:
     if len(case.tracks) <= MOST_VESSELS:
         return list(plans.plan(log, plans.Wanted(case.start, case.steps, index=index), scenario, None))
     for across in TILES:
-        found = list(
-            plans.plan(
-                log, plans.Wanted(case.start, case.steps, group=MOST_SUBJECTS, tiles=(across, across), index=index),
-                scenario, place.program))
+        tiled = plans.Wanted(case.start, case.steps, group=MOST_SUBJECTS, tiles=(across, across), index=index)
+        found = list(plans.plan(log, tiled, scenario, place.program))
         tiles = {json.dumps([told["start"], told["tile"]]): told for told in found}
         if max(len(told["vessels"]) for told in tiles.values()) <= MOST_VESSELS:
             return list(tiles.values())

@@ -7,7 +7,7 @@ import tempfile
 from collections.abc import Iterable, Iterator
 from dataclasses import dataclass
 
-from colregs.errors import Fault
+from colregs.errors import Fault, reason
 from colregs.io.files import read_text, sum_of
 from colregs.model.reports import case_file
 
@@ -43,12 +43,15 @@ class Folder:
 @contextlib.contextmanager
 def new_folder(path: str) -> Iterator[Folder]:
     """Makes a folder that appears at the path once it is complete; if something fails, nothing is left."""
-    if os.path.exists(path) and (not os.path.isdir(path) or os.listdir(path)):
+    if os.path.lexists(path) and (not os.path.isdir(path) or os.listdir(path)):
         raise Fault(f"{path} exists already: give another folder")
     parent = os.path.dirname(os.path.abspath(path))
     if not os.path.isdir(parent):
         raise Fault(f"{parent}: there is no such folder")
-    place = tempfile.mkdtemp(dir=parent, prefix=".case-")
+    try:
+        place = tempfile.mkdtemp(dir=parent, prefix=".case-")
+    except OSError as error:
+        raise Fault(f"{path} cannot be made: {reason(error)}") from None
     try:
         os.chmod(place, 0o755)
         yield Folder(place)

@@ -33,8 +33,7 @@ def points(place: Place) -> str:
     if done.status == STATUS and "vessels" in done.words:
         return by_vessels(place, scenario, start, ticks)
     if done.status:
-        return report_of(place.program, "points", place.path(place.scenario), place.path(place.log),
-                         options=window_options(place.start, place.ticks))
+        raise done.fault("points")
     return done.text.decode()
 
 
@@ -63,8 +62,8 @@ def by_vessels(place: Place, scenario: Scenario, start: int, ticks: int) -> str:
         rows = [part_rows(place, scenario, (start, ticks), (k, count)) for k in range(count)]
         whole = [lines for lines in rows if lines is not None]
         if len(whole) == count:
-            return "".join(
-                sorted((line + "\n" for lines in whole for line in lines), key=lambda line: int(line.split(",", 3)[2])))
+            every = sorted((line for lines in whole for line in lines), key=lambda line: int(line.split(",", 3)[2]))
+            return "".join(line + "\n" for line in every)
     raise Fault("there are too many vessels: give a smaller --area, or a shorter time by --from and --to")
 
 
@@ -79,5 +78,5 @@ def part_rows(place: Place, scenario: Scenario, window: tuple[int, int], part: t
     if done.status == STATUS and "vessels" in done.words:
         return None
     if done.status:
-        raise Fault(f"`points` ended with status {done.status}, {done.words}")
+        raise done.fault("points")
     return [line for line in done.text.decode().split("\n") if line.startswith("point,")]

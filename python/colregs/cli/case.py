@@ -9,9 +9,9 @@ it says why, and leaves no folder. The map of the page needs Leaflet, from Debia
 Exit status: 0 if the case is made, 1 if it is not, 2 if the command line is wrong.
 """
 import argparse
+import functools
 import os
 from collections.abc import Sequence
-from typing import NoReturn
 
 from colregs.cli.arguments import add_program, add_reading, add_window, at_least, parser_of, reading_of
 from colregs.case.folder import PAGE
@@ -23,35 +23,34 @@ from colregs.run.program import found
 def parser() -> argparse.ArgumentParser:
     """Returns the parser of the command line."""
     words = parser_of(__doc__, "case")
-    words.add_argument("logs", metavar="LOG", nargs="+", help="a log of any form that docs/SOURCES.md lists; or one "
-                                                              "folder of an earlier case, whose log is "
-                       "taken again")
+    words.add_argument("logs", metavar="LOG", nargs="+",
+                       help="a log of any form that docs/SOURCES.md lists; or one folder of an earlier case, whose log "
+                            "is taken again")
     words.add_argument("-o", "--out", metavar="CASE", required=True, help="the folder, which does not exist yet")
     words.add_argument("--scenario", metavar="FILE", help="a scenario instead of one that is guessed")
     add_program(words)
     add_window(words, "instead of the scenario's")
-    words.add_argument("--from", dest="begin", metavar="TIME", help="where the window begins, in UTC: 22:13, "
-                                                                    "2023-11-14T22:13:20Z or seconds")
+    words.add_argument("--from", dest="begin", metavar="TIME",
+                       help="where the window begins, in UTC: 22:13, 2023-11-14T22:13:20Z or seconds")
     words.add_argument("--to", dest="end", metavar="TIME", help="where the window ends")
     words.add_argument("--vessel", action="append", default=[], metavar="VESSEL",
                        help="audit only pairs with this vessel, by name or MMSI; may be repeated")
-    words.add_argument("--area", metavar="AREA", help="audit only vessels that were in a box, "
-                                                      "--area=SOUTH,WEST,NORTH,EAST in degrees, or in the polygons of "
-                                                      "a "
-                       "GeoJSON file")
-    words.add_argument("--all", action="store_true", help="audit pairs of vessels that both lie still all the time, "
-                                                          "too")
-    words.add_argument("--sweep", metavar="KEY=FIRST..LAST:STEP", help="audit with each of these values of a number of "
-                                                                       "the scenario, too, as ta=60..360:60, "
-                       "and show which verdicts stand at which value")
-    words.add_argument("--full", action="store_true", help="put all reports of a long log into page and map, not only "
-                                                           "those that a screen shows")
+    words.add_argument("--area", metavar="AREA",
+                       help="audit only vessels that were in a box, --area=SOUTH,WEST,NORTH,EAST in degrees, or in the "
+                            "polygons of a GeoJSON file")
+    words.add_argument("--all", action="store_true",
+                       help="audit pairs of vessels that both lie still all the time, too")
+    words.add_argument("--sweep", metavar="KEY=FIRST..LAST:STEP",
+                       help="audit with each of these values of a number of the scenario, too, as ta=60..360:60, and "
+                            "show which verdicts stand at which value")
+    words.add_argument("--full", action="store_true",
+                       help="put all reports of a long log into page and map, not only those that a screen shows")
     words.add_argument("--jobs", type=at_least(1, 64), default=min(4, os.cpu_count() or 1), metavar="N",
-                       help="how many runs of the program at a time, if one does not take all pairs (default: "
-                            "%(default)s)")
+                       help="how many runs of the program at a time, if one does not take all pairs "
+                            "(default: %(default)s)")
     add_reading(words)
-    words.add_argument("--without-times", action="store_true", help="take a log in which no line has a time, with one "
-                                                                    "report of each vessel")
+    words.add_argument("--without-times", action="store_true",
+                       help="take a log in which no line has a time, with one report of each vessel")
     words.add_argument("--chart", metavar="FILE.geojson", help="a coast for the map of the page")
     words.add_argument("--title", help="the title of the page")
     return words
@@ -71,6 +70,4 @@ def main(arguments: Sequence[str] | None = None) -> int:
     return DONE
 
 
-def command() -> NoReturn:
-    """Runs the command and leaves with its status."""
-    end("case", main)
+command = functools.partial(end, "case", main)       # runs the command, and leaves with its status

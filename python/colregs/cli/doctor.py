@@ -5,8 +5,8 @@ Each finding is one line, which begins with its name; docs/SOURCES.md describes 
 Exit status: 0 if it finds nothing, 1 if it finds something, 2 if the files cannot be examined.
 """
 import argparse
+import functools
 from collections.abc import Sequence
-from typing import NoReturn
 
 from colregs.cli.arguments import add_program, add_window, parser_of
 from colregs.errors import DONE, FAILED, USAGE, end
@@ -35,6 +35,4 @@ def main(arguments: Sequence[str] | None = None) -> int:
     return FAILED if found_ones else DONE
 
 
-def command() -> NoReturn:
-    """Runs the command and leaves with its status."""
-    end("doctor", main, USAGE)
+command = functools.partial(end, "doctor", main, USAGE)       # runs the command, and leaves with its status

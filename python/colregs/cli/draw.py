@@ -19,12 +19,12 @@ of the time, in UTC (22:13:20, 2023-11-14T22:13:20Z or 1700000000).
 Exit status: 0 if the pictures are written, 1 if they are not, 2 if the command line is wrong.
 """
 import argparse
+import functools
 import os
 from collections.abc import Sequence
-from typing import NoReturn
 
 from colregs.case.folder import reports_in
-from colregs.cli.arguments import add_program, add_window, parser_of
+from colregs.cli.arguments import add_program, add_window, parser_of, reports_on_log
 from colregs.errors import DONE, end
 from colregs.io.files import read_text
 from colregs.model.reports import Case
@@ -32,7 +32,6 @@ from colregs.model.rules import moment
 from colregs.page.planned import Planned, planned
 from colregs.page.times import times
 from colregs.page.tracks import tracks
-from colregs.run.program import found, report_of, window_options
 
 
 def parser() -> argparse.ArgumentParser:
@@ -71,9 +70,8 @@ def reports_of(given: argparse.Namespace, mode: str) -> tuple[str, str, str]:
         return reports_in(given.scenario)
     if not given.log:
         return given.scenario, read_text(given.points), read_text(given.audit or given.plan)
-    program, options = found(given.program), window_options(given.start, given.ticks)
-    points = report_of(program, "points", given.scenario, given.log, options=options)
-    return given.scenario, points, report_of(program, mode, given.scenario, given.log, (0, 1), options)
+    points, report = reports_on_log(given, "points", mode)
+    return given.scenario, points, report
 
 
 def narrow(case: Case, given: argparse.Namespace) -> None:
@@ -106,6 +104,4 @@ def main(arguments: Sequence[str] | None = None) -> int:
     return DONE
 
 
-def command() -> NoReturn:
-    """Runs the command and leaves with its status."""
-    end("draw", main)
+command = functools.partial(end, "draw", main)       # runs the command, and leaves with its status

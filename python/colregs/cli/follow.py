@@ -9,11 +9,11 @@ the whole.
 Exit status: 0 if the stream ended, or a signal arrived; 1 if something failed; 2 if the command line is wrong.
 """
 import argparse
+import functools
 import os
 import signal
 import threading
 from collections.abc import Sequence
-from typing import NoReturn
 
 from colregs.cli.arguments import add_program, parser_of
 from colregs.errors import Fault, end
@@ -33,25 +33,29 @@ def modes(word: str) -> list[str]:
     return names
 
 
+def add_source(words: argparse.ArgumentParser, at_end: str) -> None:
+    """Adds where a stream comes from, as colregs-pilot takes it too; `at_end` says what happens at its end."""
+    words.add_argument("--log", metavar="FILE", help="a file that grows, instead of standard input")
+    words.add_argument("--command", metavar="COMMAND",
+                       help="a command whose output is the stream; it is started again if it ends")
+    words.add_argument("--now", action="store_true", help="give bare sentences the time at which they arrive")
+    words.add_argument("--whole", action="store_true", help=f"the stream ends for good: {at_end}")
+
+
 def add_stream(words: argparse.ArgumentParser) -> None:
     """Adds what colregs-live takes too: the scenario, the stream and its windows."""
     words.add_argument("scenario", metavar="SCENARIO")
     words.add_argument("--days", metavar="DIR", required=True, help="the folder of the day files")
-    words.add_argument("--log", metavar="FILE", help="a file that grows, instead of standard input")
-    words.add_argument("--command", metavar="COMMAND", help="a command whose output is the stream; it is started again "
-                                                            "if it ends")
-    words.add_argument("--now", action="store_true", help="give bare sentences the time at which they arrive")
-    words.add_argument("--ticks-each", dest="every", type=int, default=360, metavar="N", help="from a window's start "
-                       "to the next one's (default: 360)")
-    words.add_argument("--overlap", type=int, default=3600, metavar="SECONDS", help="how far a window runs on into the "
-                                                                                    "next (default: 3600)")
+    add_source(words, "write its last rows too, and do not wait for a file to grow")
+    words.add_argument("--ticks-each", dest="every", type=int, default=360, metavar="N",
+                       help="from a window's start to the next one's (default: 360)")
+    words.add_argument("--overlap", type=int, default=3600, metavar="SECONDS",
+                       help="how far a window runs on into the next (default: 3600)")
     words.add_argument("--clock", choices=("greatest", "median"), default="greatest",
                        help="the stream's clock is the greatest time so far (the default), or that of most stations, "
                             "which then restamps lines of those ahead")
-    words.add_argument("--group", type=int, default=32, metavar="N", help="subjects of a run at most if a window is "
-                                                                          "split (default: 32)")
-    words.add_argument("--whole", action="store_true", help="the stream ends for good: write its last rows too, and do "
-                                                            "not wait for a file to grow")
+    words.add_argument("--group", type=int, default=32, metavar="N",
+                       help="subjects of a run at most if a window is split (default: 32)")
     add_program(words)
 
 
@@ -81,14 +85,15 @@ def check_windows(given: argparse.Namespace, scenario: Scenario) -> None:
                     f"the overlap is {least} ticks or more, and both together at most {MOST_TICKS}")
 
 
-def source_of(given: argparse.Namespace) -> sources.Source:
-    """Returns where the stream comes from."""
+def source_of(given: argparse.Namespace, state: str) -> sources.Source:
+    """Returns where the stream comes from; the file `state` says after a restart how far a log was read."""
     if given.log and given.command:
         raise Fault("a stream is a file or a command, and not both")
+    ends = given.whole or getattr(given, "replay", False)
     if given.log:
-        return sources.File(given.log, os.path.join(given.days, "source.json"), given.whole)
+        return sources.File(given.log, state, ends)
     if given.command:
-        return sources.Command(given.command, given.whole)
+        return sources.Command(given.command, ends)
     return sources.Standard()
 
 
@@ -110,7 +115,7 @@ def main(arguments: Sequence[str] | None = None) -> int:
     if given.stretches and "watch" not in given.modes:
         raise Fault("--stretches joins the alarms of `watch`: give --modes watch, or --modes audit,watch")
     check_windows(given, scenario)
-    source, sink = source_of(given), sink_of(given)
+    source, sink = source_of(given, os.path.join(given.days, sources.STATE)), sink_of(given)
     stretches = StretchSink(sink, scenario, given.days, given.at_rest, given.patience) if given.stretches else None
     with Follow(given, scenario, found(given.program), stretches or sink, stretches) as follow:
         for number in (signal.SIGTERM, signal.SIGINT):
@@ -118,6 +123,4 @@ def main(arguments: Sequence[str] | None = None) -> int:
         return follow.run(source, stop)
 
 
-def command() -> NoReturn:
-    """Runs the command and leaves with its status."""
-    end("follow", main)
+command = functools.partial(end, "follow", main)       # runs the command, and leaves with its status

@@ -14,18 +14,17 @@ are those of the log, in degrees of latitude and longitude. If a log crosses the
 Exit status: 0 if all is written, 1 if it is not, 2 if the command line is wrong.
 """
 import argparse
+import functools
 import os
 import sys
 from collections.abc import Sequence
-from typing import NoReturn
 
 from colregs.case.folder import reports_in
-from colregs.cli.arguments import add_program, add_window, parser_of
+from colregs.cli.arguments import add_program, add_window, parser_of, reports_on_log
 from colregs.errors import DONE, end
 from colregs.io.files import read_text
 from colregs.model.reports import Case
 from colregs.page.maps import geojson
-from colregs.run.program import found, report_of, window_options
 
 
 def parser() -> argparse.ArgumentParser:
@@ -43,11 +42,7 @@ def case_of(given: argparse.Namespace) -> Case:
     """Returns the case of a folder, of a run, or of reports."""
     if os.path.isdir(given.scenario):
         return Case(*reports_in(given.scenario))
-    if given.log:
-        program, options = found(given.program), window_options(given.start, given.ticks)
-        texts = [report_of(program, mode, given.scenario, given.log, options=options) for mode in ("points", "audit")]
-    else:
-        texts = [read_text(name) for name in given.reports]
+    texts = reports_on_log(given, "points", "audit") if given.log else [read_text(name) for name in given.reports]
     return Case(given.scenario, texts[0], texts[1] if len(texts) > 1 else None, given.start, given.ticks)
 
 
@@ -61,6 +56,4 @@ def main(arguments: Sequence[str] | None = None) -> int:
     return DONE
 
 
-def command() -> NoReturn:
-    """Runs the command and leaves with its status."""
-    end("geojson", main)
+command = functools.partial(end, "geojson", main)       # runs the command, and leaves with its status

@@ -10,13 +10,13 @@ Exit status: 0 if a signal ended it; 1 if something failed; 2 if the command lin
 """
 import argparse
 import asyncio
+import functools
 import importlib.util
 import os
 import signal
 import subprocess
 import sys
 from collections.abc import Sequence
-from typing import NoReturn
 
 from colregs.cli.arguments import at_least, parser_of
 from colregs.cli.follow import add_stream, check_windows, source_of
@@ -24,7 +24,7 @@ from colregs.errors import DONE, FAILED, Fault, end, report
 from colregs.model.rules import RULES
 from colregs.model.scenario import Scenario
 from colregs.run.program import found
-from colregs.stream.sources import Source
+from colregs.stream.sources import STATE, Source
 
 DEBIAN = "/usr/bin/python3"         # the Python for which Debian's python3-aiohttp is
 FASTEST = 1000
@@ -46,22 +46,23 @@ def parser() -> argparse.ArgumentParser:
     words = parser_of(__doc__, "live")
     add_stream(words)
     words.add_argument("--speed", type=speed, metavar="N", help="replay a --log as its times ask, N times as fast")
-    words.add_argument("--listen", default="127.0.0.1:8080", metavar="HOST:PORT", help="where the page is (default: "
-                                                                                       "127.0.0.1:8080)")
+    words.add_argument("--listen", default="127.0.0.1:8080", metavar="HOST:PORT",
+                       help="where the page is (default: 127.0.0.1:8080)")
     words.add_argument("--socket", metavar="FILE", help="listen on a Unix socket, for a proxy, instead of a port")
-    words.add_argument("--token-file", metavar="FILE", help="a file with a token that browsers and programs need; "
-                                                            "other machines can reach the page only with it")
-    words.add_argument("--origin", action="append", default=[], metavar="URL", help="the origin of the page behind a "
-                       "proxy, as https://live.example.org; may be repeated")
+    words.add_argument("--token-file", metavar="FILE",
+                       help="a file with a token that browsers and programs need; other machines can reach the page "
+                            "only with it")
+    words.add_argument("--origin", action="append", default=[], metavar="URL",
+                       help="the origin of the page behind a proxy, as https://live.example.org; may be repeated")
     words.add_argument("--chart", metavar="FILE.geojson", help="a coast for the map")
-    words.add_argument("--tiles", metavar="URL", help="the address of map tiles, with {z}, {x} and {y}; without it the "
-                                                      "page asks no other address")
+    words.add_argument("--tiles", metavar="URL",
+                       help="the address of map tiles, with {z}, {x} and {y}; without it the page asks no other "
+                            "address")
     words.add_argument("--title", default="", help="the title of the page")
-    words.add_argument("--browsers", type=at_least(1, 10000), default=100, metavar="N", help="browsers at a time at "
-                                                                                             "most (default: 100)")
-    words.add_argument("--quiet-after", type=at_least(1), default=120, metavar="SECONDS", help="/healthz is red if no "
-                                                                                               "line came for so long "
-                                                                                               "(default: 120)")
+    words.add_argument("--browsers", type=at_least(1, 10000), default=100, metavar="N",
+                       help="browsers at a time at most (default: 100)")
+    words.add_argument("--quiet-after", type=at_least(1), default=120, metavar="SECONDS",
+                       help="/healthz is red if no line came for so long (default: 120)")
     words.set_defaults(modes=["audit", "watch"])
     return words
 
@@ -85,7 +86,7 @@ def stream_of(given: argparse.Namespace) -> Source:
     from colregs.live.follower import Paced
     if given.speed and not given.log:
         raise Fault("--speed replays a log: give --log FILE")
-    source = source_of(given)
+    source = source_of(given, os.path.join(given.days, STATE))
     return Paced(source, given.speed) if given.speed else source
 
 
@@ -139,6 +140,4 @@ def main(arguments: Sequence[str] | None = None) -> int:
     return asyncio.run(serve(given, scenario, found(given.program), stream_of(given)))
 
 
-def command() -> NoReturn:
-    """Runs the command and leaves with its status."""
-    end("live", main)
+command = functools.partial(end, "live", main)       # runs the command, and leaves with its status

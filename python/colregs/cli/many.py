@@ -15,13 +15,13 @@ both lie still. It refuses shares that are missing or do not cover. docs/TRAFFIC
 Exit status: 0 if all is done, 1 if something failed, 2 if the command line is wrong.
 """
 import argparse
+import functools
 import json
 import os
 import re
 import signal
 import sys
 from collections.abc import Callable, Sequence
-from typing import NoReturn
 
 from colregs.cli.arguments import add_program, at_least, parser_of
 from colregs.errors import DONE, FAILED, Fault, end, report
@@ -74,8 +74,8 @@ def run_elsewhere(given: argparse.Namespace, jobs: list[Job], kept: Kept,
     elif numbers:
         engines.by_parallel(commands.lines(numbers), os.path.join(kept.folder, "joblog"), given.jobs, given.hosts)
     left = engines.without_result(jobs, kept)
-    return len(numbers) - len(left), (faults + [f"job {number} has no result"
-                                                for number in left])[:max(len(left), len(faults))]
+    lacking = [f"job {number} has no result" for number in left]
+    return len(numbers) - len(left), (faults + lacking)[:max(len(left), len(faults))]
 
 
 def run_one(given: argparse.Namespace) -> int:
@@ -133,8 +133,7 @@ def tell(summary: join.Summary, folder: str) -> None:
     if summary.marked:
         marks = ", ".join(f"{rows} `{mark}`" for mark, rows in sorted(summary.marked.items()))
         report("many", f"{sum(summary.marked.values())} of {summary.rows} rows are marked ({marks}), of those of "
-                       "vessels under way"
-               f" {summary.marked_under_way} of {summary.under_way}")
+                       f"vessels under way {summary.marked_under_way} of {summary.under_way}")
     if summary.doubts:
         report("many", f"{count(len(summary.doubts), 'doubt')}: {os.path.join(folder, 'doubts.csv')} says where rows "
                        "may be wrong or missing, and why")
@@ -155,19 +154,19 @@ def add_plan(words: argparse.ArgumentParser) -> None:
     """Adds the arguments of `plan`."""
     words.add_argument("scenario", metavar="SCENARIO")
     words.add_argument("files", nargs="+", metavar="FILE", help="a log with tag blocks, packed or not")
-    words.add_argument("--start", type=at_least(0), metavar="SECONDS", help="of the first window, instead of the "
-                                                                            "scenario's")
-    words.add_argument("--ticks", type=at_least(1), metavar="N", help="of all windows together (default: up to the "
-                                                                      "files' last time)")
+    words.add_argument("--start", type=at_least(0), metavar="SECONDS",
+                       help="of the first window, instead of the scenario's")
+    words.add_argument("--ticks", type=at_least(1), metavar="N",
+                       help="of all windows together (default: up to the files' last time)")
     words.add_argument("--ticks-each", dest="every", type=at_least(1, 20000), metavar="N",
                        help="from a window's start to the next one's (default: 10000, half of what a run takes)")
     words.add_argument("--overlap", type=at_least(0, 1200000), metavar="SECONDS",
                        help="how far a window runs on into the next (default: as long as --ticks-each)")
-    words.add_argument("--group", type=at_least(1, 64), metavar="N", help="subjects of a share at most (default: all "
-                                                                          "pairs are in one)")
+    words.add_argument("--group", type=at_least(1, 64), metavar="N",
+                       help="subjects of a share at most (default: all pairs are in one)")
     words.add_argument("--tiles", type=tiles, metavar="CxR", help="columns and rows, as 4x3")
-    words.add_argument("--index", metavar="DIR", help="store what is read of the files here, so that the next plan "
-                                                      "reads only those that changed")
+    words.add_argument("--index", metavar="DIR",
+                       help="store what is read of the files here, so that the next plan reads only those that changed")
     add_program(words)
 
 
@@ -181,18 +180,17 @@ def add_jobs(words: argparse.ArgumentParser, kind: str) -> None:
                            help="runs at a time (default: one per processor)")
         words.add_argument("--parallel", action="store_true", help="run the jobs by GNU parallel")
         words.add_argument("--hosts", help="with --parallel: where to log in by ssh, as host1,host2")
-        words.add_argument("--dask", metavar="ADDRESS", help="run the jobs on the workers of this Dask scheduler, as "
-                                                             "tcp://host:8786")
+        words.add_argument("--dask", metavar="ADDRESS",
+                           help="run the jobs on the workers of this Dask scheduler, as tcp://host:8786")
     elif kind == "one":
         words.add_argument("number", type=at_least(1), metavar="NUMBER", help="the number of a job, from 1 on")
     elif kind == "slurm":
-        words.add_argument("--memory", type=at_least(1), metavar="MB", help="of each job (default: twice what the "
-                                                                            "largest so far needed; 512 before any "
-                                                                            "ran)")
-        words.add_argument("--minutes", type=at_least(1), metavar="N", help="of each job (default: ten and four times "
-                                                                            "the longest so far; 240 before any ran)")
-        words.add_argument("--tasks", type=at_least(1), metavar="N", help="of an array at most (default: one less than "
-                                                                          "the cluster's MaxArraySize)")
+        words.add_argument("--memory", type=at_least(1), metavar="MB",
+                           help="of each job (default: twice what the largest so far needed; 512 before any ran)")
+        words.add_argument("--minutes", type=at_least(1), metavar="N",
+                           help="of each job (default: ten and four times the longest so far; 240 before any ran)")
+        words.add_argument("--tasks", type=at_least(1), metavar="N",
+                           help="of an array at most (default: one less than the cluster's MaxArraySize)")
 
 
 def parser() -> argparse.ArgumentParser:
@@ -222,6 +220,4 @@ def main(arguments: Sequence[str] | None = None) -> int:
     return WORK[given.kind](given)
 
 
-def command() -> NoReturn:
-    """Runs the command and leaves with its status."""
-    end("many", main)
+command = functools.partial(end, "many", main)       # runs the command, and leaves with its status

@@ -7,14 +7,16 @@ refuses the scenario, the lines continue and say so. docs/BUILDER.md describes t
 Exit status: 0 if the stream ended, or a signal arrived; 1 if something failed; 2 if the command line is wrong.
 """
 import argparse
+import functools
 import os
 import signal
 import sys
 import threading
 from collections.abc import Callable, Sequence
-from typing import NoReturn, TextIO
+from typing import TextIO
 
 from colregs.cli.arguments import add_program, at_least, parser_of
+from colregs.cli.follow import add_source, source_of
 from colregs.errors import Fault, end, reason
 from colregs.pilot.areas import Barrier, read_areas
 from colregs.pilot.lines import Moment, line_of
@@ -25,7 +27,6 @@ from colregs.pilot.planner import Planner
 from colregs.pilot.route import FASTEST, OneTrack, Wanted, read_route, track_of_words
 from colregs.pilot.runner import runner_of
 from colregs.pilot.scenario import PilotScenario
-from colregs.stream import sources
 
 
 def offsets(word: str) -> tuple[list[int], list[int] | None]:
@@ -59,11 +60,7 @@ def parser() -> argparse.ArgumentParser:
     words.add_argument("--speed", type=knots, metavar="KNOTS", help="the speed on a route whose file has none")
     words.add_argument("--every", type=at_least(1, 3600), default=30, metavar="SECONDS",
                        help="from one line to the next (default: 30)")
-    words.add_argument("--log", metavar="FILE", help="a file that grows, instead of standard input")
-    words.add_argument("--command", metavar="COMMAND",
-                       help="a command whose output is the stream; it is started again if it ends")
-    words.add_argument("--now", action="store_true", help="give bare sentences the time at which they arrive")
-    words.add_argument("--whole", action="store_true", help="the stream ends for good: end with it")
+    add_source(words, "end with it")
     words.add_argument("--replay", action="store_true",
                        help="take the time from the log alone, write a line for each --every of it, and end with it")
     words.add_argument("--history", type=at_least(60, 86400), default=3600, metavar="SECONDS",
@@ -78,18 +75,6 @@ def parser() -> argparse.ArgumentParser:
     words.add_argument("--no-recheck", dest="recheck", action="store_false", help="do not confirm why every plan fails")
     add_program(words)
     return words
-
-
-def source_of(given: argparse.Namespace) -> sources.Source:
-    """Returns where the stream comes from."""
-    if given.log and given.command:
-        raise Fault("a stream is a file or a command, and not both")
-    ends = given.whole or given.replay
-    if given.log:
-        return sources.File(given.log, os.devnull, ends)
-    if given.command:
-        return sources.Command(given.command, ends)
-    return sources.Standard()
 
 
 def scenario_of(given: argparse.Namespace) -> PilotScenario:
@@ -129,7 +114,7 @@ def main(arguments: Sequence[str] | None = None) -> int:
     given = parser().parse_args(arguments)
     scenario, stop = scenario_of(given), threading.Event()
     barrier = Barrier(scenario, read_areas(given.no_go, scenario)) if given.no_go else None
-    runner, wanted, source = runner_of(given.program), wanted_of(given, scenario), source_of(given)
+    runner, wanted, source = runner_of(given.program), wanted_of(given, scenario), source_of(given, os.devnull)
     try:
         out = open(given.out, "a", encoding="utf-8") if given.out else None
     except OSError as error:
@@ -148,10 +133,4 @@ def main(arguments: Sequence[str] | None = None) -> int:
     return 0
 
 
-def command() -> NoReturn:
-    """Runs the command."""
-    end("pilot", main)
-
-
-if __name__ == "__main__":
-    command()
+command = functools.partial(end, "pilot", main)       # runs the command, and leaves with its status

@@ -7,11 +7,11 @@ Without LOG it reads standard input.
 Exit status: 0 if the scenario is written, 1 if it is not, 2 if the command line is wrong.
 """
 import argparse
+import functools
 import shutil
 import sys
 import tempfile
 from collections.abc import Sequence
-from typing import NoReturn
 
 from colregs.cli.arguments import add_program, parser_of
 from colregs.errors import DONE, end, report
@@ -41,6 +41,4 @@ def main(arguments: Sequence[str] | None = None) -> int:
     return DONE
 
 
-def command() -> NoReturn:
-    """Runs the command and leaves with its status."""
-    end("scenario", main)
+command = functools.partial(end, "scenario", main)       # runs the command, and leaves with its status

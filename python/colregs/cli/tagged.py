@@ -10,13 +10,13 @@ Exit status: 0 if sentences with times are written, 1 if no sentence is found or
 line is wrong.
 """
 import argparse
+import functools
 import os
 import shutil
 import sys
 import tempfile
 import time
 from collections.abc import Sequence
-from typing import NoReturn
 
 from colregs.cli.arguments import add_reading, parser_of, reading_of
 from colregs.errors import DONE, FAILED, end, report
@@ -70,6 +70,4 @@ def main(arguments: Sequence[str] | None = None) -> int:
         return gather_once(given, folder)
 
 
-def command() -> NoReturn:
-    """Runs the command and leaves with its status."""
-    end("tagged", main)
+command = functools.partial(end, "tagged", main)       # runs the command, and leaves with its status

@@ -7,12 +7,12 @@ figures and how to tune a scenario by them.
 Exit status: 0 if all runs were made; 1 if something failed; 2 if the command line is wrong.
 """
 import argparse
+import functools
 import json
 import os
 import sys
 from collections.abc import Sequence
 from dataclasses import replace
-from typing import NoReturn
 
 from colregs.cli.arguments import add_program, at_least, parser_of
 from colregs.errors import Fault, end, report
@@ -189,10 +189,4 @@ def main(arguments: Sequence[str] | None = None) -> int:
     return 1 if faults else 0
 
 
-def command() -> NoReturn:
-    """Runs the command."""
-    end("trials", main)
-
-
-if __name__ == "__main__":
-    command()
+command = functools.partial(end, "trials", main)       # runs the command, and leaves with its status

@@ -4,16 +4,11 @@ import struct
 from collections.abc import Iterator
 from typing import IO
 
-from colregs.errors import Fault
-
-PCAP = {
-    b"\xd4\xc3\xb2\xa1": ("<", 10**6), b"\xa1\xb2\xc3\xd4": (">", 10**6), b"\x4d\x3c\xb2\xa1": ("<", 10**9),
-    b"\xa1\xb2\x3c\x4d": (">", 10**9)
-}
+PCAP = {b"\xd4\xc3\xb2\xa1": "<", b"\xa1\xb2\xc3\xd4": ">", b"\x4d\x3c\xb2\xa1": "<", b"\xa1\xb2\x3c\x4d": ">"}
 PCAPNG = b"\x0a\x0d\x0d\x0a"
-# blocks of pcapng, and an option of an interface
-SECTION, INTERFACE, ENHANCED, RESOLUTION = 0x0A0D0D0A, 1, 6, 9
-LITTLE, BIG = b"\x4d\x3c\x2b\x1a", b"\x1a\x2b\x3c\x4d"
+MAGIC = (*PCAP, PCAPNG)
+INTERFACE, ENHANCED, RESOLUTION = 1, 6, 9       # blocks of pcapng, and an option of an interface
+BIG = b"\x1a\x2b\x3c\x4d"                       # how a section begins whose numbers have their high byte first
 ETHERNET, NULL, RAW, COOKED, COOKED_2 = 1, 0, (12, 14, 101, 228, 229), 113, 276     # link types
 IPV4, IPV6, VLAN, UDP = 0x0800, 0x86DD, (0x8100, 0x88A8), 17
 # bytes of a packet or of a block: more is damage
@@ -21,18 +16,13 @@ LARGEST = 1 << 26
 Packet = tuple[int, int, bytes]                                         # seconds, link type, and bytes
 
 
-def packets(source: IO[bytes], name: str) -> Iterator[Packet]:
-    """Yields the packets of a capture; after the last whole packet of one that is cut off, raises EOFError."""
+def packets(source: IO[bytes]) -> Iterator[Packet]:
+    """Returns the packets of a capture; after the last whole packet of one that is cut off, it raises EOFError."""
     magic = source.read(4)
-    if magic in PCAP:
-        yield from pcap(source, *PCAP[magic])
-    elif magic == PCAPNG:
-        yield from pcapng(source)
-    else:
-        raise Fault(f"{name} is no capture of a network")
+    return pcapng(source) if magic == PCAPNG else pcap(source, PCAP[magic])
 
 
-def pcap(source: IO[bytes], order: str, parts: int) -> Iterator[Packet]:
+def pcap(source: IO[bytes], order: str) -> Iterator[Packet]:
     """Yields the packets of a pcap whose magic was read."""
     link = struct.unpack(order + "I", whole(source, 20)[16:20])[0] & 0xFFFF
     while head := source.read(16):
@@ -109,10 +99,10 @@ def payload(link: int, data: bytes) -> bytes:
     return rest[8:int.from_bytes(rest[4:6], "big")] if len(rest) > 8 else b""
 
 
-def lines(source: IO[bytes], name: str) -> Iterator[bytes]:
+def lines(source: IO[bytes]) -> Iterator[bytes]:
     """Yields each line of the UDP payloads, with the capture's time in seconds before it unless it has a tag block, and
     a line feed."""
-    for seconds, link, data in packets(source, name):
+    for seconds, link, data in packets(source):
         for line in payload(link, data).splitlines():
             if line.strip(b" \0"):
                 yield (line if line.startswith(b"\\") else b"%d %s" % (seconds, line)) + b"\n"

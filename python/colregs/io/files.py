@@ -45,18 +45,25 @@ def sum_of(path: str) -> tuple[str, int]:
 
 def replace(path: str, words: bytes) -> None:
     """Writes a file with these bytes, all of them or none, also if the power fails: they are on the disk before they
-    have the name."""
+    have the name. A device or a pipe stays what it is, and gets the bytes."""
+    if os.path.exists(path) and not os.path.isfile(path):
+        with open(path, "wb") as device:
+            device.write(words)
+        return
     folder = os.path.dirname(os.path.abspath(path))
-    with tempfile.NamedTemporaryFile(dir=folder, delete=False) as out:
-        try:
-            out.write(words)
-            out.flush()
-            os.fsync(out.fileno())
-            os.fchmod(out.fileno(), 0o666 & ~MASK)
-            os.replace(out.name, path)
-        except OSError:
-            os.unlink(out.name)
-            raise
+    try:
+        with tempfile.NamedTemporaryFile(dir=folder, delete=False) as out:
+            try:
+                out.write(words)
+                out.flush()
+                os.fsync(out.fileno())
+                os.fchmod(out.fileno(), 0o666 & ~MASK)
+                os.replace(out.name, path)
+            except OSError:
+                os.unlink(out.name)
+                raise
+    except OSError as error:
+        raise OSError(error.errno, error.strerror, path) from None
     sync_folder(folder)
 
 

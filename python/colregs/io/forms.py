@@ -120,9 +120,14 @@ def hour_of(parts: dict[str, str]) -> int:
     return hour % 12 + (12 if parts["half"] in "Pp" else 0)
 
 
+def parts_of(found: re.Match[bytes]) -> dict[str, str]:
+    """Returns the parts of a time that a match has, by their names."""
+    return {key: value.decode() for key, value in found.groupdict().items() if value is not None}
+
+
 def moment(name: str, found: re.Match[bytes], offset: int) -> tuple[int, str]:
     """Returns the time of a match, and the name of its form."""
-    parts = {key: value.decode() for key, value in found.groupdict().items() if value is not None}
+    parts = parts_of(found)
     if "count" in parts:
         return int(parts["count"]) // PER_SECOND[name], name
     zone = parts.get("zone")
@@ -169,28 +174,22 @@ class Times:
         date was given."""
         if self.date is None or self.rollover is None or any(pattern.search(text) for _, pattern in UNSURE_DATES):
             return None
-        name, pattern = WITHOUT_YEAR
-        found = pattern.search(text)
-        if found:
-            return self.of_year({key: value.decode() for key, value in found.groupdict().items()}, self.date.year), name
-        for name, pattern in OF_DAY:
+        for name, pattern in (WITHOUT_YEAR, *OF_DAY):
             found = pattern.search(text)
             if found:
-                return self.of_day(
-                    {key: value.decode()
-                     for key, value in found.groupdict().items()
-                     if value is not None}, self.rollover), name
+                parts = parts_of(found)
+                of_year = "month" in parts
+                return self.of_year(parts, self.date.year) if of_year else self.of_day(parts, self.rollover), name
         return None
 
     def of_year(self, parts: dict[str, str], year: int) -> int:
         """Returns the time of a date without a year: in the year that puts it nearest to the one before, if there is
         one."""
         month = MONTHS[parts["month"][:3].lower()]
-        rest = [int(parts[key]) for key in ("day", "hour", "minute", "second")]
-        at = seconds_of(year, month, rest[0], rest[1], rest[2], rest[3], self.offset)
-        while self.dated is not None and at < self.dated - HALF_YEAR:
-            year += 1
-            at = seconds_of(year, month, rest[0], rest[1], rest[2], rest[3], self.offset)
+        day, hour, minute, second = (int(parts[key]) for key in ("day", "hour", "minute", "second"))
+        at = seconds_of(year, month, day, hour, minute, second, self.offset)
+        if self.dated is not None and at < self.dated - HALF_YEAR:
+            return self.of_year(parts, year + 1)
         self.dated = at
         return at
 

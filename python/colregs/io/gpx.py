@@ -12,7 +12,6 @@ TAG = re.compile(
     rb"\s*<(?:\?xml|gpx|/?trk|/?trkseg|trkpt|/trkpt|/gpx|metadata|ele|time|speed|course|name|bounds"
     rb"|/metadata|extensions|/extensions)\b"
 )
-KNOTS = 3600 / 1852             # of a metre a second
 
 
 class Gpx:
@@ -50,6 +49,4 @@ class Gpx:
             return None
         if time is None or latitude is None or longitude is None:
             return None
-        return time[0], (units.latitude(latitude), units.longitude(longitude),
-                         units.speed(speed if speed is None else speed * KNOTS), units.course(course),
-                         units.heading(None), time[0] % 60)
+        return time[0], units.report(latitude, longitude, units.in_knots(speed), course, None, second=time[0] % 60)

@@ -8,6 +8,7 @@ import json
 import math
 import re
 from collections.abc import Sequence
+from dataclasses import dataclass
 from typing import Any
 
 from colregs.io import units
@@ -17,18 +18,22 @@ from colregs.io.tables import RowFault, Table
 
 TIMES = ("rxuxtime", "rxtime", "timestamp", "@timestamp", "time", "received_at", "receivedAt", "datetime", "toa", "ts")
 AISSTREAM_PLACES = ("PositionReport", "StandardClassBPositionReport", "ExtendedClassBPositionReport")
-KNOTS = 3600 / 1852
+FASTEST = 102.2         # knots, for which gpsd has the word `fast`: the greatest speed of a message
 FIX = "gpsd's TPV"
 HELD = re.compile(r"![A-Z0-9]{2}VD[MO],")
 
 
+@dataclass(frozen=True)
 class Held:
     """What an object holds: a time or nothing, sentences as they are, or sentences made; or the name of what it is
     if it holds neither."""
 
-    def __init__(self, form: str, time: int | None = None, raw: Sequence[bytes] = (), made: Sequence[bytes] = (),
-                 fix: Report | None = None, aside: bool = False) -> None:
-        self.form, self.time, self.raw, self.made, self.fix, self.aside = form, time, raw, made, fix, aside
+    form: str
+    time: int | None = None
+    raw: Sequence[bytes] = ()
+    made: Sequence[bytes] = ()
+    fix: Report | None = None
+    aside: bool = False
 
 
 def value_of(line: bytes) -> Any:
@@ -121,19 +126,16 @@ class Objects:
         told, time = held["Message"][kind], self.times.read(str(about["time_utc"]).encode())
         mmsi, made = int(told.get("UserID", about["MMSI"])), list[bytes]()
         if kind in AISSTREAM_PLACES:
-            report = (units.latitude(told["Latitude"]),
-                      units.longitude(told["Longitude"]), units.speed(told.get("Sog")), units.course(told.get("Cog")),
-                      units.heading(told.get("TrueHeading")), int(told.get("Timestamp", 60)) & 63)
+            report = units.report(told["Latitude"], told["Longitude"], told.get("Sog"), told.get("Cog"),
+                                  told.get("TrueHeading"), second=int(told.get("Timestamp", 60)) & 63)
             made += self.ship.static(mmsi, str(about.get("ShipName", "")).strip(), 0, (0, 0, 0, 0))
-            made.append(
-                self.ship.position(mmsi, report, kind != "PositionReport",
-                                   units.status(told.get("NavigationalStatus", 15))))
+            made.append(self.ship.position(mmsi, report, kind != "PositionReport",
+                                           units.status(told.get("NavigationalStatus", 15))))
         elif kind in ("ShipStaticData", "StaticDataReport"):
             for part in (told, told.get("ReportA") or {}, told.get("ReportB") or {}):
                 size = part.get("Dimension") or {}
                 hull = units.hull([units.number(size.get(side)) for side in "ABCD"], None, None)
-                made += self.ship.static(mmsi,
-                                         str(part.get("Name", "")).strip(),
+                made += self.ship.static(mmsi, str(part.get("Name", "")).strip(),
                                          units.kind(part.get("Type", part.get("ShipType", ""))), hull,
                                          str(part.get("CallSign", "")).strip())
         if not made or time is None:
@@ -144,9 +146,8 @@ class Objects:
         """Returns own ship's time and place from gpsd, which has metres per second and degrees."""
         if time is None or held.get("mode", 0) < 2 and "lat" in held:
             return Held("gpsd's TPV without a valid fix", aside=True)
-        track, way = held.get("track"), held.get("speed")
-        report = (units.latitude(held.get("lat")), units.longitude(held.get("lon")),
-                  units.speed(way if way is None else way * KNOTS), units.course(track), units.heading(None), time % 60)
+        report = units.report(held.get("lat"), held.get("lon"), units.in_knots(held.get("speed")), held.get("track"),
+                              None, second=time % 60)
         return Held(FIX, time, fix=report if "lat" in held and "lon" in held else None)
 
     def ais(self, held: dict[str, Any], time: int | None, name: str) -> Held:
@@ -159,22 +160,15 @@ class Objects:
         made += self.ship.static(mmsi, held.get("shipname", ""), units.kind(held.get("shiptype", "")),
                                  units.hull(sides, 0, 0), held.get("callsign", ""))
         if held.get("type") in (1, 2, 3, 18, 19):
-            whole = held.get("scaled", True) is False
-            place, part = (600000, 10) if whole else (1, 1)
-            read = {
-                key: units.number("" if held.get(key) in ("fast", None) else held[key])
-                for key in ("lat", "lon", "speed", "course", "heading")
-            }
-            scaled = {
-                key: value if value is None else value / (place if key in ("lat", "lon") else part)
-                for key, value in read.items()
-            }
-            way = 1022 if held.get("speed") == "fast" else units.speed(scaled["speed"])
-            report = (units.latitude(scaled["lat"]), units.longitude(scaled["lon"]), way,
-                      units.course(scaled["course"]), units.heading(read["heading"]), int(held.get("second", 60)) & 63)
-            made.append(
-                self.ship.position(mmsi, report, held["type"] in (18, 19), units.status(held.get("status", 15)))
-            )
+            place, part = (600000, 10) if held.get("scaled", True) is False else (1, 1)
+            units_of = ("lat", place), ("lon", place), ("speed", part), ("course", part), ("heading", 1)
+            told = {name: value if value is None else value / unit for name, unit in units_of
+                    for value in [units.number(None if held.get(name) == "fast" else held.get(name))]}
+            knots = FASTEST if held.get("speed") == "fast" else told["speed"]
+            report = units.report(told["lat"], told["lon"], knots, told["course"], told["heading"],
+                                  second=int(held.get("second", 60)) & 63)
+            made.append(self.ship.position(mmsi, report, held["type"] in (18, 19),
+                                           units.status(held.get("status", 15))))
         if not made:
             return Held("JSON of gpsd that is no report", aside=True)
         return Held(name + " (sentences made of its values)", time, made=made)
@@ -205,9 +199,8 @@ class Objects:
         if place:
             way, course, heading = (told.get("navigation." + name)
                                     for name in ("speedOverGround", "courseOverGroundTrue", "headingTrue"))
-            report = (units.latitude(place["latitude"]), units.longitude(place["longitude"]),
-                      units.speed(way if way is None else way * KNOTS),
-                      units.course(course if course is None else math.degrees(course)),
-                      units.heading(heading if heading is None else round(math.degrees(heading)) % 360), time % 60)
+            report = units.report(place["latitude"], place["longitude"], units.in_knots(way),
+                                  course if course is None else math.degrees(course),
+                                  heading if heading is None else round(math.degrees(heading)) % 360, second=time % 60)
             made.append(self.ship.position(mmsi, report, told.get("sensors.ais.class") == "B", 15))
         return made

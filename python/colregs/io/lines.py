@@ -5,13 +5,13 @@ import functools
 import re
 from dataclasses import dataclass
 
-from colregs.io.sentences import total
+from colregs.io.sentences import SIX as LETTERS
+from colregs.io.sentences import has_sum, seconds, total
 
 LONGEST = 1024                      # bytes of a line that is read
 JOINED_WITHIN = 30                  # s that a part may come after the first part of its message
 MOST_PARTS = 9
 KNOWN = 1 << 16                     # tag blocks and heads of payloads that are remembered at once
-MILLISECONDS = 10 ** 11             # from here on a stamp is in milliseconds
 FIELD = rb"(?:c:\d{1,15}|(?!c:)[^,*\\]+)"
 TAG_BLOCK = re.compile(rb"\\(" + FIELD + rb"(?:," + FIELD + rb")*)\*([0-9A-Fa-f]{2})\\", re.S)
 TAGS = re.compile(rb"\n(\\[^\\]*\\)")           # what may be the tag block of a line, after the line feed before it,
@@ -20,7 +20,7 @@ TIME = re.compile(rb"(?:^|,)c:(\d+)")
 PLAIN = re.compile(rb"\\c:\d{7}")                # how most tag blocks begin: those of a time alone, in ten digits
 SENTENCE = re.compile(
     rb"!([A-Z0-9]{2}VD[MO],([1-9]),([1-9]),(\d?),([A-Za-z0-9]?),([^,]+),([0-5]))\*([0-9A-Fa-f]{2})(?:[, \t].*)?", re.S)
-SIX = {letter: value for value, letter in enumerate(bytes(range(48, 88)) + bytes(range(96, 120)))}
+SIX = {letter: value for value, letter in enumerate(LETTERS)}
 
 
 def line_of(line: bytes) -> bytes:
@@ -29,16 +29,13 @@ def line_of(line: bytes) -> bytes:
     return line[:-1] if line.endswith(b"\r") else line
 
 
-class Stamps:
-    """Reads the stamps of lines."""
-
-    def of(self, line: bytes) -> int | None:
-        """Returns the stamp of a line, with or without its line feed, in seconds since the Unix epoch; None if it has
-        none."""
-        if line[:1] != b"\\":
-            return None
-        at = stamp_of_block(line[:line.find(b"\\", 1) + 1])
-        return at if len(line) <= LONGEST or len(line_of(line)) <= LONGEST else None
+def stamp_of(line: bytes) -> int | None:
+    """Returns the stamp of a line, with or without its line feed, in seconds since the Unix epoch; None if it has
+    none."""
+    if line[:1] != b"\\":
+        return None
+    at = stamp_of_block(line[:line.find(b"\\", 1) + 1])
+    return at if len(line) <= LONGEST or len(line_of(line)) <= LONGEST else None
 
 
 DIGITS = {b"%03d" % value: (value, total(b"%03d" % value)) for value in range(1000)}
@@ -58,11 +55,8 @@ def stamp_of_block(block: bytes) -> int | None:
     if thousands and last and block[13:] == SUMS[thousands[1] ^ last[1]]:
         return thousands[0] + last[0]
     found = TAG_BLOCK.fullmatch(block)
-    time = TIME.search(found[1]) if found and total(found[1]) == int(found[2], 16) else None
-    if time is None:
-        return None
-    value = int(time[1])
-    return value // 1000 if value >= MILLISECONDS else value
+    time = TIME.search(found[1]) if found and has_sum(found[1], found[2]) else None
+    return seconds(time[1]) if time else None
 
 
 @dataclass(frozen=True, slots=True)
@@ -85,11 +79,11 @@ def sentence_of(line: bytes) -> Sentence | None:
     if line[:1] == b"\\":
         end = line.find(b"\\", 1) + 1
         block = TAG_BLOCK.fullmatch(line[:end])
-        if not block or total(block[1]) != int(block[2], 16):
+        if not block or not has_sum(block[1], block[2]):
             return None
         line = line[end:]
     found = SENTENCE.fullmatch(line)
-    if not found or found[3] > found[2] or total(found[1]) != int(found[8], 16) or not SIX.keys() >= set(found[6]):
+    if not found or found[3] > found[2] or not has_sum(found[1], found[8]) or not SIX.keys() >= set(found[6]):
         return None
     return Sentence(int(found[2]), int(found[3]), (found[4], found[5]), found[6], int(found[7]))
 

@@ -17,6 +17,7 @@ import tempfile
 import zipfile
 import zlib
 from collections.abc import Callable, Iterable, Iterator
+from dataclasses import dataclass
 from typing import IO, Any
 
 from colregs.errors import Fault, reason
@@ -25,18 +26,21 @@ from colregs.io import captures
 LONGEST = 1 << 20          # bytes: a longer line is no sentence and no row
 MAGIC = ((b"\x1f\x8b", "gzip"), (b"\xfd7zXZ\x00", "xz"), (b"\x28\xb5\x2f\xfd", "zstd"), (b"BZh", "bzip2"),
          (b"PK\x03\x04", "zip"))
-CAPTURES = (b"\xd4\xc3\xb2\xa1", b"\xa1\xb2\xc3\xd4", b"\x4d\x3c\xb2\xa1", b"\xa1\xb2\x3c\x4d", b"\x0a\x0d\x0d\x0a")
 CAPTURE = "a capture"
 MARKS = ((b"\xff\xfe", "utf-16-le"), (b"\xfe\xff", "utf-16-be"))
 DAMAGE = (EOFError, zlib.error, lzma.LZMAError, zipfile.BadZipFile, gzip.BadGzipFile, RuntimeError, NotImplementedError)
 TOO_LONG = b"\xff too long"       # stands for such a line; no line of a log begins so
 
 
+@dataclass
 class Part:
     """A log within a file: its name, how the file was packed, its encoding, and its lines once it was read."""
 
-    def __init__(self, name: str, packed: str) -> None:
-        self.name, self.packed, self.encoding, self.lines, self.is_cut = name, packed, "bytes", 0, False
+    name: str
+    packed: str
+    encoding: str = "bytes"
+    lines: int = 0
+    is_cut: bool = False
 
     def is_read_as_far_as_it_goes(self) -> bool:
         """Returns whether the lines before a damaged place are read: of a capture, and of gzip if there are some."""
@@ -52,7 +56,7 @@ def packing(path: str) -> str:
         raise Fault(f"{path} is a folder, and no log") from None
     except OSError as error:
         raise Fault(f"cannot read {path}: {reason(error)}") from None
-    if head.startswith(CAPTURES):
+    if head.startswith(captures.MAGIC):
         return CAPTURE
     return next((name for magic, name in MAGIC if head.startswith(magic)), "plain")
 
@@ -98,10 +102,10 @@ def encoding(head: bytes) -> str:
     return "UTF-8 with a mark" if head.startswith(b"\xef\xbb\xbf") else "bytes"
 
 
-def raw_lines(stream: Any) -> Iterator[bytes]:
+def bounded(readline: Callable[[int], bytes]) -> Iterator[bytes]:
     """Yields lines of at most LONGEST bytes, and TOO_LONG for a longer one."""
     whole = True
-    while line := stream.readline(LONGEST):
+    while line := readline(LONGEST):
         ends = line.endswith(b"\n")
         if whole:
             yield line if ends or len(line) < LONGEST else TOO_LONG
@@ -112,12 +116,7 @@ def wide_lines(stream: Any, name: str) -> Iterator[bytes]:
     """Yields the lines of a text in UTF-16, as UTF-8. Half a letter at the end becomes a mark, as does anything that is
     no letter."""
     text = io.TextIOWrapper(stream, encoding=name, errors="replace", newline="\n")
-    whole = True
-    while line := text.readline(LONGEST):
-        ends = line.endswith("\n")
-        if whole:
-            yield line.encode() if ends or len(line) < LONGEST else TOO_LONG
-        whole = ends
+    yield from bounded(lambda most: text.readline(most).encode())
 
 
 def cleaned(lines: Iterable[bytes], part: Part) -> Iterator[bytes]:
@@ -131,13 +130,13 @@ def cleaned(lines: Iterable[bytes], part: Part) -> Iterator[bytes]:
 def stream_lines(stream: Any, part: Part) -> Iterator[bytes]:
     """Yields the lines of an open log, or of the UDP payloads of a capture of a network, which may be packed too."""
     buffered = stream if hasattr(stream, "peek") else io.BufferedReader(stream)
-    if buffered.peek(4)[:4] in CAPTURES:
+    if buffered.peek(4)[:4] in captures.MAGIC:
         part.packed = CAPTURE if part.packed in ("plain", CAPTURE) else f"{part.packed}, as {CAPTURE}"
-        yield from cleaned(captures.lines(buffered, part.name), part)
+        yield from cleaned(captures.lines(buffered), part)
         return
     part.encoding = encoding(buffered.peek(4)[:4])
     wide = part.encoding.startswith("utf-16")
-    yield from cleaned(wide_lines(buffered, part.encoding) if wide else raw_lines(buffered), part)
+    yield from cleaned(wide_lines(buffered, part.encoding) if wide else bounded(buffered.readline), part)
 
 
 @contextlib.contextmanager

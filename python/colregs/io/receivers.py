@@ -6,7 +6,8 @@ import re
 from collections.abc import Sequence
 
 from colregs.io.forms import seconds_of
-from colregs.io.sentences import NO_COURSE, NO_HEADING, NO_SPEED, Report, class_a, has_sum, lone_message, sentence
+from colregs.io.sentences import (NO_COURSE, NO_HEADING, NO_SPEED, Report, class_a, has_sum, lone_message, sentence,
+                                  utc_of)
 
 PLAIN = re.compile(rb"\$([A-Z]{2}(?:RMC|ZDA|HDT),[^*$!\\]*|PGHP,1,[^*$!\\]*)\*([0-9A-Fa-f]{2})")
 # a date that lags at midnight; the weeks that GPS counts before it begins again
@@ -52,8 +53,7 @@ def base_time(line: bytes) -> int | None:
     if message is None or message.length < 168 or message.number(0, 8) != BASE_STATION:
         return None
     try:
-        time = seconds_of(*(message.number(first, width)
-                            for first, width in ((38, 14), (52, 4), (56, 5), (61, 5), (66, 6), (72, 6))))
+        time = seconds_of(*utc_of(message))
     except ValueError:
         return None
     return time if time >= OLDEST else None
@@ -109,8 +109,8 @@ class Receiver:
         heard."""
         parts = [int(field) for field in fields[2:8] if re.fullmatch(rb"\d{1,4}", field)]
         try:
-            return "PGHP", seconds_of(parts[0], parts[1], parts[2], parts[3], parts[4], parts[5])
-        except (ValueError, IndexError):
+            return "PGHP", seconds_of(*parts)
+        except (ValueError, TypeError):
             return "PGHP without a time", None
 
     def head(self, fields: Sequence[bytes]) -> tuple[str, int | None]:

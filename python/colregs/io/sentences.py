@@ -16,6 +16,7 @@ LETTERS = b"ABCDEFGHIJKLMNOPQRSTUVWXYZabcdefghijklmnopqrstuvwxyz0123456789+/"
 PLACES = {1: (61, 89), 2: (61, 89), 3: (61, 89), 18: (57, 85), 19: (57, 85)}
 LONGEST_PART = 56                # letters of a part, as stations send them
 SIX = bytes(range(48, 88)) + bytes(range(96, 120))
+LEAST_MILLISECONDS = 10 ** 11    # a time in a tag block from this on is of milliseconds
 TO_64, FROM_64 = bytes.maketrans(SIX, LETTERS), bytes.maketrans(LETTERS, SIX)
 
 
@@ -27,6 +28,12 @@ def total(body: bytes) -> int:
         width >>= 1
         value ^= value >> width
     return value & 0xFF
+
+
+def seconds(digits: bytes) -> int:
+    """Returns the seconds since the Unix epoch of the digits of a tag block's field `c`, which may be milliseconds."""
+    value = int(digits)
+    return value // 1000 if value >= LEAST_MILLISECONDS else value
 
 
 def has_sum(body: bytes, digits: bytes) -> bool:
@@ -132,6 +139,12 @@ def lone_message(line: bytes) -> Message | None:
     """Returns the message of a line with a whole one and the right checksum, or None."""
     found = LONE.search(line)
     return Message(found[2]) if found and has_sum(found[1], found[4]) else None
+
+
+def utc_of(message: Message) -> tuple[int, ...]:
+    """Returns year, month, day, hour, minute and second of a message 4 or 11, which may be no time."""
+    return tuple(message.number(first, width)
+                 for first, width in ((38, 14), (52, 4), (56, 5), (61, 5), (66, 6), (72, 6)))
 
 
 def place_of(message: Message) -> tuple[int, int] | None:

@@ -7,7 +7,7 @@ out: the parts before it stay, since they also end what came before with the sam
 import re
 from collections.abc import Callable, Iterable, Iterator
 
-from colregs.io.lines import LONGEST, Joiner, Message, Stamps, bits_of, line_of, sender_of, sentence_of
+from colregs.io.lines import LONGEST, Joiner, Message, bits_of, line_of, sender_of, sentence_of, stamp_of
 
 LONE = re.compile(
     rb"(\\[^\\\n]*\\)?![A-Z0-9]{2}VD[MO],1,1,\d?,[A-Za-z0-9]?,([0-W`-w]{7})[^,\n]*,[0-5]\*[0-9A-Fa-f]{2}(?=[, "
@@ -42,14 +42,14 @@ class Sieve:
     """Leaves the lines of the vessels for which `is_kept` holds, by a log's clock and the slack of its scenario."""
 
     def __init__(self, is_kept: Callable[[int], bool], slack: int) -> None:
-        self.is_kept, self.slack, self.joiner, self.stamps = is_kept, slack, Joiner(), Stamps()
+        self.is_kept, self.slack, self.joiner = is_kept, slack, Joiner()
         self.time: int | None = None
         self.clock: int | None = None
 
     def left(self, lines: Iterable[bytes]) -> Iterator[bytes]:
         """Yields what is left of lines, each with its line feed."""
         for line in lines:
-            stamp = self.stamps.of(line)
+            stamp = stamp_of(line)
             before, self.time = self.clock, self.time if stamp is None else stamp
             if stamp is not None:
                 self.clock = stamp if before is None else max(before, stamp)

@@ -14,7 +14,7 @@ import subprocess
 import tempfile
 import time
 from collections.abc import Callable, Iterable, Iterator, Mapping, Sequence
-from dataclasses import dataclass
+from dataclasses import asdict, dataclass, field
 from typing import IO, Any
 
 from colregs.errors import Fault, reason
@@ -45,6 +45,7 @@ LINES, RECEIVER, BASE = (
 )
 SAMPLE = 200                    # letters of an example
 
+Counts = collections.Counter[str]
 OwnTime = tuple[int, str, bytes]        # a line's own time, the name of its form, and the other fields of its tag block
 
 
@@ -56,19 +57,22 @@ class Unread:
     example: str
 
 
+@dataclass
 class Gathered:
     """How the logs were read: counts by form, files, first and last time, how many sentences were written, and notes
     for the reader."""
 
-    def __init__(self) -> None:
-        self.files: list[Part] = []
-        self.notes: list[str] = []
-        self.first: int | None = None
-        self.last: int | None = None
-        self.forms: collections.Counter[str] = collections.Counter()
-        self.aside: collections.Counter[str] = collections.Counter()
-        self.unread: dict[str, Unread] = {}
-        self.sentences, self.back, self.untimed, self.own = 0, 0, 0, 0
+    files: list[Part] = field(default_factory=list)
+    first: int | None = None
+    last: int | None = None
+    forms: Counts = field(default_factory=collections.Counter)
+    aside: Counts = field(default_factory=collections.Counter)
+    unread: dict[str, Unread] = field(default_factory=dict)
+    sentences: int = 0
+    back: int = 0               # sentences whose time is before that of an earlier one
+    untimed: int = 0            # sentences before the first time of their log
+    notes: list[str] = field(default_factory=list)
+    own: int = 0                # sentences that are made of own ship's places
 
     def cannot(self, name: str, example: bytes) -> None:
         """Counts a line that is not understood."""
@@ -76,47 +80,22 @@ class Gathered:
         words = known.example if known else example[:SAMPLE].decode("utf-8", "replace")
         self.unread[name] = Unread(1 + (known.count if known else 0), words)
 
-    def count(self, time: int, is_back: bool) -> None:
-        """Counts a sentence that is written; `is_back` says that its time is before that of an earlier one."""
-        self.first = time if self.first is None else min(time, self.first)
-        self.sentences += 1
-        self.back += is_back
-
-    def count_own(self) -> None:
-        """Counts a sentence that is made of own ship's place."""
-        self.own += 1
-
-    def leave_untimed(self) -> None:
-        """Counts a sentence before the first time of its log."""
-        self.untimed += 1
-
-    def end(self, latest: int) -> None:
-        """Notes the last time."""
-        self.last = latest if self.first is not None else None
-
     def as_json(self) -> dict[str, Any]:
         """Returns all of it as values of JSON."""
         return {
             "files": [vars(part) for part in self.files], "first": self.first, "last": self.last,
-            "forms": dict(self.forms), "of_no_use": dict(self.aside), "not_understood": {
-                name: {"count": unread.count, "example": unread.example}
-                for name, unread in self.unread.items()
-            }, "sentences": self.sentences, "untimed": self.untimed, "notes": self.notes
+            "forms": dict(self.forms), "of_no_use": dict(self.aside),
+            "not_understood": {name: asdict(unread) for name, unread in self.unread.items()},
+            "sentences": self.sentences, "untimed": self.untimed, "notes": self.notes
         }
 
     @classmethod
     def of_json(cls, told: dict[str, Any]) -> "Gathered":
         """Returns what values of JSON say; raises KeyError or TypeError if they are of something else."""
-        made = cls()
-        for entry in told["files"]:
-            part = Part(entry["name"], entry["packed"])
-            part.encoding, part.lines = entry["encoding"], entry["lines"]
-            made.files.append(part)
-        made.first, made.last, made.notes = told["first"], told["last"], list(told["notes"])
-        made.forms, made.aside = collections.Counter(told["forms"]), collections.Counter(told["of_no_use"])
-        made.unread = {name: Unread(entry["count"], entry["example"]) for name, entry in told["not_understood"].items()}
-        made.sentences, made.untimed = told["sentences"], told["untimed"]
-        return made
+        return cls([Part(**entry) for entry in told["files"]], told["first"], told["last"],
+                   collections.Counter(told["forms"]), collections.Counter(told["of_no_use"]),
+                   {name: Unread(**entry) for name, entry in told["not_understood"].items()},
+                   told["sentences"], 0, told["untimed"], list(told["notes"]))
 
     def lines(self) -> int:
         """Returns how many lines were read."""
@@ -128,12 +107,10 @@ class Gathered:
             packed = "" if part.packed == "plain" else ", compressed by " + part.packed
             encoding = "" if part.encoding == "bytes" else ", in " + part.encoding
             yield f"{part.name}: {count(part.lines, 'line')}{packed}{encoding}"
-        for name, number in sorted(self.forms.items(), key=lambda entry: (-entry[1], entry[0])):
-            yield f"read: {number} x {name}"
-        for name, number in sorted(self.aside.items(), key=lambda entry: (-entry[1], entry[0])):
-            yield f"not needed: {number} x {name}"
-        for name, told in sorted(self.unread.items(), key=lambda entry: (-entry[1].count, entry[0])):
-            yield f"not understood: {told.count} x {name}, as {told.example}"
+        examples = {f"{name}, as {told.example}": told.count for name, told in self.unread.items()}
+        for verb, counts in (("read", self.forms), ("not needed", self.aside), ("not understood", examples)):
+            yield from (f"{verb}: {number} x {name}"
+                        for name, number in sorted(counts.items(), key=lambda entry: (-entry[1], entry[0])))
         yield from self.notes
 
 
@@ -152,7 +129,10 @@ class Log:
 
     def put(self, time: int, words: bytes, stamp: bytes | None = None) -> None:
         """Writes a sentence with its time."""
-        self.gathered.count(time, time < self.latest)
+        gathered = self.gathered
+        gathered.first = time if gathered.first is None else min(time, gathered.first)
+        gathered.sentences += 1
+        gathered.back += time < self.latest
         self.back += time < self.of_file
         self.latest, self.of_file = max(time, self.latest), max(time, self.of_file)
         self.days[time // DAY] += 1
@@ -209,9 +189,8 @@ class Reader:
 
     def __init__(self, part: Part, log: Log, gathered: Gathered, untimed: IO[bytes], mmsi: int | None,
                  reading: Reading) -> None:
-        self.part, self.log, self.gathered, self.untimed = part, log, gathered, untimed
-        self.times, self.receiver, self.reading = Times(reading.offset, reading.date,
-                                                        reading.day_first), Receiver(mmsi), reading
+        self.part, self.log, self.gathered, self.untimed, self.reading = part, log, gathered, untimed, reading
+        self.times, self.receiver = Times(reading.offset, reading.date, reading.day_first), Receiver(mmsi)
         self.unknown: str | None = None         # what a head lacks that is none of a table of positions
         self.skipped = 0                        # empty lines and comments
         self.track = Gpx(self.times)
@@ -341,7 +320,7 @@ class Reader:
     def own_ship(self, time: int, words: bytes | None) -> None:
         """Writes own ship's report."""
         if words:
-            self.gathered.count_own()
+            self.gathered.own += 1
             self.log.put(time, words)
 
     def own_time(self, line: bytes, begin: int, end: int) -> OwnTime | None:
@@ -390,7 +369,7 @@ class Reader:
         if self.waiting.time is not None:
             self.waiting.add(words)
         else:
-            self.gathered.leave_untimed()
+            self.gathered.untimed += 1
             self.untimed.write(words + b"\n")
 
     def value(self, line: bytes, before: bytes | None) -> bool:
@@ -421,12 +400,8 @@ class Reader:
             self.gathered.aside[what.form] += 1
         elif not words:
             self.gathered.cannot(what.form, line)
-        elif time is not None:
-            for each in words:
-                self.put((time, what.form, b""), each)
-        else:
-            for each in words:
-                self.put(None, each)
+        for each in words:
+            self.put(None if time is None else (time, what.form, b""), each)
 
     def row(self, table: tables.Table, line: bytes) -> None:
         """Reads a row of a table."""
@@ -548,7 +523,7 @@ def leave_untimed(gathered: Gathered, untimed: IO[bytes], made: IO[bytes]) -> No
 
 def ended(out: str, gathered: Gathered, log: Log, mmsi: int | None) -> None:
     """Sorts the log if necessary, and notes what a user needs to know of the whole."""
-    gathered.end(log.latest)
+    gathered.last = None if gathered.first is None else log.latest
     off, day = far_off(log.days) if gathered.sentences else (0, None)
     if off:
         date = time.strftime("%Y-%m-%d", time.gmtime((day or 0) * DAY))

@@ -193,8 +193,7 @@ class Table:
                                f"--columns {name}x10=HEAD")
         if self.name == "AISHub" and counted and "." not in told["latitude"] + told["longitude"]:
             raw_units(values)
-        report = (units.latitude(values["latitude"]), units.longitude(values["longitude"]), units.speed(
-            values["speed"]), units.course(values["course"]), units.heading(values["heading"]), time % 60)
+        report = units.report(*(values[name] for name in MOVING), second=time % 60)
         small = told.get("class", "").upper() in ("B", "CLASS B")
         return static + [self.ship.position(mmsi, report, small, units.status(told.get("status", "")))]
 

@@ -3,19 +3,12 @@ them."""
 import re
 
 from colregs.io.forms import Unsure
-from colregs.io.sentences import has_sum
+from colregs.io.sentences import has_sum, seconds
 
 BLOCK = re.compile(rb"\\([^\\*]+)\*([0-9A-Fa-f]{2})\\")
 FIELD = re.compile(rb"c:(\d{1,15})(?:\.\d*)?")
 FIRST = re.compile(rb"\\(?:[^\\]*,)?c:(\d{1,15})[,*][^\\]*\\")
 LATEST = 9999999999             # the latest time that ten digits hold
-LEAST_MILLISECONDS = 10 ** 11   # a count from this on is of milliseconds
-
-
-def seconds(digits: bytes) -> int:
-    """Returns the seconds since the Unix epoch of the digits of a field `c`, which may be milliseconds."""
-    value = int(digits)
-    return value // 1000 if value >= LEAST_MILLISECONDS else value
 
 
 def stamp(line: bytes) -> int | None:

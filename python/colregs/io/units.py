@@ -37,6 +37,7 @@ def number(text: str | float | None) -> float | None:
     return value
 
 
+KNOTS = 3600 / 1852             # of a metre a second
 SEXAGESIMAL = re.compile(r"([NSEWnsew])?\s*(-?\d{1,3})(?:\s*[\u00b0\u00ba]\s*|\s+)(\d{1,2}(?:[.,]\d+)?)\s*['\u2032]?\s*"
                          r"(?:(\d{1,2}(?:[.,]\d+)?)\s*[\"\u2033]?\s*)?([NSEWnsew])?")
 # with a side a hyphen may follow the degrees, or nothing, as in NMEA: 55-06.0N, 5506.0N
@@ -87,6 +88,11 @@ def speed(knots: float | None) -> int:
     return NO_SPEED if tenths == NO_SPEED or tenths < 0 else min(1022, tenths)
 
 
+def in_knots(metres: float | None) -> float | None:
+    """Returns knots of metres per second."""
+    return None if metres is None else metres * KNOTS
+
+
 def course(degrees: float | None) -> int:
     """Returns degrees as tenths. A number below zero overflowed twelve bits: 360 degrees stand for none."""
     tenths = NO_COURSE if degrees is None else round(degrees * 10)
@@ -97,6 +103,12 @@ def course(degrees: float | None) -> int:
 def heading(value: float | None) -> int:
     """Returns a heading in degrees."""
     return NO_HEADING if value is None or not 0 <= round(value) < 360 else round(value)
+
+
+def report(north: float | None, east: float | None, knots: float | None, track: float | None, head: float | None, *,
+           second: int) -> Report:
+    """Returns a report of a latitude and a longitude, a course and a heading in degrees, as a message has it."""
+    return latitude(north), longitude(east), speed(knots), course(track), heading(head), second
 
 
 def status(text: object) -> int:

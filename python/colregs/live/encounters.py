@@ -56,7 +56,7 @@ def encounters_of(fleet: Fleet, meetings: Iterable[Meeting], start: int, tick: i
     """Returns the current encounters among the meetings of an answer whose window begins at a time."""
     found: dict[Pair, Encounter] = {}
     for row in meetings:
-        pair, first, last = (min(row.pair), max(row.pair)), start + row.first * tick, start + (row.last + 1) * tick
+        pair, first, last = row.both, start + row.first * tick, start + (row.last + 1) * tick
         if lasts(fleet, pair, last, tick):
             known = found.setdefault(pair, Encounter(pair, first, last, row.least))
             known.kinds[row.subject] = row.encounter

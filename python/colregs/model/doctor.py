@@ -15,24 +15,20 @@ from colregs.io.files import read_bytes
 from colregs.io.logs import sampled
 from colregs.io.sentences import ship_place
 from colregs.model.rows import METRE, Meeting, row_of
+from colregs.model.rules import utc
 from colregs.model.scenario_checks import Finding, numbers_at
 from colregs.model.tracks import NONE, Track
 from colregs.run.limits import next_step
 from colregs.run.program import Columns, Run
 
-REFUSED = {3: "this is the first key with a fault; docs/SCENARIO.md has its range", 4: "is its name right, and may it "
-                                                                                       "be read",
+REFUSED = {3: "this is the first key with a fault; docs/SCENARIO.md has its range",
+           4: "is its name right, and may it be read",
            9: "own ship must be in the log before the window's end, with course and speed"}
 NO_SENTENCE = ("empty", "long", "tag", "other", "form", "sum", "armour")
 SHOWN = 5                               # findings of one name that are shown; the others are counted
 DAY = 86400                             # s
 ROLLOVER = 1024 * 7 * DAY               # s: after so long the week of GPS begins at 0 again
 STILL = 5                               # 1/10 knot: who never makes this lies still
-
-
-def clock(seconds: float) -> str:
-    """Returns a moment in UTC."""
-    return time.strftime("%Y-%m-%d %H:%M:%S", time.gmtime(seconds))
 
 
 def mode_of(report: bytes) -> str | None:
@@ -80,19 +76,13 @@ class Patient:
         start = self.window()[0]
         for mmsi, at, x, y, speed, course in zip(self.ships, self.times, self.easts, self.norths, self.speeds,
                                                  self.courses):
-            track = found[mmsi]
-            for column, value in ((track.times, at - start), (track.speeds, int(speed or NONE)), (track.courses,
-                                                                                                  int(course or NONE))):
-                column.append(value)
-            track.xs.append(x / METRE)
-            track.ys.append(y / METRE)
+            found[mmsi].add(at - start, x / METRE, y / METRE, int(speed or NONE), int(course or NONE))
         return found
 
     def window(self) -> tuple[int, int]:
         """Returns the first and the last second of the window."""
-        given = {option[0]: int(option[1]) for option in (word[2:].split("=") for word in self.options)}
-        start, tick, ticks = (given.get(word,
-                                        numbers_at(self.values, "window." + word)[0])
+        given = {name: int(value) for name, value in (word[2:].split("=") for word in self.options)}
+        start, tick, ticks = (given.get(word, numbers_at(self.values, "window." + word)[0])
                               for word in ("start", "tick", "ticks"))
         return start, start + tick * ticks
 
@@ -130,9 +120,9 @@ def other_report(patient: Patient) -> Iterator[Finding]:
     if fresh.status not in (0, 1):
         yield refusal(mode, fresh)
     elif fresh.text != patient.report:
-        yield Finding("report of something else", f"`{mode}` with this scenario and log writes another report: was it "
-                                                  "cut off, or had it other values, "
-                      "`--start`, `--ticks` or another log")
+        yield Finding("report of something else",
+                      f"`{mode}` with this scenario and log writes another report: was it cut off, or had it other "
+                      "values, `--start`, `--ticks` or another log")
 
 
 def no_times(patient: Patient) -> Iterator[Finding]:
@@ -141,11 +131,10 @@ def no_times(patient: Patient) -> Iterator[Finding]:
     dropped = sum(patient.counts.get(name, 0) for name in ("back", "repeat", "jump"))
     if looked and not told:
         yield Finding("no times", "no tag block has a time, so only the first report of each vessel counts. Give times "
-                                  "by tools/colregs-tagged")
+                      "by tools/colregs-tagged")
     elif looked > 2 * len(told) and dropped > patient.counts.get("point", 0):
         yield Finding("no times", f"{looked - len(told)} of {looked} lines have no time of their own, and count at the "
-                                  "time of a line before. "
-                      "Give times by tools/colregs-tagged")
+                      "time of a line before. Give times by tools/colregs-tagged")
 
 
 def future(patient: Patient) -> Iterator[Finding]:
@@ -155,10 +144,9 @@ def future(patient: Patient) -> Iterator[Finding]:
     if latest <= now + DAY:
         return
     rolled = latest - ROLLOVER
-    hint = f"; less the 1024 weeks of a GPS roll-over it would be {clock(rolled)}" if rolled <= now + DAY else ""
-    yield Finding("times in the future", f"the log has times up to {clock(latest)} UTC, and this machine's clock shows "
-                                         f"{clock(now)}: "
-                  f"was the receiver's clock not set{hint}")
+    hint = f"; less the 1024 weeks of a GPS roll-over it would be {utc(rolled)}" if rolled <= now + DAY else ""
+    yield Finding("times in the future", f"the log has times up to {utc(latest)} UTC, and this machine's "
+                  f"clock shows {utc(now)}: was the receiver's clock not set{hint}")
 
 
 def window_misses(patient: Patient) -> Iterator[Finding]:
@@ -167,17 +155,16 @@ def window_misses(patient: Patient) -> Iterator[Finding]:
     if not told or not patient.counts:
         return
     first, last = patient.window()
-    begin, end = (
-        (min(told), max(told)) if not patient.times else (min([*told, *patient.times]), max([*told, *patient.times]))
-    )
+    begin, end = min([*told, *patient.times]), max([*told, *patient.times])
     held = min(last, end) - max(first, begin)
     if 2 * max(held, 0) < last - first and last - first > 1:
         hint = ""
         hours = round((begin - first) / 3600)
         if hours and abs(begin - first - 3600 * hours) < 300 and abs(hours) <= 14:
             hint = f". They lie {abs(hours)} whole hours apart: is one of them in local time"
-        yield Finding("window misses the log", f"the window is from {clock(first)} to {clock(last)} UTC, and the log "
-                                               f"from {clock(begin)} to {clock(end)}{hint}")
+        yield Finding("window misses the log",
+                      f"the window is from {utc(first)} to {utc(last)} UTC, and the log from "
+                      f"{utc(begin)} to {utc(end)}{hint}")
 
 
 def region_misses(patient: Patient) -> Iterator[Finding]:
@@ -194,8 +181,7 @@ def region_misses(patient: Patient) -> Iterator[Finding]:
     elif any(close(reference, (one * latitude, two * longitude)) for one, two in ((-1, 1), (1, -1), (-1, -1))):
         hint = ". South and west are negative"
     yield Finding("region misses the log", f"{far} reports lie too far from the reference {reference[0]}, "
-                                           f"{reference[1]}; "
-                  f"most lie about {latitude}, {longitude}{hint}")
+                  f"{reference[1]}; most lie about {latitude}, {longitude}{hint}")
 
 
 def reference_far(patient: Patient) -> Iterator[Finding]:
@@ -207,8 +193,8 @@ def reference_far(patient: Patient) -> Iterator[Finding]:
     middle = told + sorted(patient.norths)[len(patient.norths) // 2] / 1852 / 600000
     wrong = math.cos(math.radians(told)) / math.cos(math.radians(middle)) - 1
     if abs(wrong) > 0.01:
-        yield Finding("reference far from the traffic", "the middle of the reports is at latitude "
-                                                        f"{round(middle * 600000)}, and lengths to the east are "
+        yield Finding("reference far from the traffic",
+                      f"the middle of the reports is at latitude {round(middle * 600000)}, and lengths to the east are "
                       f"{abs(wrong) * 100:.1f} % too {'great' if wrong > 0 else 'small'} there")
 
 
@@ -232,15 +218,15 @@ def unsorted(patient: Patient) -> Iterator[Finding]:
     late = patient.counts.get("late", 0)
     if 100 * late > patient.sentences:
         yield Finding("unsorted lines", f"{late} of {patient.sentences} sentences are out of order by more than "
-                                        "`log.slack`: sort them by tools/colregs-tagged")
+                      "`log.slack`: sort them by tools/colregs-tagged")
 
 
 def damaged(patient: Patient) -> Iterator[Finding]:
     """Yields a finding for each outcome that is far more frequent than in a good log."""
     lines = sum(patient.counts.values())
     for names, part, name, words in (
-            (("form", "sum", "armour"), 10, "damaged sentences", "a receiver, or what copied the log, damages "
-                                                                 "sentences"),
+            (("form", "sum", "armour"), 10, "damaged sentences",
+             "a receiver, or what copied the log, damages sentences"),
             (("tag",), 100, "damaged tag blocks", "their form or checksum is wrong, and their lines are lost"),
             (("jump",), 20, "many jumps", "to come there a vessel would be faster than `log.max_speed`"),
             (("nopos",), 2, "reports without a place", "their receivers have none")):
@@ -249,7 +235,7 @@ def damaged(patient: Patient) -> Iterator[Finding]:
             yield Finding(name, f"{count} of {lines} lines: {words}")
     if patient.counts.get("orphan", 0) > patient.counts.get("part", 0):
         yield Finding("parts without their messages", f"{patient.counts['orphan']} parts of messages lack the parts "
-                                                      "before them: were lines taken out")
+                      "before them: were lines taken out")
 
 
 def absent(patient: Patient) -> Iterator[Finding]:
@@ -259,8 +245,8 @@ def absent(patient: Patient) -> Iterator[Finding]:
     for name in ("subjects", "own.mmsi"):
         for mmsi in numbers_at(patient.values, name):
             if 200000000 <= mmsi <= 799999999 and mmsi not in patient.ships:
-                yield Finding("subject not in the log", f"`{name}` has {mmsi}, and the log has no report of hers in "
-                                                        "the window")
+                yield Finding("subject not in the log",
+                              f"`{name}` has {mmsi}, and the log has no report of hers in the window")
 
 
 def unseen(patient: Patient) -> Iterator[Finding]:
@@ -270,17 +256,16 @@ def unseen(patient: Patient) -> Iterator[Finding]:
     if patient.vessels and points > 3 * len(patient.vessels) and 2 * legs < points - len(patient.vessels):
         follow = points - len(patient.vessels)
         yield Finding("gap shorter than reports are apart", f"{follow - legs} of {follow} reports follow the one "
-                                                            "before by more than `log.gap`: "
-                      "such vessels are not seen")
-    if patient.speeds and 2 * sum(not speed or not course
-                                  for speed, course in zip(patient.speeds, patient.courses)) > len(patient.speeds):
+                      "before by more than `log.gap`: such vessels are not seen")
+    lacking = sum(not speed or not course for speed, course in zip(patient.speeds, patient.courses))
+    if 2 * lacking > len(patient.speeds):
         yield Finding("no course or no speed", "most reports have no course or no speed: rules that need them stay "
-                                               "open")
+                      "open")
     totals = patient.rows("total")
     if len(patient.vessels) > 1 and totals and all(fields[2] == "0" for fields in totals) and legs:
         watch = (numbers_at(patient.values, "detect.watch") or [""])[0]
-        yield Finding("nobody is watched", f"no two vessels come within `detect.watch = {watch}` m of each other in "
-                                           "the window")
+        yield Finding("nobody is watched",
+                      f"no two vessels come within `detect.watch = {watch}` m of each other in the window")
 
 
 def senders(patient: Patient) -> Iterator[Finding]:
@@ -293,10 +278,8 @@ def senders(patient: Patient) -> Iterator[Finding]:
     for mmsi, reports, kept in found.lost(points) if not shared else ():
         if jumps >= reports - kept:
             yield Finding("many jumps", f"{kept} of {reports} reports of {mmsi} are accepted: is she faster than "
-                                        "`log.max_speed`")
-    yield from found.no_ships(
-        {mmsi: fields[2] for mmsi, fields in patient.vessels.items() if mmsi in set(patient.ships)}
-    )
+                          "`log.max_speed`")
+    yield from found.no_ships({mmsi: fields[2] for mmsi, fields in patient.vessels.items() if mmsi in points})
 
 
 def at_rest(patient: Patient) -> Iterator[Finding]:
@@ -313,14 +296,13 @@ def at_rest(patient: Patient) -> Iterator[Finding]:
 
 def contact_lost(patient: Patient) -> Iterator[Finding]:
     """Yields meetings that end because a vessel is no longer heard while the two are closing, the nearest first."""
-    rows = {(min(row.pair), max(row.pair), row.first, row.last): row
+    rows = {(*row.both, row.first, row.last): row
             for row in map(row_of, patient.rows("meeting")) if isinstance(row, Meeting)}
     if not rows:
         return
     tracks, (start, end) = patient.tracks(), patient.window()
     tick, gap = (numbers_at(patient.values, name)[0] for name in ("window.tick", "log.gap"))
-    ends = [(row, found)
-            for row in rows.values()
+    ends = [(row, found) for row in rows.values()
             if (found := lost.lost(tracks, row, tick, (end - start) // tick, gap))]
     for row, found in sorted(ends, key=lambda entry: entry[1].ahead.least if entry[1].ahead else 0):
         if found.still_closing(row.metres):

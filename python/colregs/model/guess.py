@@ -4,7 +4,6 @@ import bisect
 import math
 import re
 import statistics
-import time
 from collections.abc import Sequence
 from dataclasses import dataclass, replace
 
@@ -13,7 +12,7 @@ from colregs.io.logs import sampled
 from colregs.io.sentences import ship_place
 from colregs.io.tag_blocks import stamp
 from colregs.model.earth import iso
-from colregs.model.rules import moment
+from colregs.model.rules import moment, utc
 from colregs.run.program import Run, run_text
 from colregs.words import count
 
@@ -163,11 +162,9 @@ class Found:
         """Returns the middle of the places, in 1/10000 minute, across the date line if it is nearer."""
         cosine = round(math.cos(math.radians((2 * abs(self.first[0]) + 60000) // 120000 / 10)) * 1000000)
         middles = []
-        for values, unit in ((sorted(self.norths), 1852), (sorted(self.easts), 1852 * cosine / 1000000)):
-            size = len(values)
-            middles.append([round(values[k] / unit) for k in ((size - 1) // 2, size // 2)])
-        latitude, longitude = (math.floor(sum(first + more
-                                              for more in pair) / 2)
+        for values, unit in ((self.norths, 1852), (self.easts, 1852 * cosine / 1000000)):
+            middles.append([round(middle(values) / unit) for middle in (statistics.median_low, statistics.median_high)])
+        latitude, longitude = (math.floor(sum(first + more for more in pair) / 2)
                                for first, pair in zip(self.first, middles))
         return latitude, (longitude + 108000000) % 216000000 - 108000000
 
@@ -179,9 +176,8 @@ def look(log: str, program: str, reasons: list[str]) -> tuple[Found, int | None]
     first, last = ends(times, reasons, None) if times else (0, 0)
     first = max(0, first - MARGIN)
     ticks = max(1, min(LONGEST, (last + MARGIN - first) // 60 + 1))
-    return Found(
-        run_text(program, "points", LOOK.format(start=first, ticks=ticks, lat=reference[0], lon=reference[1]), log),
-        reference), last if times else None
+    done = run_text(program, "points", LOOK.format(start=first, ticks=ticks, lat=reference[0], lon=reference[1]), log)
+    return Found(done, reference), last if times else None
 
 
 def window(found: Found, latest: int | None, reasons: list[str], asked: Asked) -> tuple[int, int, int, float | None]:
@@ -189,8 +185,7 @@ def window(found: Found, latest: int | None, reasons: list[str], asked: Asked) -
     log's last time, if it has any."""
     if latest is None:
         reasons.append("no tag block has a time: every line counts as of the window's start, and a vessel gives one "
-                       "point. Give times first"
-                       " (docs/SOURCES.md)")
+                       "point. Give times first (docs/SOURCES.md)")
         return 0, 10, 1, None
     interval = statistics.median(found.apart) if found.apart else 10
     tick = next((k for k in TICKS if k >= interval), 60)
@@ -218,18 +213,12 @@ def text_of(guess: Guess) -> str:
     tick, ticks, interval = guess.tick, guess.ticks, guess.interval
     times = {name: -(-value // tick) * tick for name, value in (
         ("horizon", 900), ("t8", 60), ("ta", 120), ("tl", 30), ("tw", 120), ("te", 600))}
-    known = (
-        "nothing shows how far reports are apart"
-        if interval is None
-        else f"reports of vessels under way are about {interval:g} s apart"
-    )
-    text = TEXT.format(
-        **{
-            "start": guess.start, "tick": tick, "ticks": min(ticks, LONGEST), "lat": guess.latitude,
-            "lon": guess.longitude, "watch": guess.watch, **times, "interval": known, "clock": time.strftime(
-                "%Y-%m-%d %H:%M:%S UTC", time.gmtime(guess.start)), "length": f"{ticks * tick // 60} minutes" if ticks
-            * tick >= 120 else f"{ticks * tick} s", "gap": max(200, tick)
-        })
+    known = ("nothing shows how far reports are apart" if interval is None
+             else f"reports of vessels under way are about {interval:g} s apart")
+    length = f"{ticks * tick // 60} minutes" if ticks * tick >= 120 else f"{ticks * tick} s"
+    text = TEXT.format(start=guess.start, clock=utc(guess.start) + " UTC", tick=tick, interval=known, length=length,
+                       ticks=min(ticks, LONGEST), lat=guess.latitude, lon=guess.longitude, gap=max(200, tick),
+                       watch=guess.watch, **times)
     return re.sub(r"(?m)^([a-z0-9_]+ = \S+) +# ", lambda line: f"{line[1]:<22}# ", text)
 
 
@@ -247,12 +236,10 @@ def fitted(guess: Guess, vessels: int, log: str, program: str, reasons: list[str
         guess = replace(guess, ticks=guess.ticks // 2)
     if guess.ticks < whole:
         reasons.append(Cut(f"the window is cut to {guess.ticks} of {whole} ticks: more than {MOST_PAIRS} pairs come "
-                           "into contact. "
-                           "tools/colregs-many audits such a log by subjects and windows"))
+                           "into contact. tools/colregs-many audits such a log by subjects and windows"))
     if guess.watch != WATCHES[0]:
         reasons.append(Cut(f"the watch is {guess.watch} m instead of {WATCHES[0]}: more than {MOST_PAIRS} pairs would "
-                           "come into contact, so meetings "
-                           "begin later"))
+                           "come into contact, so meetings begin later"))
     return guess
 
 
@@ -284,16 +271,13 @@ def window_reasons(guess: Guess, ticks: int, asked: Asked = Asked()) -> list[str
     """Returns why a guess has its window, tick and reference; `ticks` are those of all of the log."""
     found = []
     if guess.interval is not None:
-        begin = (
-            "as asked"
-            if asked.begin or asked.end
-            else f"from the first report {'to the last' if guess.ticks == ticks else 'on, and is cut'}"
-        )
+        begin = ("as asked" if asked.begin or asked.end
+                 else f"from the first report {'to the last' if guess.ticks == ticks else 'on, and is cut'}")
         found = [f"the window is {begin}: {guess.ticks * guess.tick} s from {guess.start} on",
                  f"the tick is {guess.tick} s: reports of vessels under way are {guess.interval:g} s apart, by their "
                  "median"]
-    return [*found, f"the reference is the middle of the places: latitude {guess.latitude}, longitude "
-                    f"{guess.longitude}"]
+    return found + ["the reference is the middle of the places: "
+                    f"latitude {guess.latitude}, longitude {guess.longitude}"]
 
 
 def suggested(log: str, program: str) -> tuple[str, list[str]]:
@@ -306,8 +290,7 @@ def suggested(log: str, program: str) -> tuple[str, list[str]]:
     ticks = guess.ticks
     if ticks > LONGEST:
         reasons.append(Cut(f"the log is {ticks} ticks long, and a window may have 20000: this is its beginning. "
-                           "tools/colregs-case and "
-                           "tools/colregs-many audit all of it"))
+                           "tools/colregs-case and tools/colregs-many audit all of it"))
         guess = replace(guess, ticks=LONGEST)
     guess = fitted(guess, vessels, log, program, reasons)
     return text_of(guess), reasons + window_reasons(guess, ticks)

@@ -1,6 +1,7 @@
 """What a doctor sees in a log itself, before the program reads it: how it is packed, whether it has sentences and
 times, who shares an MMSI."""
 import collections
+import contextlib
 import re
 import statistics
 from collections.abc import Iterator, Mapping
@@ -9,17 +10,15 @@ from colregs.io.forms import seconds_of
 from colregs.io.logs import sampled, timed
 from colregs.io.packing import encoding, packing
 from colregs.model.scenario_checks import Finding
-from colregs.io.sentences import Message, lone_message, place_of
+from colregs.io.sentences import Message, lone_message, place_of, utc_of
 from colregs.io.sources import CUT
 from colregs.io.tables import table_of
 from colregs.io.tag_blocks import stamp
 
 MOST_SPEED = 102.2 * 1852 / 3600         # metres a second: what no ship makes
 Report = tuple[int, int, int]            # time, latitude and longitude
-STATIONS = {
-    4: "a base station's time", 9: "an aircraft's report", 11: "a base station's time",
-    21: "an aid to navigation's report"
-}
+STATIONS = {4: "a base station's time", 9: "an aircraft's report", 11: "a base station's time",
+            21: "an aid to navigation's report"}
 FLOATS = re.compile(r"\bBUOY|\bBEACON|\bNETS?\b|\bNETMARK|\d+ ?%|\d\d?\.\d ?V\b")
 STEADY = 3                               # so many reports of either of two tracks make two ships
 CLOCKS = 4, 11                           # messages with the UTC of their sender
@@ -41,11 +40,8 @@ def form_of(log: str) -> Iterator[Finding]:
         yield Finding("log in UTF-16", "the log is a text in UTF-16: tools/colregs-tagged reads it")
     elif not any(CUT.search(line) for line in sampled(log)):
         table = next((table for table in map(table_of, head.split(b"\n")[:5]) if table), None)
-        words = (
-            f"is a table ({table.name}): tools/colregs-tagged makes sentences of it"
-            if table
-            else "has no AIVDM or AIVDO sentence"
-        )
+        words = (f"is a table ({table.name}): tools/colregs-tagged makes sentences of it" if table
+                 else "has no AIVDM or AIVDO sentence")
         yield Finding("no sentences", "the log " + words)
 
 
@@ -115,13 +111,8 @@ class Senders:
 
     def compare(self, at: int, message: Message) -> None:
         """Notes how far a line's time is from the UTC in its base station's message."""
-        fields = [
-            message.number(first, width) for first, width in ((38, 14), (52, 4), (56, 5), (61, 5), (66, 6), (72, 6))
-        ]
-        try:
-            self.apart.append(at - seconds_of(*fields))
-        except ValueError:
-            return
+        with contextlib.suppress(ValueError):       # a station without a time sends month and day 0
+            self.apart.append(at - seconds_of(*utc_of(message)))
 
     def clock(self) -> Iterator[Finding]:
         """Yields a finding if the log's times are far from the UTC of base stations."""
@@ -129,8 +120,7 @@ class Senders:
         if abs(apart) > OFF:
             side = "ahead of" if apart > 0 else "behind"
             yield Finding("clock that is off", f"the log's times are {abs(apart)} s ({abs(apart) / 3600:.2f} hours) "
-                                               f"{side} the UTC that base stations send "
-                          f"in {len(self.apart)} messages")
+                          f"{side} the UTC that base stations send in {len(self.apart)} messages")
 
     def lost(self, points: Mapping[int, int]) -> Iterator[tuple[int, int, int]]:
         """Yields ships most of whose reports are not accepted: MMSI, reports, accepted reports."""
@@ -148,8 +138,8 @@ class Senders:
         """Yields stations that are judged as vessels."""
         for mmsi in sorted(set(self.stations) & set(vessels)):
             kind = max(self.stations[mmsi], key=lambda kind: self.stations[mmsi][kind])
-            yield Finding("station that is no ship", f"{mmsi} is judged as a vessel, and sends {STATIONS[kind]} "
-                                                     f"(message {kind})")
+            yield Finding("station that is no ship",
+                          f"{mmsi} is judged as a vessel, and sends {STATIONS[kind]} (message {kind})")
         for mmsi, name in sorted(vessels.items()):
             if FLOATS.search(name):
                 yield Finding("station that is no ship", f"{mmsi} is judged as a vessel, and is called {name}")

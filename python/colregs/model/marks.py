@@ -93,9 +93,8 @@ class Marks:
         self.margin = -(-MARGIN // case.tick)
         self.spans: dict[Pair, tuple[int, int]] = {}
         for row in case.stretches():
-            key = min(row.pair), max(row.pair)
-            low, high = self.spans.get(key, (row.first, row.last))
-            self.spans[key] = min(low, row.first), max(high, row.last)
+            low, high = self.spans.get(row.both, (row.first, row.last))
+            self.spans[row.both] = min(low, row.first), max(high, row.last)
         self.known: dict[Pair, Together] = {}
 
     def status(self, mmsi: int, step: int) -> int | None:
@@ -107,15 +106,14 @@ class Marks:
     def words(self, mmsi: int, step: int) -> str:
         """Returns a vessel's type and her status at a step in words, separated by a comma."""
         vessel = self.case.vessels.get(mmsi)
-        return ", ".join(
-            filter(None,
-                   (ships.type_words(vessel.ship_type) if vessel else "", ships.status_words(self.status(mmsi, step)))))
+        kind = ships.type_words(vessel.ship_type) if vessel else ""
+        return ", ".join(filter(None, (kind, ships.status_words(self.status(mmsi, step)))))
 
     def is_fishing(self, mmsi: int, step: int) -> bool:
         """Returns whether a vessel fishes, by her status or type."""
         vessel = self.case.vessels.get(mmsi)
-        return self.status(mmsi,
-                           step) == ships.FISHING_STATUS or vessel is not None and vessel.ship_type == ships.FISHING
+        by_type = vessel is not None and vessel.ship_type == ships.FISHING
+        return by_type or self.status(mmsi, step) == ships.FISHING_STATUS
 
     def is_pilot(self, mmsi: int) -> bool:
         """Returns whether a vessel is a pilot vessel by her type."""
@@ -124,7 +122,7 @@ class Marks:
 
     def together(self, row: Stretch) -> Together:
         """Returns when the two vessels of a row lie alongside or tow."""
-        key = min(row.pair), max(row.pair)
+        key = row.both
         if key not in self.known:
             low, high = self.spans[key]
             first, last = max(0, low - self.margin - self.margin), min(self.case.steps - 1, high + 2 * self.margin)

@@ -18,13 +18,13 @@ ONE = {
     "r15": "{} crossed ahead (Rule 15)", "r16": "{} took no early and apparent action (Rule 16)",
     "r17a": "{} did not stand on (Rule 17(a))", "r17b": "{} took no action in extremis (Rule 17(b))",
     "r17c": "{} altered to port (Rule 17(c))", "r18": "{} did not keep out of the way by rank (Rule 18)",
-    "r8b": "an alteration of {} was not readily apparent (Rule 8(b))", "r8d": "{} did not pass at a safe distance "
-                                                                              "(Rule 8(d))",
+    "r8b": "an alteration of {} was not readily apparent (Rule 8(b))",
+    "r8d": "{} did not pass at a safe distance (Rule 8(d))",
 }
 KINDS = {
     "overtaking": "{0} overtook {1}", "overtaken": "{1} overtook {0}", "head_on": "{0} and {1} met head on",
-    "crossing_gives": "{0} and {1} crossed, and {2} was to give way", "crossing_stands": "{1} and {0} crossed, and {3} "
-                                                                                         "was to give way",
+    "crossing_gives": "{0} and {1} crossed, and {2} was to give way",
+    "crossing_stands": "{1} and {0} crossed, and {3} was to give way",
 }
 Verdicts = Mapping[tuple[int, int], list[Verdict]]
 
@@ -33,7 +33,7 @@ def by_pair(case: Case) -> dict[tuple[int, int], list[Verdict]]:
     """Returns the verdicts by their pairs, the lower MMSI first."""
     found: dict[tuple[int, int], list[Verdict]] = {}
     for row in case.verdicts:
-        found.setdefault((min(row.pair), max(row.pair)), []).append(row)
+        found.setdefault(row.both, []).append(row)
     return found
 
 
@@ -69,12 +69,12 @@ def sentence(case: Case, row: Meeting, verdicts: Verdicts) -> str:
     """Returns a meeting in a sentence."""
     names = [full_name(case, mmsi) for mmsi in row.pair]
     met = KINDS.get(row.encounter, "{0} and {1} met").format(*names, *map(case.name, row.pair))
-    here = [v for v in verdicts.get((min(row.pair), max(row.pair)), []) if v.first <= row.last and row.first <= v.last]
+    here = [v for v in verdicts.get(row.both, []) if v.first <= row.last and row.first <= v.last]
     found = list(found_words(case, here)) or ["no rule was found broken"]
     words = f"{met} from {minute(case, row.first * case.tick)} UTC on; {', '.join(found)}; "
     if case.lost(row):
         return words + case.lost_words(row) + "."
     seconds = case.nearest(row)[0]
-    end = "they passed at" if seconds < (row.last
-                                         + 1) * case.tick else "they were nearest at the end of what was audited,"
+    is_over = seconds < (row.last + 1) * case.tick
+    end = "they passed at" if is_over else "they were nearest at the end of what was audited,"
     return f"{words}{end} {format(row.metres, '.1f' if row.metres < 10 else ',.0f')} m at {minute(case, seconds)}."

@@ -269,7 +269,7 @@ class Case:
 
     def lost(self, row: Stretch) -> lost.Lost | None:
         """Returns how a meeting ends if one of the two is no longer heard, or None if it ends otherwise."""
-        key = min(row.pair), max(row.pair), row.first, row.last
+        key = *row.both, row.first, row.last
         if key not in self.known_lost:
             self.known_lost[key] = lost.lost(self.tracks, row, self.tick, self.steps, self.gap)
         return self.known_lost[key]

@@ -9,7 +9,6 @@ from colregs.model.tracks import NONE, Track
 
 SLOWEST = 5             # 1/10 knot
 TENTH = 463 / 9000      # metres per second in 1/10 knot
-WORDS = {"": "", "subject": "the subject lies still", "other": "the other vessel lies still", "both": "both lie still"}
 MARKS = {(True, True): "both", (True, False): "subject", (False, True): "other", (False, False): ""}
 
 

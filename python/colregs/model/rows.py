@@ -40,6 +40,11 @@ class OfPair:
         """Returns the MMSIs of subject and other."""
         return self.subject, self.other
 
+    @property
+    def both(self) -> tuple[int, int]:
+        """Returns the two MMSIs, the lower first."""
+        return min(self.pair), max(self.pair)
+
 
 @dataclass(frozen=True, slots=True)
 class Meeting(OfPair):

@@ -91,6 +91,11 @@ def duty(rule: str) -> str:
     return DUTIES.get(rule, "a formula of the scenario")
 
 
+def utc(seconds: float) -> str:
+    """Returns a moment in UTC as a date and a time of day."""
+    return time.strftime("%Y-%m-%d %H:%M:%S", time.gmtime(seconds))
+
+
 def clock(seconds: float) -> str:
     """Returns the time of day of a moment in UTC."""
     return time.strftime("%H:%M:%S", time.gmtime(seconds))

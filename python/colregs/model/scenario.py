@@ -4,7 +4,7 @@ import tomllib
 from typing import Any
 
 from colregs.errors import Fault
-from colregs.io.files import read_bytes, read_text
+from colregs.io.files import read_text
 from colregs.model.formulas import sight_of
 
 MOST_SUBJECTS, MOST_TICKS, MOST_BYTES = 64, 20000, 1 << 30           # docs/SCENARIO.md
@@ -37,11 +37,7 @@ class Scenario:
     """A scenario's text with the numbers that shares need. Where the program would refuse it, it refuses it itself."""
 
     def __init__(self, path: str) -> None:
-        self.path = path
-        try:
-            self.text = read_bytes(path).decode("utf-8")
-        except UnicodeDecodeError:
-            raise Fault(f"{path}: not a text in UTF-8") from None
+        self.path, self.text = path, read_text(path)
         self.values = values_of(path, self.text)
         try:
             window, log, rules = (self.values[table] for table in ("window", "log", "rules"))
@@ -64,8 +60,8 @@ class Scenario:
         if subjects is None:
             return self.text
         head, bracket, rest = self.text.partition("\n[")
-        text = f"subjects = {subjects}\n" + (SUBJECTS.sub("", head, count=1)
-                                             if self.subjects else head) + bracket + rest
+        head = SUBJECTS.sub("", head, count=1) if self.subjects else head
+        text = f"subjects = {subjects}\n{head}{bracket}{rest}"
         if values_of(self.path, text) != {**self.values, "subjects": subjects}:
             raise Fault(f"{self.path}: its subjects cannot be replaced: put `subjects = [..]` on lines of its own "
                         "before the first table")

@@ -48,8 +48,8 @@ def unknown_keys(values: Mapping[str, Any]) -> Iterator[Finding]:
             yield Finding(*doubt)
     for name in keys.names_of(values):
         if values.get("version") == 1 and name.startswith("rules.safe_") and name in keys.units():
-            yield Finding("key of another version", f"`{name}` is ignored in version 1: give `version = 2` and all "
-                                                    "four safe distances")
+            yield Finding("key of another version",
+                          f"`{name}` is ignored in version 1: give `version = 2` and all four safe distances")
 
 
 def wrong_units(values: Mapping[str, Any]) -> Iterator[Finding]:
@@ -64,7 +64,7 @@ def wrong_units(values: Mapping[str, Any]) -> Iterator[Finding]:
     for name, least in LEAST_SECONDS.items():
         if any(0 < number < least for number in numbers_at(values, name)):
             yield Finding("minutes for seconds", f"`{name} = {value_at(values, name)}` is so short that it looks like "
-                                                 "minutes: the unit is s")
+                          "minutes: the unit is s")
     yield from wrong_place_and_time(values)
 
 
@@ -73,11 +73,11 @@ def wrong_place_and_time(values: Mapping[str, Any]) -> Iterator[Finding]:
     latitude, longitude = (numbers_at(values, "reference." + word) for word in ("lat", "lon"))
     if latitude and longitude and (latitude[0] or longitude[0]) and abs(latitude[0]) <= 90 and abs(longitude[0]) <= 180:
         yield Finding("degrees for the reference", f"`reference` is {latitude[0]:g}, {longitude[0]:g}: the unit is "
-                                                   "1/10000 minute, so a degree is 600000")
+                      "1/10000 minute, so a degree is 600000")
     start = numbers_at(values, "window.start")
     if start and start[0] >= 10 ** 11:
-        yield Finding("milliseconds for seconds", f"`window.start = {start[0]}` looks like milliseconds: the unit is "
-                                                  "seconds")
+        yield Finding("milliseconds for seconds",
+                      f"`window.start = {start[0]}` looks like milliseconds: the unit is seconds")
 
 
 def at_odds(values: Mapping[str, Any]) -> Iterator[Finding]:
@@ -92,23 +92,21 @@ def no_effect(values: Mapping[str, Any]) -> Iterator[Finding]:
     """Yields numbers and names with which a rule or the window has little effect."""
     window, tick = (numbers_at(values, name) for name in ("window.ticks", "window.tick"))
     length = window[0] * tick[0] if window and tick else 0
-    for name in ("rules.tw",):
-        if length and any(number > length for number in numbers_at(values, name)):
-            yield Finding("time longer than the window", f"`{name} = {value_at(values, name)}` is more than the "
-                                                         f"window's {length} s: what it waits for is never judged")
+    if length and any(number > length for number in numbers_at(values, "rules.tw")):
+        yield Finding("time longer than the window", f"`rules.tw = {value_at(values, 'rules.tw')}` is more than the "
+                      f"window's {length} s: what it waits for is never judged")
     gap = numbers_at(values, "log.gap")
     if gap and tick and gap[0] <= tick[0]:
         yield Finding("gap no longer than a tick", f"`log.gap = {gap[0]}` is no more than `window.tick = {tick[0]}`: "
-                                                   "only reports at each tick are joined, and most vessels "
-                      "are not seen")
+                      "only reports at each tick are joined, and most vessels are not seen")
     if value_at(values, "subjects") == []:
-        yield Finding("empty subjects", "`subjects` is an empty list: leave it out to audit all pairs, or name a "
-                                        "vessel")
+        yield Finding("empty subjects",
+                      "`subjects` is an empty list: leave it out to audit all pairs, or name a vessel")
     formulas = values.get("formula")
     if value_at(values, "rules.ranks") == 1 and isinstance(formulas, list) and any(
             isinstance(table, dict) and table.get("name") == "r18" for table in formulas):
         yield Finding("name of a rule", "a formula is called `r18`, which with `rules.ranks = 1` is the name of Rule "
-                                        "18: give it another one")
+                      "18: give it another one")
 
 
 def no_ships(values: Mapping[str, Any]) -> Iterator[Finding]:
@@ -116,11 +114,10 @@ def no_ships(values: Mapping[str, Any]) -> Iterator[Finding]:
     for name in ("subjects", "own.mmsi"):
         for mmsi in numbers_at(values, name):
             if not 200000000 <= mmsi <= 799999999:
-                kind = (
-                    "an aid to navigation" if 990000000 <= mmsi else "a coast station" if mmsi < 10000000 else "no ship"
-                )
+                kind = ("an aid to navigation" if 990000000 <= mmsi else
+                        "a coast station" if mmsi < 10000000 else "no ship")
                 yield Finding("station that is no ship", f"`{name}` has {mmsi}, which is {kind}: a ship's MMSI is from "
-                                                         "200000000 to 799999999")
+                              "200000000 to 799999999")
 
 
 def findings(values: Mapping[str, Any]) -> Iterator[Finding]:

@@ -4,11 +4,10 @@ from collections.abc import Iterator, Sequence
 
 from colregs.io.sources import Gathered
 from colregs.model import narrative
-from colregs.model.earth import iso
 from colregs.model.marks import Marks
 from colregs.model.reports import Case
 from colregs.model.rows import Meeting
-from colregs.model.rules import OUTCOMES
+from colregs.model.rules import OUTCOMES, utc
 from colregs.model.scenario_checks import Finding
 from colregs.words import count
 
@@ -31,11 +30,6 @@ def capital(words: str) -> str:
     return words[:1].upper() + words[1:]
 
 
-def plain(moment: float) -> str:
-    """Returns a moment as a date and a time of day."""
-    return iso(moment).replace("T", " ").replace("Z", "")
-
-
 def read_words(case: Case, gathered: Gathered) -> Iterator[str]:
     """Yields how the logs were read."""
     files = count(len(gathered.files), "file")
@@ -44,7 +38,7 @@ def read_words(case: Case, gathered: Gathered) -> Iterator[str]:
     else:
         latest = gathered.first if gathered.last is None else gathered.last
         yield (f"Read: {files} with {count(gathered.lines(), 'line')}; {count(gathered.sentences, 'sentence')} "
-               f"from {plain(gathered.first)} to {plain(latest)} UTC.")
+               f"from {utc(gathered.first)} to {utc(latest)} UTC.")
     lost = {name: number for name, number in case.lines.items() if number and name not in USED}
     total = sum(case.lines.values())
     positions = count(case.lines.get("point", 0), "position")
@@ -57,7 +51,7 @@ def read_words(case: Case, gathered: Gathered) -> Iterator[str]:
 
 def unordered(rows: Sequence[Meeting]) -> dict[tuple[int, int, int, int], Meeting]:
     """Returns one meeting of each two vessels and stretch."""
-    return {(min(row.pair), max(row.pair), row.first, row.last): row for row in rows}
+    return {(*row.both, row.first, row.last): row for row in rows}
 
 
 def nearest_words(case: Case, met: dict[tuple[int, int, int, int], Meeting]) -> str:
@@ -67,7 +61,7 @@ def nearest_words(case: Case, met: dict[tuple[int, int, int, int], Meeting]) -> 
     seconds = case.nearest(near)[0]
     kind = "of those under way" if not case.rest(near) else "though one of the two lies still"
     return (f"The nearest, {kind}: {case.name(near.subject)} and {case.name(near.other)}, {lengths(near.metres)} "
-            f"at {plain(round(case.start + seconds))} UTC.")
+            f"at {utc(round(case.start + seconds))} UTC.")
 
 
 def is_marked(marks: Marks, row: Meeting) -> bool:
@@ -84,8 +78,8 @@ def lost_words(case: Case, met: dict[tuple[int, int, int, int], Meeting], marks:
     closing = [(row, found) for row, found in ends if found.still_closing(row.metres)]
     closing.sort(key=lambda entry: (is_marked(marks, entry[0]), entry[1].ahead.least if entry[1].ahead else 0))
     yield (f"{count(len(ends), 'meeting')} of {len(met):,} {'ends' if len(ends) == 1 else 'end'} because a vessel was "
-           "no longer heard, so the nearest "
-           f"distance is not known; {count(len(closing), 'pair was', 'pairs were')} still closing by the last reports.")
+           "no longer heard, so the nearest distance is not known; "
+           f"{count(len(closing), 'pair was', 'pairs were')} still closing by the last reports.")
     for row, _ in closing[:SHOWN]:
         yield f"{case.name(row.subject)} and {case.name(row.other)}: {case.lost_words(row)}."
     if len(closing) > SHOWN:
@@ -95,12 +89,8 @@ def lost_words(case: Case, met: dict[tuple[int, int, int, int], Meeting], marks:
 def gravest(case: Case, met: dict[tuple[int, int, int, int], Meeting], marks: Marks) -> Iterator[str]:
     """Yields the nearest meetings in which a rule was broken and that have no mark, each in a sentence."""
     verdicts = narrative.by_pair(case)
-    broken = {
-        key[:2]
-        for key in met
-        if any(
-            row.value == "broken" and row.first <= key[3] and key[2] <= row.last for row in verdicts.get(key[:2], []))
-    }
+    broken = {key[:2] for key in met if any(row.value == "broken" and row.first <= key[3] and key[2] <= row.last
+                                            for row in verdicts.get(key[:2], []))}
     rows = sorted((row for key, row in met.items() if key[:2] in broken and not case.rest(row)),
                   key=lambda row: row.metres)
     chosen = itertools.islice((row for row in rows if not is_marked(marks, row)), SHOWN)
@@ -111,7 +101,7 @@ def meeting_words(case: Case, marks: Marks | None) -> Iterator[str]:
     """Yields how many vessels met, and what the audit says of that."""
     met = unordered(case.meetings)
     broken, open_ = ([row for row in case.verdicts if row.value == value] for value in ("broken", "open"))
-    window = f"{plain(case.start)} and {plain(case.moment(case.steps))}"
+    window = f"{utc(case.start)} and {utc(case.moment(case.steps))}"
     if not case.tracks:
         yield f"Nothing was audited: no vessel has a position between {window} UTC, the scenario's window."
         return
@@ -120,8 +110,8 @@ def meeting_words(case: Case, marks: Marks | None) -> Iterator[str]:
     if not met:
         yield "No two vessels met: none came so near, with risk of collision, as the scenario asks."
         return
-    yield (f"{count(len(met), 'meeting')} of two vessels; rules broken in "
-           f"{count(len(broken), 'stretch', 'stretches')}, "
+    yield (f"{count(len(met), 'meeting')} of two vessels; "
+           f"rules broken in {count(len(broken), 'stretch', 'stretches')}, "
            f"and undecided in {count(len(open_), 'stretch', 'stretches')}.")
     yield nearest_words(case, met)
     if marks:
@@ -141,10 +131,9 @@ def outside(case: Case, gathered: Gathered) -> list[str]:
     left = max(0, case.start - gathered.first) + max(0, gathered.last - case.moment(case.steps))
     if 10 * left <= gathered.last - gathered.first:
         return []
-    return [f"The window is from {plain(case.start)} to {plain(case.moment(case.steps))} UTC, and the log from "
-            f"{plain(gathered.first)} to "
-            f"{plain(gathered.last)}: what lies outside was not audited. --start and --ticks set another window, and "
-            "tools/colregs-many audits a long log."]
+    return [f"The window is from {utc(case.start)} to {utc(case.moment(case.steps))} UTC, and the log from "
+            f"{utc(gathered.first)} to {utc(gathered.last)}: what lies outside was not audited. --start and --ticks "
+            "set another window, and tools/colregs-many audits a long log."]
 
 
 def doubts(case: Case, gathered: Gathered, findings: Sequence[Finding]) -> list[str]:
@@ -158,9 +147,8 @@ def doubts(case: Case, gathered: Gathered, findings: Sequence[Finding]) -> list[
     still = [row for row in case.verdicts if case.rest(row) in ("subject", "both")]
     if still:
         found.append(f"{len(still):,} of {count(len(case.verdicts), 'verdict is', 'verdicts are')} of vessels that "
-                     "never make half a knot in the stretch. "
-                     "They may lie at anchor or alongside, where the rules ask nothing of them; their rows are marked "
-                     "`at rest`.")
+                     "never make half a knot in the stretch. They may lie at anchor or alongside, where the rules ask "
+                     "nothing of them; their rows are marked `at rest`.")
     for name, told in gathered.unread.items():
         found.append(f"Not understood, and left out: {count(told.count, 'line')}: {name}. One of them: {told.example}")
     return found + [capital(words) + "." for words in gathered.notes]

@@ -20,6 +20,14 @@ class Track:
         self.times, self.xs, self.ys = times or array("q"), xs or array("d"), ys or array("d")
         self.speeds, self.courses = speeds or array("h"), courses or array("h")
 
+    def add(self, at: int, x: float, y: float, speed: int, course: int) -> None:
+        """Adds a report after those that are there."""
+        self.times.append(at)
+        self.xs.append(x)
+        self.ys.append(y)
+        self.speeds.append(speed)
+        self.courses.append(course)
+
     def between(self, first: float, last: float) -> range:
         """Returns the numbers of the reports from the last one at or before a time to the first one at or after
         another."""

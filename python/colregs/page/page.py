@@ -92,7 +92,7 @@ def meetings(case: Case, marks: Marks, numbers: Mapping[int, int]) -> list[dict[
     steps."""
     found: dict[tuple[int, int, int, int], list[Meeting]] = {}
     for row in case.meetings:
-        found.setdefault((min(row.pair), max(row.pair), row.first, row.last), []).append(row)
+        found.setdefault((*row.both, row.first, row.last), []).append(row)
     entries, rules = [], narrative.by_pair(case)
     for key in sorted(found, key=lambda key: (key[2], key[3], key[:2])):
         rows = found[key]

@@ -31,8 +31,8 @@ def beside() -> str | None:
     """Returns the path of a program next to the tool. Returns None if the tool is not a file, because that would search
     the current folder."""
     tool = os.path.realpath(sys.argv[0])
-    return os.path.join(os.path.dirname(tool),
-                        "colregs") if not sys.argv[0].startswith("-") and os.path.isfile(tool) else None
+    is_file = not sys.argv[0].startswith("-") and os.path.isfile(tool)
+    return os.path.join(os.path.dirname(tool), "colregs") if is_file else None
 
 
 def built(path: str) -> str:
@@ -104,6 +104,11 @@ class Run:
         self.status, self.text = done.returncode, done.stdout
         self.words = done.stderr.decode("utf-8", "replace").strip()
 
+    def fault(self, mode: str) -> Fault:
+        """Returns why there is no report of a mode: the status, the line on standard error, and what to do."""
+        step = next_step(self.status, self.words) or "; docs/ROWS.md says what to do at each status"
+        return Fault(f"`{mode}` ended with status {self.status}, {self.words}{step}")
+
     def rows(self, kind: str) -> list[list[bytes]]:
         """Returns the fields of each row of a kind; only a vessel's name may contain a comma."""
         head = kind.encode() + b","
@@ -142,8 +147,7 @@ def report_of(program: str, mode: str, scenario: str, log: str, good: Container[
     """
     done = Run(program, mode, scenario, log, options)
     if done.status not in good:
-        step = next_step(done.status, done.words) or "; docs/ROWS.md says what to do at each status"
-        raise Fault(f"`{mode}` ended with status {done.status}, {done.words}{step}")
+        raise done.fault(mode)
     return done.text.decode()
 
 

@@ -12,7 +12,7 @@ from collections.abc import Iterable, Iterator, Mapping
 from dataclasses import dataclass
 from typing import Any, BinaryIO
 
-from colregs.io.lines import LONGEST, Stamps
+from colregs.io.lines import LONGEST, stamp_of
 from colregs.io.sentences import block, hull_part, sentence
 from colregs.io.sieve import Sieve, part_of
 from colregs.shares.reads import COPY, LINES, SEEK, SKIP, Ended, Read, lines_within, needed, opened, pieces, skip
@@ -59,13 +59,12 @@ class Cutting:
     only move the clock."""
 
     def __init__(self, cut: Cut) -> None:
-        self.cut, self.stamps = cut, Stamps()
-        self.time, self.clock = cut.time, cut.clock
+        self.cut, self.time, self.clock = cut, cut.time, cut.clock
         self.shown: int | None = None                   # the time of the last line in the cut
 
     def lines(self, lines: Iterable[bytes]) -> Iterator[bytes]:
         """Yields the lines of the window. A line with the same tag block as the line before is treated like it."""
-        cut, stamp_of, time, clock, shown = self.cut, self.stamps.of, self.time, self.clock, self.shown
+        cut, time, clock, shown = self.cut, self.time, self.clock, self.shown
         first, last, begin, end, slack = cut.first, cut.last, cut.begin, cut.end, cut.slack
         tag, kept = b"\n", False                        # only an empty line begins so, and it changes nothing
         for line in lines:

@@ -10,7 +10,7 @@ from typing import NamedTuple
 
 from colregs.errors import Fault, reason
 from colregs.io.files import sum_of
-from colregs.io.lines import LONGEST, OF_LINES, TAGS, Stamps, stamp_of_block
+from colregs.io.lines import LONGEST, OF_LINES, TAGS, stamp_of, stamp_of_block
 from colregs.io.packing import packing
 from colregs.run.pipes import reader
 
@@ -136,12 +136,11 @@ def take_block(span: Span, lines: bytes, until: int | None) -> None:
 
 
 def tags_of(lines: bytes) -> list[bytes]:
-    """Returns the tag blocks of lines that are short enough to be read, in order."""
+    """Returns the tag blocks, in order, of the lines that are short enough for the program."""
     if not may_be_long(lines) or max(map(len, lines.split(b"\n"))) <= LONGEST:
         tags = TAGS.findall(b"\n" + lines)
         return OF_LINES.findall(b"\n" + lines) if b"\n" in b"".join(tags) else tags
-    stamps = Stamps()
-    return [line[:line.find(b"\\", 1) + 1] for line in lines.split(b"\n") if stamps.of(line) is not None]
+    return [line[:line.find(b"\\", 1) + 1] for line in lines.split(b"\n") if stamp_of(line) is not None]
 
 
 def may_be_long(lines: bytes) -> bool:

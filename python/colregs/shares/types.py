@@ -10,7 +10,7 @@ import re
 from collections.abc import Iterable
 from dataclasses import dataclass, field
 
-from colregs.io.lines import JOINED_WITHIN, Bits, Joiner, Message, Stamps, bits_of, sender_of, sentence_of
+from colregs.io.lines import JOINED_WITHIN, Bits, Joiner, Message, bits_of, sender_of, sentence_of, stamp_of
 
 RANKED = (30, 36)                   # fishing and sailing: the ship types that count
 HOUR = 3600                         # s
@@ -58,7 +58,7 @@ class Types:
 
     def __init__(self, begin: int, end: int, slack: int, firsts: list[int]) -> None:
         self.begin, self.end, self.slack, self.firsts = begin, end, slack, sorted(firsts)
-        self.stamps, self.joiner = Stamps(), Joiner()
+        self.joiner = Joiner()
         self.time: int | None = None
         self.clock: int | None = None
         self.notes: dict[int, list[Stretch]] = {}
@@ -69,7 +69,7 @@ class Types:
     def take(self, lines: Iterable[bytes]) -> None:
         """Takes lines of the log."""
         for line in lines:
-            stamp, clock = self.stamps.of(line), self.clock
+            stamp, clock = stamp_of(line), self.clock
             if stamp is not None:
                 self.time = stamp
                 if self.begin <= stamp <= self.end and (clock is None or stamp > clock):

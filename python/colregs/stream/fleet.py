@@ -150,11 +150,7 @@ class Fleet:
         track = ship.track
         if track.times and at <= track.times[-1]:
             return
-        track.times.append(at)
-        track.xs.append(int(fields[3]) / METRE)
-        track.ys.append(int(fields[4]) / METRE)
-        track.speeds.append(int(fields[5] or NONE))
-        track.courses.append(int(fields[6] or NONE))
+        track.add(at, int(fields[3]) / METRE, int(fields[4]) / METRE, int(fields[5] or NONE), int(fields[6] or NONE))
         self.cut(track, at - SPAN)
         self.clock = max(self.clock, at)
         self.moved.add(mmsi)

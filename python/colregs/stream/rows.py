@@ -88,6 +88,9 @@ class File:
         self.out.close()
 
 
+NOT_RUN = 126, 127        # statuses of a shell that cannot run its command
+
+
 class Command:
     """A shell command that reads rows. If it has ended, each row starts it again at most once."""
 
@@ -118,7 +121,8 @@ class Command:
                 self.child.stdin.close()
             except OSError:
                 pass
-            self.child.wait()
+            if self.child.wait() in NOT_RUN:
+                raise Fault(f"`{self.words}` cannot be run, and took no rows")
 
 
 class Written:

@@ -12,6 +12,7 @@ from colregs.io.files import replace
 
 # bytes of a read; s between checks of a file; s before a command restarts
 BLOCK, PAUSE, AGAIN = 1 << 16, 0.2, 5
+STATE = "source.json"           # in the folder of the day files: how far a log was read
 
 
 Mark = dict[str, int] | None                 # the position of taken lines, for a restart
@@ -101,6 +102,8 @@ class File:
         self.path, self.state, self.ends = path, state, ends
         if not os.path.exists(path):
             raise Fault(f"{path} does not exist")
+        if os.path.isdir(path):
+            raise Fault(f"{path} is a folder, and no log")
 
     def place(self) -> int:
         """Returns the offset at which an earlier run stopped, if the file is the same; otherwise 0."""
