@@ -7,3 +7,4 @@ pub mod WrittenChoices
 pub mod ToldEntries
 pub mod FoundTargets
 pub mod Replays
+pub mod Courses

@@ -1,5 +1,6 @@
-//! A prefix of plans.
+//! Prefixes of plans.
 ghost use Rattle.std.specs.Prelude.{◌≡◌, ◌≤◌, length};
+ghost use Rattle.refutations.specs.Inner.Replays.{HaveInCommon};
 
 use smallvec::SmallVec;
 use std::alloc::Global;
@@ -42,4 +43,17 @@ impl Prefix {
     {
         self.choices.as_slice()
     }
+}
+
+/// How many first legs two plans have in common.
+pub(crate) fn legs_in_common(plan: &[u16], other: &[u16]) -> usize
+    ensures { HaveInCommon plan.now other.now result }
+{
+    let legs = plan.len().min(other.len());
+    for leg in 0..legs {
+        if plan[leg] != other[leg] {
+            return leg;
+        }
+    }
+    legs
 }

@@ -8,11 +8,10 @@ ghost use Rattle.plan_situations.specs.FailingPlans.{BeginsAt, BreaksAt};
 ghost use Rattle.plan_situations.specs.Situations.{end_of, now_of, own_at, target_at, terms_of, IsSituation, IsTarget};
 ghost use Rattle.plan_situations.specs.declared.situation.Situation.{Situation};
 ghost use Rattle.plan_situations.specs.declared.situation.Target.{Target};
-ghost use Rattle.refutations.specs.Inner.Replays.{HaveInCommon};
 
 use crate::course::Course;
 use crate::goodness::horizon;
-use crate::prefix::Prefix;
+use crate::prefix::{Prefix, legs_in_common};
 use meetings::{AtomRow, Follower};
 use out_of_memory::Memory;
 use plan_situations::{Situation, Target};
@@ -26,19 +25,6 @@ pub(crate) struct TraceSoFar {
     start: u32,
     rows: Vec<AtomRow>,
     followers: Vec<Follower>,
-}
-
-/// How many first legs two plans have in common.
-fn legs_in_common(plan: &[u16], other: &[u16]) -> usize
-    ensures { HaveInCommon plan.now other.now result }
-{
-    let legs = plan.len().min(other.len());
-    for leg in 0..legs {
-        if plan[leg] != other[leg] {
-            return leg;
-        }
-    }
-    legs
 }
 
 impl TraceSoFar {
