@@ -8,10 +8,16 @@ use Rattle.mtl_formulas.specs.Traces.{Trace}
 use Rattle.plan_situations.specs.FailingPlans.{EntersDomain, FailsTowards}
 use Rattle.plan_situations.proofs.FlatList.{some_here}
 use Rattle.planner.specs.Inner.Breaking.{Tells, formulas_of}
-use Rattle.planner.specs.Inner.Levels.{IsBasis, IsToldAtNow, StandsAt, StaysOut}
+use Rattle.plan_situations.specs.Boxes.{ahead_from, HoldsPath}
+use Rattle.plan_situations.specs.Prefixes.{steps_told}
+use Rattle.plan_situations.specs.declared.boxes.Bounds.{Bounds}
+use Rattle.planner.specs.Inner.Legs.{IsPlannedLeg}
+use Rattle.planner.specs.Inner.Levels.{AreBeside, HasPlaces, IsBasis, IsToldAtNow, StandsAt, StaysOut}
 use Rattle.planner.specs.Inner.Watching.{IsCutAtNow, Stands}
 use Rattle.planner.specs.declared.already.Already.{Already}
 use Rattle.planner.specs.declared.basis.SearchBasis.{SearchBasis}
+use Rattle.planner.specs.declared.legs.PlannedLeg.{PlannedLeg}
+use Rattle.planner.specs.declared.level.Level.{Level}
 use Rattle.plan_situations.specs.declared.situation.Situation.{Situation}
 use Rattle.plan_situations.specs.declared.situation.Target.{Target}
 use Rattle.planner.specs.declared.watched.Watched.{Watched}
@@ -115,3 +121,18 @@ followed_here s basis is plan start end from k T A W next is_target is_already i
     let tells' = subst (λ (x : Already). Tells (formulas_of s) cut x) same_already tells in
     subst (λ (x : Target). Stands basis.program s plan x cut end next) (sym same_target)
     (goes cut is_cut' tells' (stands_here s basis plan start from k T A W is_target is_already is_from inside stands cut is_cut' tells'))
+
+-- ---- boxes
+
+-- The box of a target holds her, whatever serves in the place of what no list has.
+pub beside_here : (s : Situation) (first ticks : ℕ) (beside : List Bounds) (k : ℕ) (T : Target) → AreBeside s first ticks beside → k < length s.targets → T ≡ get_or s.targets k T
+    → (b : Bounds) → HoldsPath (get_or beside k b) (ahead_from T first ticks)
+beside_here s first ticks beside k T are inside is_target b =
+    subst (λ (t : Target). HoldsPath (get_or beside k b) (ahead_from t first ticks)) (sym is_target) (are.each k T b inside)
+
+-- The boxes that stand beside a place stand beside the leg that is followed there.
+pub beside_leg : (s : Situation) (leg : PlannedLeg) (basis : SearchBasis) (level : Level) → IsPlannedLeg s leg → HasPlaces s basis leg.index level
+    → AreBeside s leg.begins (length level.path.items) level.beside.items
+beside_leg s leg basis level is places =
+    subst (λ (n : ℕ). AreBeside s n (length level.path.items) level.beside.items) (sym is.from)
+    (subst (λ (n : ℕ). AreBeside s (steps_told s.lattice leg.index) n level.beside.items) (sym places.path) places.beside)

@@ -39,7 +39,7 @@ fn first_plan(situation: &Situation, legs: u8, number: u32) -> Plan
 }
 
 /// How many ticks after now a leg begins.
-fn leg_begins(situation: &Situation, leg: u8) -> u32
+pub(crate) fn leg_begins(situation: &Situation, leg: u8) -> u32
     requires { leg < situation.now.lattice.legs }
     ensures { result ≡ leg * situation.now.lattice.leg_ticks }
 {

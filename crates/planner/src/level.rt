@@ -1,10 +1,11 @@
 //! The state after a prefix of the legs of a plan.
 ghost use Rattle.std.specs.Prelude.{ℕ, ◌≡◌, ◌+◌, ◌-◌, ◌*◌, ◌/◌, ◌<◌, ◌≤◌, ◌^◌, ◌⊎◌, ◌↔◌, IfOk, IsSome, IsTrue, List, false, true, length, get_or, All};
-ghost use Rattle.lattice.specs.Grids.{choices_of};
+ghost use Rattle.lattice.specs.Grids.{choices_of, positions_of};
 ghost use Rattle.mtl_monitor.specs.Following.{Fits, HasRoom};
 ghost use Rattle.plan_situations.specs.FailingPlans.{BreaksARule, FailsBy, Some_};
 ghost use Rattle.planner.specs.Inner.Legs.{lasts, legs_before, legs_through, IsPathIn, IsPlannedLeg};
-ghost use Rattle.planner.specs.Inner.Levels.{AreEarly, AreFollowed, HasPlaces, HasTargets, IsAfter, IsBasis, IsFollowedTo, IsOnLeg, StandsAt, StaysOut};
+ghost use Rattle.planner.specs.Inner.Levels.{AreBeside, AreEarly, AreFollowed, HasPlaces, HasTargets, IsAfter, IsBasis, IsFollowedTo, IsOnLeg, StandsAt, StaysOut};
+ghost use Rattle.plan_situations.specs.Boxes.{HoldsPath};
 ghost use Rattle.plan_situations.specs.Paths.{EntersAlong};
 ghost use Rattle.plan_situations.specs.Prefixes.{reached, PrefixFails};
 ghost use Rattle.plan_situations.specs.Situations.{end_of, now_of, IsSituation};
@@ -22,7 +23,7 @@ use fixed_geometry::Point;
 use motion::TickState;
 use mtl_monitor::{Program, TraceState};
 use out_of_memory::Memory;
-use plan_situations::{Situation, Target};
+use plan_situations::{Bounds, Situation, Target};
 use std::alloc::Global;
 
 /// Own ship's path in the last leg of the prefix, and what is kept of each target after it.
@@ -32,6 +33,10 @@ pub struct Level {
     pub(crate) watched: Vec<Watched>,
     /// Where traces are ended, to see what they would result in.
     pub(crate) ending: TraceState,
+    /// A box that holds the path.
+    pub(crate) bounds: Bounds,
+    /// For each target a box that holds her predicted path in the leg.
+    pub(crate) beside: Vec<Bounds>,
     /// The index of the target whose domain was entered last.
     entered: usize,
     /// The index of the target towards which a rule was broken last.
@@ -56,17 +61,44 @@ fn path_of(alloc: Global, ticks: usize) -> Result<Vec<TickState>, Memory>
     Ok(path)
 }
 
+/// Returns for each target a box that holds her predicted path at this many ticks from one on, which is counted from now.
+fn all_beside(
+    alloc: Global,
+    situation: &Situation,
+    first: u32,
+    ticks: u32,
+) -> Result<Vec<Bounds>, Memory>
+    requires situation { IsSituation situation.now }
+    requires some { 1 ≤ ticks }
+    requires planned { first + ticks ≤ positions_of situation.now.lattice + 1 }
+    ensures { IfOk result (λ beside. AreBeside situation.now first ticks beside.items) }
+{
+    let mut beside = Vec::new(alloc);
+    for target in situation.targets.as_slice() {
+        beside.push(situation.bounds_ahead(target, first, ticks))?;
+    }
+    Ok(beside)
+}
+
 /// Returns the first target whose domain own ship enters in a leg, by its index.
-fn entered(situation: &Situation, leg: &PlannedLeg, path: &[TickState]) -> Option<usize>
+fn entered(
+    situation: &Situation,
+    leg: &PlannedLeg,
+    path: &[TickState],
+    bounds: &Bounds,
+    beside: &[Bounds],
+) -> Option<usize>
     requires situation { IsSituation situation.now }
     requires path { IsPathIn situation.now leg.now path.now }
+    requires bounds { HoldsPath bounds.now path.now }
+    requires beside { AreBeside situation.now leg.now.begins (length path.now) beside.now }
     ensures { IsSome result
         ↔ Some_ (λ (target : Target). EntersAlong situation.now leg.now.plan target
         (now_of situation.now + leg.now.begins) (length path.now - 1)) situation.now.targets }
 {
     let targets = situation.targets.as_slice();
     for index in 0..targets.len() {
-        if situation.enters_along(path, &targets[index], leg.begins) {
+        if situation.enters_beside(path, &targets[index], leg.begins, bounds, &beside[index]) {
             return Some(index);
         }
     }
@@ -74,33 +106,51 @@ fn entered(situation: &Situation, leg: &PlannedLeg, path: &[TickState]) -> Optio
 }
 
 /// Returns whether own ship enters the domain of the target with this index in a leg, if there is one.
-fn enters_one(situation: &Situation, leg: &PlannedLeg, path: &[TickState], index: usize) -> bool
+fn enters_one(
+    situation: &Situation,
+    leg: &PlannedLeg,
+    path: &[TickState],
+    bounds: &Bounds,
+    beside: &[Bounds],
+    index: usize,
+) -> bool
     requires situation { IsSituation situation.now }
     requires path { IsPathIn situation.now leg.now path.now }
+    requires bounds { HoldsPath bounds.now path.now }
+    requires beside { AreBeside situation.now leg.now.begins (length path.now) beside.now }
     ensures { IsTrue result
         → Some_ (λ (target : Target). EntersAlong situation.now leg.now.plan target
         (now_of situation.now + leg.now.begins) (length path.now - 1)) situation.now.targets }
 {
     let targets = situation.targets.as_slice();
     if index < targets.len() {
-        return situation.enters_along(path, &targets[index], leg.begins);
+        return situation.enters_beside(path, &targets[index], leg.begins, bounds, &beside[index]);
     }
     false
 }
 
 /// Returns whether own ship enters some target's domain in a leg. The target whose domain was entered last is asked
 /// first: plans that begin alike mostly fail for the same one.
-fn enters(situation: &Situation, leg: &PlannedLeg, path: &[TickState], latest: &mut usize) -> bool
+fn enters(
+    situation: &Situation,
+    leg: &PlannedLeg,
+    path: &[TickState],
+    bounds: &Bounds,
+    beside: &[Bounds],
+    latest: &mut usize,
+) -> bool
     requires situation { IsSituation situation.now }
     requires path { IsPathIn situation.now leg.now path.now }
+    requires bounds { HoldsPath bounds.now path.now }
+    requires beside { AreBeside situation.now leg.now.begins (length path.now) beside.now }
     ensures { IsTrue result
         ↔ Some_ (λ (target : Target). EntersAlong situation.now leg.now.plan target
         (now_of situation.now + leg.now.begins) (length path.now - 1)) situation.now.targets }
 {
-    if enters_one(situation, leg, path, *latest) {
+    if enters_one(situation, leg, path, bounds, beside, *latest) {
         return true;
     }
-    match entered(situation, leg, path) {
+    match entered(situation, leg, path, bounds, beside) {
         Some(index) => {
             *latest = index;
             true
@@ -262,6 +312,8 @@ impl Level {
             path: Vec::new(alloc),
             watched,
             ending: TraceState::new(alloc, program)?,
+            bounds: Bounds::at(NOWHERE.point),
+            beside: Vec::new(alloc),
             entered: 0,
             broken: 0,
         })
@@ -272,10 +324,14 @@ impl Level {
         alloc: Global,
         situation: &Situation,
         basis: &SearchBasis,
+        begins: u32,
         ticks: u32,
     ) -> Result<Level, Memory>
-        requires { IsBasis situation.now basis.now }
+        requires basis { IsBasis situation.now basis.now }
+        requires planned { begins + ticks ≤ positions_of situation.now.lattice }
         ensures path { IfOk result (λ level. length level.path.items ≡ ticks + 1) }
+        ensures beside { IfOk result
+            (λ level. AreBeside situation.now begins (ticks + 1) level.beside.items) }
         ensures targets { IfOk result
             (λ level. HasTargets situation.now basis.now level.watched.items) }
         ensures fits { IfOk result (λ level. Fits basis.now.program level.ending) }
@@ -285,10 +341,13 @@ impl Level {
         for _target in situation.targets.as_slice() {
             watched.push(basis.unwatched(alloc, situation)?)?;
         }
+        let beside = all_beside(alloc, situation, begins, ticks + 1)?;
         Ok(Level {
             path: path_of(alloc, ticks as usize + 1)?,
             watched,
             ending: TraceState::new(alloc, &basis.program)?,
+            bounds: Bounds::at(NOWHERE.point),
+            beside,
             entered: 0,
             broken: 0,
         })
@@ -303,6 +362,8 @@ impl Level {
         requires fits { Fits basis.now.program self.old.ending }
         requires room { HasRoom basis.now.program self.old.ending }
         ensures path { self.new.path ≡ self.old.path }
+        ensures bounds { self.new.bounds ≡ self.old.bounds }
+        ensures beside { self.new.beside ≡ self.old.beside }
         ensures watched { self.new.watched ≡ self.old.watched }
         ensures fits { Fits basis.now.program self.new.ending }
         ensures room { HasRoom basis.now.program self.new.ending }
@@ -322,6 +383,7 @@ impl Level {
             → IsOnLeg situation.now basis leg.now self.new }
     {
         situation.fill_path(&leg.plan, leg.begins, leg.own, &mut self.path);
+        self.bounds = Bounds::around(&self.path);
     }
 
     /// Returns whether own ship enters some target's domain in the leg whose path is filled in.
@@ -329,6 +391,9 @@ impl Level {
         requires situation { IsSituation situation.now }
         requires leg { IsPlannedLeg situation.now leg.now }
         requires path { IsPathIn situation.now leg.now self.old.path.items }
+        requires bounds { HoldsPath self.old.bounds self.old.path.items }
+        requires beside { AreBeside situation.now leg.now.begins
+            (length self.old.path.items) self.old.beside.items }
         ensures on { (basis : SearchBasis) → IsOnLeg situation.now basis leg.now self.old
             → IsOnLeg situation.now basis leg.now self.new }
         ensures fails { result ≡ true
@@ -337,7 +402,14 @@ impl Level {
             → StaysOut situation.now leg.now.plan (reached situation.now leg.now.index)
             → StaysOut situation.now leg.now.plan (reached situation.now (leg.now.index + 1)) }
     {
-        enters(situation, leg, &self.path, &mut self.entered)
+        enters(
+            situation,
+            leg,
+            &self.path,
+            &self.bounds,
+            &self.beside,
+            &mut self.entered,
+        )
     }
 
     /// Returns whether some position is newly broken towards some target if the traces end before the leg. This is

@@ -1,9 +1,10 @@
 //! Following own ship's path in a leg towards a target.
-ghost use Rattle.std.specs.Prelude.{◌≡◌, ◌+◌, ◌↔◌, IsTrue, false};
+ghost use Rattle.std.specs.Prelude.{◌≡◌, ◌+◌, ◌↔◌, IsTrue, false, length};
 ghost use Rattle.mtl_monitor.specs.Following.{Fits, HasRoom};
 ghost use Rattle.mtl_formulas.specs.Traces.{Trace};
 ghost use Rattle.planner.specs.Inner.Legs.{IsPathIn, IsPlannedLeg};
 ghost use Rattle.planner.specs.Inner.Watching.{IsCut, IsEarly, IsFollowed, IsReady, IsTowards, Stands};
+ghost use Rattle.plan_situations.specs.Boxes.{ahead_from, HoldsPath};
 ghost use Rattle.plan_situations.specs.FailingPlans.{EntersDomain, FailsTowards};
 ghost use Rattle.plan_situations.specs.Prefixes.{reached};
 
@@ -12,7 +13,7 @@ use crate::legs::PlannedLeg;
 use crate::watched::Watched;
 use motion::TickState;
 use mtl_monitor::{Program, TraceState};
-use plan_situations::{Situation, Target};
+use plan_situations::{Bounds, Situation, Target};
 
 /// A target of a situation, the rules as one program, and what is broken at now towards her.
 #[derive(Clone, Copy)]
@@ -88,6 +89,8 @@ impl Towards<'_> {
         from: &Watched,
         watched: &mut Watched,
         ending: &mut TraceState,
+        bounds: &Bounds,
+        beside: &Bounds,
     ) -> bool
         requires towards { IsTowards self.now }
         requires leg { IsPlannedLeg self.now.situation.now leg.now }
@@ -97,6 +100,9 @@ impl Towards<'_> {
         requires ready { IsReady self.now.program.now watched.old }
         requires fits { Fits self.now.program.now ending.old }
         requires room { HasRoom self.now.program.now ending.old }
+        requires bounds { HoldsPath bounds.now path.now }
+        requires beside { HoldsPath beside.now
+            (ahead_from self.now.target.now leg.now.begins (length path.now)) }
         ensures ready { IsReady self.now.program.now watched.new }
         ensures fits { Fits self.now.program.now ending.new }
         ensures room { HasRoom self.now.program.now ending.new }
@@ -115,7 +121,10 @@ impl Towards<'_> {
             → IsTrue result ↔ FailsTowards self.now.situation.now leg.now.plan
             (reached self.now.situation.now (leg.now.index + 1)) self.now.target.now }
     {
-        if self.situation.enters_along(path, self.target, leg.begins) {
+        if self
+            .situation
+            .enters_beside(path, self.target, leg.begins, bounds, beside)
+        {
             return true;
         }
         if self.follow_from(leg, path, from, watched) {

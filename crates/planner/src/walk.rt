@@ -1,26 +1,27 @@
 //! A walk over the prefixes of plans, which finds the target towards which each one fails first.
-ghost use Rattle.std.specs.Prelude.{ℕ, ◌≡◌, ◌+◌, ◌/◌, ◌^◌, ◌<◌, ◌≤◌, All, IfOk, IsNone, List, [], MatchOption, take, true};
+ghost use Rattle.std.specs.Prelude.{ℕ, ◌≡◌, ◌+◌, ◌/◌, ◌^◌, ◌<◌, ◌≤◌, All, IfOk, IsNone, List, [], MatchOption, length, take, true};
 ghost use Rattle.lattice.specs.Grids.{choices_of};
 ghost use Rattle.lattice.specs.PlanNumbers.{plan_of};
 ghost use Rattle.mtl_monitor.specs.Following.{count_of, Fits, HasRoom, IsProgramOf};
 ghost use Rattle.planner.specs.Inner.Breaking.{formulas_of};
 ghost use Rattle.planner.specs.Inner.Legs.{IsPathIn, IsPlannedLeg};
-ghost use Rattle.planner.specs.Inner.Levels.{AreEarly, ArePlaces, HasTargets, IsBasis, IsPrepared, StandsAt, StaysOut};
+ghost use Rattle.planner.specs.Inner.Levels.{AreBeside, AreEarly, ArePlaces, HasTargets, IsBasis, IsPrepared, StandsAt, StaysOut};
 ghost use Rattle.planner.specs.Walks.{HasPlace, IsFirstFailing, IsGround, IsWalk, Keeps};
 ghost use Rattle.rule_program.specs.Lags.{IsNoLast};
+ghost use Rattle.plan_situations.specs.Boxes.{HoldsPath};
 ghost use Rattle.plan_situations.specs.FailingPlans.{FailsBy};
 ghost use Rattle.plan_situations.specs.Prefixes.{reached};
 ghost use Rattle.plan_situations.specs.Situations.{IsSituation};
 
 use crate::basis::{SearchBasis, watched_at_now};
-use crate::legs::{PlannedLeg, leg_lasts, own_at_leg};
+use crate::legs::{PlannedLeg, leg_begins, leg_lasts, own_at_leg};
 use crate::level::Level;
 use crate::towards::Towards;
 use crate::watched::Watched;
 use motion::TickState;
 use mtl_monitor::TraceState;
 use out_of_memory::Memory;
-use plan_situations::Situation;
+use plan_situations::{Bounds, Situation};
 use rule_program::{are_no_last, program_of};
 use std::alloc::Global;
 
@@ -93,8 +94,9 @@ fn places(alloc: Global, situation: &Situation, basis: &SearchBasis) -> Result<V
 {
     let mut below = Vec::new(alloc);
     for leg in 0..situation.lattice.legs() {
+        let begins = leg_begins(situation, leg);
         let ticks = leg_lasts(situation, leg);
-        below.push(Level::new(alloc, situation, basis, ticks)?)?;
+        below.push(Level::new(alloc, situation, basis, begins, ticks)?)?;
     }
     Ok(below)
 }
@@ -131,6 +133,8 @@ fn first_failing(
     from: &[Watched],
     watched: &mut [Watched],
     ending: &mut TraceState,
+    bounds: &Bounds,
+    beside: &[Bounds],
 ) -> Option<usize>
     requires basis { IsBasis situation.now basis.now }
     requires leg { IsPlannedLeg situation.now leg.now }
@@ -143,6 +147,8 @@ fn first_failing(
     requires targets { HasTargets situation.now basis.now watched.old }
     requires fits { Fits basis.now.program ending.old }
     requires room { HasRoom basis.now.program ending.old }
+    requires bounds { HoldsPath bounds.now path.now }
+    requires beside { AreBeside situation.now leg.now.begins (length path.now) beside.now }
     ensures targets { HasTargets situation.now basis.now watched.new }
     ensures fits { Fits basis.now.program ending.new }
     ensures room { HasRoom basis.now.program ending.new }
@@ -163,7 +169,15 @@ fn first_failing(
             target: &situation.targets.as_slice()[k],
             already: &basis.already[k],
         };
-        if towards.fails_by(leg, path, &from[k], &mut watched[k], ending) {
+        if towards.fails_by(
+            leg,
+            path,
+            &from[k],
+            &mut watched[k],
+            ending,
+            bounds,
+            &beside[k],
+        ) {
             return Some(k);
         }
     }
@@ -206,6 +220,8 @@ impl Level {
             &from.watched,
             &mut self.watched,
             &mut self.ending,
+            &self.bounds,
+            &self.beside,
         )
     }
 }

@@ -9,7 +9,9 @@ use Rattle.rule_program.specs.Lags.{IsNoLast}
 use Rattle.planner.specs.Inner.Breaking.{Tells, formulas_of}
 use Rattle.planner.specs.Inner.Legs.{IsPathIn, lasts}
 use Rattle.planner.specs.Inner.Watching.{IsCutAtNow, IsEarly, IsReady, Stands}
-use Rattle.plan_situations.specs.Prefixes.{reached}
+use Rattle.plan_situations.specs.Boxes.{ahead_from, HoldsPath}
+use Rattle.plan_situations.specs.Prefixes.{reached, steps_told}
+use Rattle.plan_situations.specs.declared.boxes.Bounds.{Bounds}
 use Rattle.plan_situations.specs.Situations.{IsSituation, now_of}
 use Rattle.planner.specs.declared.already.Already.{Already}
 use Rattle.planner.specs.declared.basis.SearchBasis.{SearchBasis}
@@ -42,17 +44,24 @@ pub record HasTargets (situation : Situation) (basis : SearchBasis) (watched : L
 abbrev pub AreEarly : ℕ → List Watched → Type 0
 AreEarly at watched = All (IsEarly at) watched
 
--- A level has the places for a leg.
+-- Each target has a box, which holds her predicted path at this many ticks from one on that is counted from now.
+pub record AreBeside (situation : Situation) (first ticks : ℕ) (beside : List Bounds) : Type 0 where
+  pub count : length beside ≡ length situation.targets
+  pub each : (k : ℕ) (t : Target) (b : Bounds) → k < length situation.targets → HoldsPath (get_or beside k b) (ahead_from (get_or situation.targets k t) first ticks)
+
+-- A level has the places for a leg, and the boxes beside it.
 pub record HasPlaces (situation : Situation) (basis : SearchBasis) (leg : ℕ) (level : Level) : Type 0 where
   pub path : length level.path.items ≡ lasts situation leg + 1
+  pub beside : AreBeside situation (steps_told situation.lattice leg) (lasts situation leg + 1) level.beside.items
   pub targets : HasTargets situation basis level.watched.items
   pub fits : monitor.Fits basis.program level.ending
   pub room : monitor.HasRoom basis.program level.ending
 
--- It has them, and own ship's path in the leg.
+-- It has them, and own ship's path in the leg with a box that holds it.
 pub record IsOnLeg (situation : Situation) (basis : SearchBasis) (leg : PlannedLeg) (level : Level) : Type 0 where
   pub places : HasPlaces situation basis leg.index level
   pub path : IsPathIn situation leg level.path.items
+  pub bounds : HoldsPath level.bounds level.path.items
 
 -- What is kept stands for the steps of a plan up to a tick.
 abbrev pub StandsAt : Situation → SearchBasis → List ℕ → ℕ → List Watched → Type 0

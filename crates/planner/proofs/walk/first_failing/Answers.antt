@@ -11,7 +11,7 @@ use Rattle.planner.specs.declared.already.Already.{Already}
 use Rattle.plan_situations.specs.declared.situation.Target.{Target}
 use Rattle.planner.specs.declared.watched.Watched.{Watched}
 use Rattle.plan_situations.proofs.FlatList.{none_some, none_so_far_of}
-use Rattle.planner.proofs.Places.{done_set, rightly_told, rules_few, stands_here}
+use Rattle.planner.proofs.Places.{beside_here, done_set, rightly_told, rules_few, stands_here}
 use Rattle.planner.proofs.walk.first_failing.Goals as goal
 
 pub fails_by-requires-clause-towards : goal.fails_by-requires-clause-towards
@@ -48,6 +48,18 @@ fails_by-requires-clause-early c =
     let of_from = c.requires.from.count in
     let lt = c.loop-k-test.true in
     subst (IsEarly (reached c.args.situation.now c.args.leg.now.index)) (sym c.index-from-k.is) (c.requires.early c.loop-k.k c.index-from-k.result (omega arith))
+
+pub fails_by-requires-clause-beside : goal.fails_by-requires-clause-beside
+fails_by-requires-clause-beside c =
+    let s = c.args.situation.now in
+    let k = c.loop-k.k in
+    let count = c.requires.targets.count in
+    let long = c.loop-k.invariant.count in
+    let lt = c.loop-k-test.true in
+    let inside : k < length s.targets = omega arith in
+    let T = c.index-as_slice-k.result in
+    let is_target : T ≡ get_or s.targets k T = c.index-as_slice-k.is ∙ ap (λ (xs : List Target). get_or xs k T) c.as_slice.ensures in
+    beside_here s c.args.leg.now.begins (length c.args.path.now) c.args.beside.now k T c.requires.beside inside is_target _
 
 pub returns-then-fails_by-clause-targets : goal.returns-then-fails_by-clause-targets
 returns-then-fails_by-clause-targets c =

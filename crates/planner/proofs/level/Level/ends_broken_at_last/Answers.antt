@@ -6,11 +6,13 @@ returns-then-leg-clause-on c =
     record {
       places = record {
         path = rw c.ends_broken.ensures.path on.places.path;
+        beside = rw c.ends_broken.ensures.beside on.places.beside;
         targets = rw c.ends_broken.ensures.watched on.places.targets;
         fits = c.ends_broken.ensures.fits;
         room = c.ends_broken.ensures.room;
       };
       path = rw c.ends_broken.ensures.path on.path;
+      bounds = rw (c.ends_broken.ensures.bounds, c.ends_broken.ensures.path) on.bounds;
     }
 
 pub returns-then-leg-clause-breaks : goal.returns-then-leg-clause-breaks

@@ -5,8 +5,9 @@ use Rattle.planner.proofs.level.Level.ends_broken_before.Goals as goal
 
 pub returns-clause-on : goal.returns-clause-on
 returns-clause-on c = λ leg on. record {
-  places = record { path = on.places.path; targets = on.places.targets; fits = c.ends_broken.ensures.fits; room = c.ends_broken.ensures.room };
+  places = record { path = on.places.path; beside = on.places.beside; targets = on.places.targets; fits = c.ends_broken.ensures.fits; room = c.ends_broken.ensures.room };
   path = on.path;
+  bounds = on.bounds;
 }
 
 pub returns-clause-breaks : goal.returns-clause-breaks

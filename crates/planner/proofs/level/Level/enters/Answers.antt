@@ -1,7 +1,9 @@
-use Rattle.std.proofs.Common.{◌≡◌, ℕ, ◌+◌, ◌-◌, length, sym, subst, arith}
+use Rattle.std.proofs.Common.{◌≡◌, ℕ, ◌+◌, ◌-◌, List, length, sym, subst, arith}
 use Rattle.plan_situations.specs.FailingPlans.{FailsBy}
 use Rattle.planner.specs.Inner.Legs.{IsPathIn}
-use Rattle.planner.specs.Inner.Levels.{StaysOut}
+use Rattle.motion.specs.declared.leg.TickState.{TickState}
+use Rattle.plan_situations.specs.Boxes.{HoldsPath}
+use Rattle.planner.specs.Inner.Levels.{AreBeside, StaysOut}
 use Rattle.plan_situations.specs.Prefixes.{reached}
 use Rattle.plan_situations.specs.Situations.{now_of}
 use Rattle.planner.proofs.Extending.{along_fails, still_out}
@@ -10,10 +12,21 @@ use Rattle.planner.proofs.level.Level.enters.Goals as goal
 pub enters-requires-clause-path : goal.enters-requires-clause-path
 enters-requires-clause-path c = subst (IsPathIn c.args.situation.now c.args.leg.now) (sym c.deref.ensures.value) c.requires.path
 
+pub enters-requires-clause-bounds : goal.enters-requires-clause-bounds
+enters-requires-clause-bounds c = subst (HoldsPath c.args.self.now.bounds) (sym c.deref.ensures.value) c.requires.bounds
+
+pub enters-requires-clause-beside : goal.enters-requires-clause-beside
+enters-requires-clause-beside c =
+    let s = c.args.situation.now in
+    let begins = c.args.leg.now.begins in
+    subst (λ (path : List TickState). AreBeside s begins (length path) c.deref-2.result.now) (sym c.deref.ensures.value)
+    (subst (AreBeside s begins (length c.args.self.now.path.items)) (sym c.deref-2.ensures.value) c.requires.beside)
+
 pub returns-clause-on : goal.returns-clause-on
 returns-clause-on c = λ basis on. record {
-  places = record { path = on.places.path; targets = on.places.targets; fits = on.places.fits; room = on.places.room };
+  places = record { path = on.places.path; beside = on.places.beside; targets = on.places.targets; fits = on.places.fits; room = on.places.room };
   path = on.path;
+  bounds = on.bounds;
 }
 
 pub returns-clause-fails : goal.returns-clause-fails

@@ -1,6 +1,7 @@
 use Rattle.std.proofs.Common.{◌+◌, arith}
 use Rattle.plan_situations.specs.Prefixes.{reached}
 use Rattle.planner.proofs.Extending.{breaks_fails, early_to_end, from_through, level_before, level_through, none_fails, out_before, out_through, to_before, to_through}
+use Rattle.planner.proofs.Places.{beside_leg}
 use Rattle.planner.proofs.level.Level.extend.Goals as goal
 
 pub fill_path-requires-clause-places : goal.fill_path-requires-clause-places
@@ -8,6 +9,13 @@ fill_path-requires-clause-places c = c.requires.places.path
 
 pub enters-requires-clause-path : goal.enters-requires-clause-path
 enters-requires-clause-path c = (c.fill_path.ensures c.args.basis.now c.requires.places).path
+
+pub enters-requires-clause-bounds : goal.enters-requires-clause-bounds
+enters-requires-clause-bounds c = (c.fill_path.ensures c.args.basis.now c.requires.places).bounds
+
+pub enters-requires-clause-beside : goal.enters-requires-clause-beside
+enters-requires-clause-beside c =
+    beside_leg c.args.situation.now c.args.leg.now c.args.basis.now c.fill_path.new.self c.requires.leg (c.fill_path.ensures c.args.basis.now c.requires.places).places
 
 pub returns-then-enters-clause-places : goal.returns-then-enters-clause-places
 returns-then-enters-clause-places c = (c.enters.ensures.on c.args.basis.now (c.fill_path.ensures c.args.basis.now c.requires.places)).places

@@ -1,4 +1,5 @@
 use Rattle.std.proofs.Common.{◌≡◌, ◌+◌, length, sym, ap, subst, ◌∙◌, arith}
+use Rattle.plan_situations.specs.Boxes.{HoldsPath}
 use Rattle.planner.specs.Inner.Legs.{IsPathIn, lasts}
 use Rattle.planner.proofs.Extending.{ends_there}
 use Rattle.planner.proofs.Places.{written}
@@ -16,7 +17,7 @@ returns c = λ basis has.
     let ends = ends_there s leg c.requires.leg (length new) filled in
     let kept = sym (written new c.args.self.now.path.items c.args.self.now.path.len (filled ∙ sym c.requires.places) c.args.self.now.path.ok.0) in
     record {
-      places = record { path = ap length (sym kept) ∙ filled; targets = has.targets; fits = has.fits; room = has.room };
+      places = record { path = ap length (sym kept) ∙ filled; beside = has.beside; targets = has.targets; fits = has.fits; room = has.room };
       path = subst (IsPathIn s leg) kept (record {
         some = omega arith;
         planned = ends.1;
@@ -24,4 +25,5 @@ returns c = λ basis has.
         states = c.fill_path.ensures.path;
         track = c.fill_path.ensures.track;
       });
+      bounds = subst (HoldsPath c.around-self.result) c.deref.ensures.value c.around-self.ensures;
     }

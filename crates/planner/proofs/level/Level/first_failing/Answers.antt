@@ -9,7 +9,7 @@ use Rattle.planner.specs.Inner.Legs.{legs_through}
 use Rattle.planner.specs.Inner.Levels.{AreEarly, HasPlaces, HasTargets, StandsAt}
 use Rattle.planner.specs.Walks.{IsFirstFailing}
 use Rattle.planner.proofs.Extending.{first_here, level_before, level_through, none_found, out_before, out_of_all, out_through, shorter_number}
-use Rattle.planner.proofs.Places.{written}
+use Rattle.planner.proofs.Places.{beside_leg, written}
 use Rattle.planner.proofs.level.Level.first_failing.Goals as goal
 
 pub own_at_leg-own-requires-clause-number : goal.own_at_leg-own-requires-clause-number
@@ -80,6 +80,18 @@ first_failing-requires-clause-path c =
     let place : HasPlaces s c.args.basis.now c.new-leg.result.index c.args.self.now = rw c.new-leg.ensures.index c.requires.place in
     rw c.deref.ensures.value (c.fill_path.ensures c.args.basis.now place).path
 
+pub first_failing-requires-clause-bounds : goal.first_failing-requires-clause-bounds
+first_failing-requires-clause-bounds c =
+    let s = c.args.situation.now in
+    let place : HasPlaces s c.args.basis.now c.new-leg.result.index c.args.self.now = rw c.new-leg.ensures.index c.requires.place in
+    rw c.deref.ensures.value (c.fill_path.ensures c.args.basis.now place).bounds
+
+pub first_failing-requires-clause-beside : goal.first_failing-requires-clause-beside
+first_failing-requires-clause-beside c =
+    let s = c.args.situation.now in
+    let place : HasPlaces s c.args.basis.now c.new-leg.result.index c.args.self.now = rw c.new-leg.ensures.index c.requires.place in
+    rw (c.deref.ensures.value, c.deref-3.ensures.value) (beside_leg s c.new-leg.result c.args.basis.now c.fill_path.new.self c.new-leg.ensures.leg (c.fill_path.ensures c.args.basis.now place).places)
+
 pub first_failing-requires-clause-from : goal.first_failing-requires-clause-from
 first_failing-requires-clause-from c = rw c.deref-2.ensures.value c.requires.from.targets
 
@@ -115,6 +127,7 @@ returns-clause-place c =
     let kept = sym (written new old.items old.len (c.first_failing.ensures.targets.count ∙ sym on.places.targets.count) old.ok.0) in
     record {
       path = rw (← c.new-leg.ensures.index) on.places.path;
+      beside = rw (← c.new-leg.ensures.index) on.places.beside;
       targets = subst (HasTargets s basis) kept c.first_failing.ensures.targets;
       fits = c.first_failing.ensures.fits;
       room = c.first_failing.ensures.room;

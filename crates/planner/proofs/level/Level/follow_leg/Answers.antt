@@ -17,11 +17,13 @@ returns-clause-on c =
     record {
       places = record {
         path = places.path;
+        beside = places.beside;
         targets = subst (HasTargets c.args.situation.now c.args.basis.now) (sym (written new old.items old.len (c.follow_all.ensures.targets.count ∙ sym places.targets.count) old.ok.0)) c.follow_all.ensures.targets;
         fits = places.fits;
         room = places.room;
       };
       path = c.requires.on.path;
+      bounds = c.requires.on.bounds;
     }
 
 pub returns-clause-early : goal.returns-clause-early
