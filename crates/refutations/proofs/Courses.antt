@@ -20,7 +20,7 @@ use Rattle.plan_situations.proofs.ForCallers.{same_point, same_reached, same_sta
 use Rattle.lattice.specs.declared.under_way.UnderWay.{UnderWay}
 use Rattle.refutations.specs.Inner.Replays.{AreBeginnings, AreSteeredAlike, HaveInCommon}
 
--- ---- a path of which the first states stay
+-- ---- a path whose first states stay
 
 module _ (s : Situation) (X Y : List ℕ) (n : ℕ) (alike : AreSteeredAlike s X Y n) (old back : List TickState) (within : n < length old) (is : IsPath s X 0 old) where
   abbrev pub new : List TickState

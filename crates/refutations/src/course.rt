@@ -38,7 +38,8 @@ fn refill(situation: &Situation, plan: &Plan, first: u32, own: UnderWay, path: &
     requires own { HasReached situation.now plan.now first own }
     ensures whole { length path.new ≡ length path.old }
     ensures path { (other : List ℕ) → IsPath situation.now other 0 path.old
-        → AreSteeredAlike situation.now other plan.now first → IsPath situation.now plan.now 0 path.new }
+        → AreSteeredAlike situation.now other plan.now first
+        → IsPath situation.now plan.now 0 path.new }
     ensures track { (other : List ℕ) → IsPath situation.now other 0 path.old → IsTrack path.old
         → AreSteeredAlike situation.now other plan.now first → IsTrack path.new }
 {
