@@ -456,7 +456,8 @@ class Streams(WithScenario):
                                         (28950000, -74100000 + east, speed, 2700 * k, 0, 0), 5)) + b"\n").decode())
         self.write("s.toml", crowd.harbour().replace("risk = 300", "risk = 900").replace("clear = 600", "clear = 1800"))
         alarms = self.follow("".join(lines), "--whole", "--days", "plain")
-        rows = self.follow("".join(lines), "--whole", "--stretches")
+        # A window that begins with the stream may lack alarms of the pair, which is a line of its own.
+        rows = [row for row in self.follow("".join(lines), "--whole", "--stretches") if row["kind"] != "unsure"]
         shown = self.follow("".join(lines), "--whole", "--stretches", "--at-rest", "--days", "shown")
         self.assertTrue(alarms)
         self.assertEqual([row["kind"] for row in rows], ["hidden"])
