@@ -385,10 +385,11 @@ class Streams(WithScenario):
     PATIENT = ["--patience", "600"]
 
     def follow(self, log: str, *words: str) -> list[Any]:
+        """Returns the lines of a followed log, but for those that name pairs whose alarms a window may lack."""
         status, out, error = self.tool("colregs-follow", "s.toml", *self.WORDS, *self.PATIENT, *words,
                                        source=log.encode())
         self.assertEqual((status, error), (0, ""))
-        return [json.loads(line) for line in out.splitlines()]
+        return [row for row in map(json.loads, out.splitlines()) if row["kind"] != "unsure"]
 
     def spans(self, alarms: list[Any]) -> dict[tuple[int, int, str], list[tuple[int, int]]]:
         """Returns the stretches of rows of alarms."""
@@ -456,8 +457,7 @@ class Streams(WithScenario):
                                         (28950000, -74100000 + east, speed, 2700 * k, 0, 0), 5)) + b"\n").decode())
         self.write("s.toml", crowd.harbour().replace("risk = 300", "risk = 900").replace("clear = 600", "clear = 1800"))
         alarms = self.follow("".join(lines), "--whole", "--days", "plain")
-        # A window that begins with the stream may lack alarms of the pair, which is a line of its own.
-        rows = [row for row in self.follow("".join(lines), "--whole", "--stretches") if row["kind"] != "unsure"]
+        rows = self.follow("".join(lines), "--whole", "--stretches")
         shown = self.follow("".join(lines), "--whole", "--stretches", "--at-rest", "--days", "shown")
         self.assertTrue(alarms)
         self.assertEqual([row["kind"] for row in rows], ["hidden"])
