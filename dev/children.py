@@ -77,9 +77,10 @@ def _stopped(number: int, _: object) -> None:
     raise KeyboardInterrupt
 
 
-def end_as_interrupted() -> None:
-    """Makes the signals that end a process raise KeyboardInterrupt, so that work in progress is stopped and removed."""
-    for number in (signal.SIGTERM, signal.SIGHUP):
+def end_as_interrupted(is_ignored: bool = True) -> None:
+    """Makes the signals that end a process raise KeyboardInterrupt, so that work in progress is stopped and removed.
+    Ctrl-C does so too, unless it is ignored or Python has seen to it."""
+    for number in (signal.SIGTERM, signal.SIGHUP, *[signal.SIGINT] * (not is_ignored)):
         signal.signal(number, _stopped)
 
 

@@ -12,7 +12,7 @@ from typing import IO, List, NamedTuple, Optional
 
 from . import unproved
 from .repository import Fault, PROGRAM, TOP, path_of, say
-from .sums import Record, as_text, sum_of, sums
+from .sums import Record, Unchanged, as_text, sum_of
 
 PROVED = path_of("crates", PROGRAM, "out", PROGRAM)
 CACHED_PROGRAMS = 4      # the most programs in the cache; the oldest is removed first
@@ -80,12 +80,21 @@ def _is_proved(begun: int) -> Optional[str]:
     return None
 
 
+def _confirm_room(folder: str) -> None:
+    """Raises Fault if the disk of a folder has too little room for a build."""
+    free = shutil.disk_usage(folder).free
+    if free < unproved.NEEDED_DISK:
+        raise Fault("cannot build: the disk of %s has %d MB free, and a build takes up to %d MB; free some, or name a "
+                    "folder on another disk in COLREGS_CACHE" % (folder, free // 10**6, unproved.NEEDED_DISK // 10**6))
+
+
 def _unproved(folder: str) -> str:
     """Returns the path of the program of these sources; builds it if the cache has none."""
     # A program depends on its sources and on its build tools.
     names = ("clauses.py", "kit.py", "module_parts.py", "module_text.py", "unproved.py")
     builders = [path_of("dev", name) for name in names]
-    key = hashlib.sha256((as_text(sums("src")) + "".join(map(sum_of, builders))).encode()).hexdigest()
+    sources = Unchanged()
+    key = hashlib.sha256((as_text(sources.sums) + "".join(map(sum_of, builders))).encode()).hexdigest()
     program = os.path.join(folder, "%s-%s" % (PROGRAM, key[:16]))
     if os.path.exists(program):
         return program
@@ -93,9 +102,10 @@ def _unproved(folder: str) -> str:
         if not os.path.exists(program):
             for left in glob.glob(os.path.join(glob.escape(folder), "building-*")):
                 shutil.rmtree(left, ignore_errors=True)
+            _confirm_room(folder)
             say("nothing is built of these sources yet; building the program without its proofs, which takes a minute "
                 "or two")
-            unproved.build(program)
+            unproved.build(program, sources)
             known = sorted(glob.glob(os.path.join(glob.escape(folder), PROGRAM + "-*")), key=os.path.getmtime)
             for old in known[:-CACHED_PROGRAMS]:
                 os.remove(old)
@@ -115,8 +125,12 @@ def choose(is_unproved_wanted: bool = False) -> Choice:
     program = _unproved(folder)
     if not is_unproved_wanted:
         new = os.path.join(folder, "choice.%d" % os.getpid())
-        with open(new, "w", encoding="utf-8") as out:
-            out.write("%s\n%s\n%s\n" % (TOP, program, notice))
-        stamp(new, begun)
-        os.replace(new, os.path.join(folder, "choice"))
+        try:
+            with open(new, "w", encoding="utf-8") as out:
+                out.write("%s\n%s\n%s\n" % (TOP, program, notice))
+            stamp(new, begun)
+            os.replace(new, os.path.join(folder, "choice"))
+        finally:
+            if os.path.exists(new):
+                os.remove(new)
     return Choice(program, notice)

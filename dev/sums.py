@@ -3,9 +3,9 @@ from __future__ import annotations
 
 import hashlib
 import os
-from typing import Dict, List, Optional
+from typing import Dict, Iterable, List, Optional
 
-from .repository import PROGRAM, TOP, crates_of, files_of, listed_crates, path_of, read_if_there
+from .repository import Fault, PROGRAM, TOP, crates_of, files_of, listed_crates, path_of, read_if_there
 
 
 def sum_of(path: str) -> str:
@@ -20,6 +20,35 @@ def sums(*parts: str) -> Dict[str, str]:
     listed = listed_crates()
     paths = [path_of("crates.txt"), *[file for crate in crates_of(PROGRAM, listed) for file in files_of(crate, *parts)]]
     return {os.path.relpath(path, TOP): sum_of(path) for path in paths}
+
+
+def times(paths: Iterable[str]) -> Dict[str, int]:
+    """Returns when each of these files of the repository changed last, by the time that the system keeps and no tool
+    sets. It shows a change that was undone. A file that does not exist is left out."""
+    found = {}
+    for path in paths:
+        try:
+            found[path] = os.stat(path_of(path)).st_ctime_ns
+        except FileNotFoundError:
+            pass
+    return found
+
+
+class Unchanged:
+    """The sources of the program at one moment, to notice if one changes."""
+
+    def __init__(self) -> None:
+        self.sums = sums("src")
+        self._times = times(self.sums)
+
+    def confirm(self) -> None:
+        """Raises Fault if a source was changed, added or removed since that moment, even if the change was undone."""
+        now = sums("src")
+        known = {**self.sums, **now}
+        later = times(known)
+        for path in sorted(known):
+            if self.sums.get(path) != now.get(path) or self._times.get(path) != later.get(path):
+                raise Fault("cannot build: %s changed during the build; run the command again" % path)
 
 
 def as_text(known: Dict[str, str]) -> str:

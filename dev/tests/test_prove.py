@@ -2,7 +2,6 @@
 from __future__ import annotations
 
 import os
-import re
 import signal
 import time
 import unittest
@@ -101,16 +100,6 @@ class Prove(InRepository):
         self.assertEqual(
             [it for it in os.listdir(os.path.join(self.top, "crates/colregs/out/rlib")) if it.startswith("at-work")],
             [])
-
-    def running(self) -> list[str]:
-        """Returns the command lines of what still runs of the kit that is made up."""
-        found = []
-        for name in filter(str.isdigit, os.listdir("/proc")):
-            try:
-                found.append(text_of("/proc/%s/cmdline" % name).replace("\0", " "))
-            except (OSError, UnicodeDecodeError):
-                pass
-        return [it for it in found if re.search(re.escape(self.path("kit")) + "/bin/rattle", it)]
 
 
 if __name__ == "__main__":

@@ -11,6 +11,7 @@ be marked or named in the doubts. Status 0 means that all numbers passed.
 import argparse
 import concurrent.futures
 import contextlib
+import functools
 import gzip
 import io
 import itertools
@@ -23,6 +24,7 @@ import tempfile
 import time
 import unittest.mock
 from collections import Counter
+from collections.abc import Callable, Sequence
 from dataclasses import dataclass, field
 from typing import Any
 
@@ -249,9 +251,9 @@ def draw_tracks(draw: random.Random, log: Log) -> None:
         mmsi += 1
 
 
-def drawn(number: int) -> Drawn:
+def drawn(number: int, themes: Sequence[Theme] = THEMES) -> Drawn:
     """Returns the log of a number, with its scenario and plan."""
-    draw, theme = random.Random(number), THEMES[number % len(THEMES)]
+    draw, theme = random.Random(number), themes[number % len(themes)]
     made = Drawn(ticks=draw.randrange(150, 400))
     made.text = draw_scenario(draw, made.ticks, theme)
     log = Log(draw, made.ticks * TICK, theme)
@@ -418,17 +420,22 @@ def tried(number: int, program: str, folder: str) -> Outcome:
     return Outcome(word, faults, len(joined), len(marked))
 
 
-def of_number(work: tuple[int, str, str | None, float | None]) -> Outcome | None:
+Work = tuple[int, str, str | None, float | None]        # a number, the program, the folder, and when to begin no more
+Tried = Callable[[int, str, str], Outcome]
+
+
+def of_number(work: Work, try_number: Tried = tried) -> Outcome | None:
     """Returns the outcome of a number; None if its time was over."""
     number, program, keep, end = work
     if end is not None and time.time() > end:
         return None
     with tempfile.TemporaryDirectory() as folder, contextlib.redirect_stderr(io.StringIO()):
-        return tried(number, program, keep or folder)
+        return try_number(number, program, keep or folder)
 
 
-def main() -> int:
-    words = argparse.ArgumentParser(description=__doc__, formatter_class=argparse.RawDescriptionHelpFormatter)
+def run_numbers(doc: str, try_number: Tried) -> int:
+    """Tries the numbers of the command line; returns the exit status."""
+    words = argparse.ArgumentParser(description=doc, formatter_class=argparse.RawDescriptionHelpFormatter)
     words.add_argument("program")
     words.add_argument("--first", type=int, default=1)
     words.add_argument("--count", type=int, default=100)
@@ -442,7 +449,8 @@ def main() -> int:
     end = begin + given.seconds if given.seconds else None
     work = [(number, found(given.program), given.keep, end) for number in range(given.first, given.first + given.count)]
     with concurrent.futures.ProcessPoolExecutor(given.jobs) as pool:
-        for (number, *_), outcome in zip(work, pool.map(of_number, work, chunksize=4)):
+        outcomes = pool.map(functools.partial(of_number, try_number=try_number), work, chunksize=4)
+        for (number, *_), outcome in zip(work, outcomes):
             if outcome is None:
                 continue
             counts[outcome.word] += 1
@@ -454,6 +462,10 @@ def main() -> int:
     print(f"{counts.total()} logs, {rows} rows, {marked} of them marked, {failed} failed, {time.time() - begin:.0f} s: "
           f"{dict(counts)}")
     return 1 if failed or not counts else 0
+
+
+def main() -> int:
+    return run_numbers(__doc__ or "", tried)
 
 
 if __name__ == "__main__":

@@ -139,7 +139,8 @@ class Once(Streams):
             child.send_signal(number)
             self.assertEqual(child.wait(30), -9 if number == signal.SIGKILL else 0)
         self.follow("--log", log, "--out", "out", "--whole")
-        self.assertEqual(sorted(self.rows(text_of(self.path("out")))), sorted(self.whole()))
+        told = set(text_of(self.path("out")).splitlines())          # a kill between two writes can repeat a row
+        self.assertEqual(sorted(self.rows("\n".join(told))), sorted(self.whole()))
 
     def offset(self) -> int:
         return int(json.loads(text_of(self.path("days/source.json")))["offset"])
@@ -196,6 +197,8 @@ class Meetings(InFolder):
         told = [json.loads(line) for line in out.splitlines()]
         done = subprocess.run([PROGRAM, "audit", self.path("s.toml")], input=text, capture_output=True)
         whole = [absolute(row, drawn_logs.START) for row in crowd.stretches(done.stdout.decode())]
+        self.unsure = [line for line in told if line["kind"] == "unsure"]
+        told = [line for line in told if line["kind"] != "unsure"]
         marked = [line for line in told if MARKS & set(line)]
         return [absolute(row["row"], row["run"]) for row in told if not MARKS & set(row)], marked, whole
 
@@ -248,13 +251,13 @@ class Meetings(InFolder):
         self.assertEqual([line["encounter"] for line in found if line.get("ends_after") and line["kind"] == "meeting"],
                          ["head_on", "head_on"])
 
-    def test_windows_that_differ_about_a_pair_say_so(self) -> None:
+    def test_windows_that_accept_different_reports_say_so(self) -> None:
         # the window from 600 s on begins with a report of the far vessel, and then takes none of the near one's
         shared = [*test_joins.way(test_joins.YACHT, 0, 0, 0, 22, x=30000, to=2900), *test_joins.two(at=2300, to=5400)]
         rows, _, whole = self.followed(shared, test_joins.SCENARIO.replace("ticks = 2160", "ticks = 540"), "--overlap",
                                        "2000")
-        self.assertIn(f"differ about {test_joins.YACHT} and {test_joins.CARGO}; two vessels may share an MMSI",
-                      self.error)
+        self.assertIn(f"accept different reports of {test_joins.YACHT}; two vessels may share an MMSI", self.error)
+        self.assertIn((test_joins.YACHT, None), {(line["subject"], line["other"]) for line in self.unsure})
         self.assertLessEqual(set(rows), set(whole))
 
     def check_alarms(self, rows: list[tuple[float, bytes]], scenario: str, *words: str) -> tuple[list[Any], list[str]]:
@@ -269,7 +272,7 @@ class Meetings(InFolder):
             fields = row.split(",")
             who, at = {int(fields[1]), int(fields[2])}, iso(int(fields[4]))
             self.assertTrue(any(line["kind"] == "unsure" and line["begins"] <= at < line["ends"]
-                                and {line["subject"], line["other"]} in (who, {None}) for line in told), row)
+                                and {line["subject"], line["other"]} - {None} <= who for line in told), row)
         self.assertEqual(len(alarms), len({line["row"] + str(line["run"]) for line in alarms}))
         return told, whole
 
@@ -301,7 +304,7 @@ class Meetings(InFolder):
         shared = [*test_joins.way(test_joins.YACHT, 0, 0, 0, 22, x=30000, to=2900), *test_joins.two(at=2300, to=5400)]
         told, _ = self.check_alarms(shared, test_joins.SCENARIO.replace("ticks = 2160", "ticks = 540"), "--overlap",
                                     "2000")
-        self.assertIn((test_joins.YACHT, test_joins.CARGO),
+        self.assertIn((test_joins.YACHT, None),
                       {(line["subject"], line["other"]) for line in told if line["kind"] == "unsure"})
 
     def test_alarms_of_a_formula_that_is_not_of_meetings_are_in_doubt(self) -> None:
@@ -453,17 +456,20 @@ class Parts(InFolder):
         clock = Clock()
         leapt = 1000 + LEAP
         for at, told in ((1000, 1000), (990, 1000), (leapt, leapt), (10**9, leapt), (2000, leapt)):
-            self.assertEqual(clock.take(b"\\c:%d*00\\" % at), told)
+            self.assertEqual(clock.take(sentences.block(at)), told)
+        # the program takes no time from a damaged tag block, and none from a line that is too long
+        for line in (sentences.block(leapt + 9)[:-2] + b"x\\", sentences.block(leapt + 9) + b"!" * 2000):
+            self.assertEqual(clock.take(line), leapt)
         for k in range(SURE):
-            clock.take(b"\\c:%d*00\\" % (10 ** 9 + k))
+            clock.take(sentences.block(10 ** 9 + k))
         self.assertEqual(clock.time, 10 ** 9)
 
     def test_the_clock_of_most_goes_back(self) -> None:
         clock = MedianClock(30)
         for at, told in ((9000, 9000), (100, 100), (101, 101), (9001, 101), (102, 102)):
-            self.assertEqual(clock.take(b"\\c:%d*00\\" % at), told, at)
+            self.assertEqual(clock.take(sentences.block(at)), told, at)
         for name, at, told in (("a", 200, 200), ("b", 201, 201), ("c", 999, 201), ("a", 230, 230), ("d", 231, 231)):
-            self.assertEqual(clock.take(b"\\s:%s,c:%d*00\\" % (name.encode(), at)), told, name)
+            self.assertEqual(clock.take(sentences.block(at, b"s:" + name.encode())), told, name)
 
     def heard(self, clock: MedianClock, name: str, at: int) -> list[tuple[int | None, int | None]]:
         """Returns the stamps of the lines that a clock releases at a line of a station: as they arrived, and as they

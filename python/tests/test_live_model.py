@@ -476,7 +476,7 @@ class States(WithScenario):
             block(START) + sentence(class_a(200000001, report, 0)),
             block(START) + sentence(name_part(200000001, "ALPHA"))
         ], START)
-        state.point(f"point,200000001,{START},0,0,100,900")
+        state.points([f"point,200000001,{START},0,0,100,900"])
         change = state.change()
         self.assertEqual(change["vessels"], [[200000001, START, -123.5, 48.25, 10.0, 90.0, 90]])
         self.assertEqual(

@@ -149,7 +149,10 @@ class Pages(WithHarbour):
 
     def shows(self, script: str) -> Any:
         """Waits until an expression of the page is true; returns its value."""
-        return self.until(lambda: self.value(script), script)
+        try:
+            return self.until(lambda: self.value(script))
+        except AssertionError:
+            raise AssertionError(f"{script} is not true of a page that says\n{self.value('document.body.innerText')}")
 
     def check_quiet(self) -> None:
         """Checks that the page reported no errors except lost connections, which it restores, and requested no other
@@ -254,11 +257,20 @@ class Pages(WithHarbour):
         self.until(lambda: any("/meeting" in url for url in self.tab.asked))
         self.check_quiet()
 
+    def has_encounters(self, moment: int, count: int) -> bool:
+        """Moves the slider to a moment, and returns whether the page then lists so many encounters. Rows that settle
+        later are not in the answer, so a test asks again."""
+        self.value(f'document.getElementById("slider").value = {moment}; '
+                   'document.getElementById("slider").dispatchEvent(new Event("input"))')
+        self.shows('document.getElementById("past-words").textContent.includes("settled rows")')
+        return self.value('document.querySelectorAll("#list-encounters li").length') == count
+
     def test_keys_filters_and_earlier_moments(self) -> None:
         server = self.live("--log", "log")
         self.grow("log", "".join(self.lines))
         self.open(server.url)
         self.shows('document.querySelectorAll("#list-alarms li.settled").length > 3')
+        self.shows(f'Number(document.getElementById("slider").max) > {crowd.START + 1900}')      # the log is read
         before = self.value("document.documentElement.dataset.theme")
         self.press("n")
         self.assertNotEqual(self.value("document.documentElement.dataset.theme"), before)
@@ -272,11 +284,8 @@ class Pages(WithHarbour):
                    'document.getElementById("filter-state").dispatchEvent(new Event("input"))')
         self.shows('document.querySelectorAll("#list-alarms li:not(.withdrawn)").length === 0')
         self.value('document.getElementById("clear").click()')
-        self.value(f'document.getElementById("slider").value = {crowd.START + 400}; '
-                   'document.getElementById("slider").dispatchEvent(new Event("input"))')
-        self.shows('document.getElementById("past-words").textContent.includes("settled rows")')
         self.press("2")
-        self.shows('document.querySelectorAll("#list-encounters li").length === 4')
+        self.until(lambda: self.has_encounters(crowd.START + 400, 4), self.value("document.body.innerText"))
         self.press("[")
         self.shows('document.getElementById("past-time").textContent.endsWith("22:19:00 UTC")')
         self.value('document.getElementById("moment").focus(); document.getElementById("moment").value = ""')

@@ -1,5 +1,5 @@
 -- A step at which no formula's value changes: the marks of the rules are those before.
-use Rattle.std.proofs.Common.{◌≡◌, ℕ, zero, suc, ◌+◌, ◌-◌, ◌<◌, List, [], ◌∷◌, ◌++◌, length, append_assoc, refl, sym, ap, subst, ◌∙◌, arith, length-append, Some}
+use Rattle.std.proofs.Common.{◌≡◌, ℕ, zero, suc, ◌+◌, ◌-◌, ◌<◌, List, [], ◌∷◌, ◌++◌, length, append_assoc, refl, sym, ap, subst, ◌∙◌, arith, length-append, Some, true}
 use Rattle.std.specs.Prelude.{Option}
 use Rattle.mtl_formulas.specs.FormulaTree.{FormulaTree}
 use Rattle.mtl_formulas.specs.FormulaMeasures.{reach_of}
@@ -8,17 +8,23 @@ use Rattle.mtl_formulas.specs.declared.verdict.Verdict.{Verdict}
 use Rattle.mtl_formulas.specs.declared.verdict.Verdict.TheVariants.{No, Open, Yes}
 use Rattle.mtl_monitor.specs.Following.{Follows, GivesTheSame, IsFed, formula_at, last_value}
 use Rattle.mtl_monitor.specs.Reaches.{greatest_reach}
-use Rattle.mtl_monitor.specs.Inner.Standing.{root_at, tree_at, late_at}
+use Rattle.mtl_monitor.proofs.Feeding.{last_given}
 use Rattle.mtl_formulas.specs.Traces.{Trace, value_in}
 use Rattle.mtl_monitor.specs.declared.program.Program.{Program}
 use Rattle.mtl_monitor.specs.declared.trace_state.TraceState.{TraceState}
+use Rattle.encounters.specs.Engagement.{IsEngaged}
+use Rattle.encounters.specs.declared.engagement_state.EngagementState.TheVariants.{Apart}
 use Rattle.encounters.specs.declared.pair_step.PairStep.{PairStep}
 use Rattle.audit_rows.specs.Stretches.{MarksEngagement}
 use Rattle.audit_rows.specs.Tracks.{Repeats, Track, longer}
 use Rattle.audit_rows.specs.declared.mark.Mark.{Mark}
+use Rattle.audit_rows.specs.declared.mark.Mark.TheVariants.{Nothing}
 use Rattle.audit_rows.specs.declared.row.Row.{Row}
 use Rattle.audit_rows.proofs.ForCallers.{repeated}
 use Rattle.traces.specs.Audited.{AuditNumbers}
+use Rattle.mtl_formulas.specs.declared.glance.Glance.{Glance}
+use Rattle.meetings.specs.declared.by_rank.ByRank.{ByRank}
+use Rattle.traces.specs.Keeping.{IsApartRow}
 use Rattle.traces.specs.Known.{Known, watched}
 use Rattle.auditor.specs.AuditTracks.{IsMeetingMark}
 use Rattle.auditor.specs.ValueMarks.{mark_of}
@@ -27,23 +33,10 @@ use Rattle.auditor.specs.TraceKeeping.{AreRuleMarksSoFar, AreRuleTracks, AreTrac
 use Rattle.auditor.specs.SettledRows.{formulas_of}
 use Rattle.audit_rows.specs.declared.row_queue.RowQueue.{RowQueue}
 use Rattle.auditor.specs.declared.trace.AuditTrace.{AuditTrace}
-use Rattle.auditor.proofs.TraceKeeping.{MarksMeeting, meeting_longer}
+use Rattle.auditor.proofs.TraceKeeping.{MarksMeeting, meeting_longer, meeting_marked}
 use Rattle.auditor.proofs.TraceTracks.{fed_marks, one_brought}
 
 -- ---- values
-
--- The last value of a formula is that at the position which the last row has decided.
-module _ (program : Program) (state : TraceState) (formulas : List FormulaTree) (rows : Trace) (follows : Follows program state formulas rows) where
-  last_is : (k : ℕ) → k < length formulas → reach_of (formula_at formulas k) < length rows → (more : Trace)
-      → last_value program state k ≡ value_in (rows ++ more) (formula_at formulas k) (length rows - 1 - reach_of (formula_at formulas k))
-  last_is k lt reach more =
-      let root = follows.of.each k lt in
-      let at = (root_at program.roots.items k).index in
-      let tree = formula_at formulas k in
-      let late : late_at program.nodes.items at ≡ reach_of tree = root.lateness ∙ root.late in
-      let gave = (follows.gives (omega arith) more).each at root.inside in
-      gave (omega arith) ∙ ap (λ (n : ℕ). value_in (rows ++ more) (tree_at follows.trees at) (length rows - 1 - n)) late
-      ∙ ap (λ (t : FormulaTree). value_in (rows ++ more) t (length rows - 1 - reach_of tree)) root.tree
 
 -- The formula's value at the position that the row decides is that at the position before.
 pub record Still (trace : Trace) (row : Atom → Verdict) (tree : FormulaTree) : Type 0 where
@@ -76,8 +69,8 @@ module _ (program : Program) (old new : TraceState) (formulas : List FormulaTree
       record {
         within = reach;
         value = last_value program new k;
-        now = λ more. last_is program new formulas (trace ++ row ∷ []) is k lt (omega arith) more ∙ ap (value_in ((trace ++ row ∷ []) ++ more) tree) at;
-        before = λ more. same k (omega arith) ∙ last_is program old formulas trace was k lt reach more;
+        now = λ more. last_given program new formulas (trace ++ row ∷ []) is k lt (omega arith) more ∙ ap (value_in ((trace ++ row ∷ []) ++ more) tree) at;
+        before = λ more. same k (omega arith) ∙ last_given program old formulas trace was k lt reach more;
       }
 
   pub all_still : greatest_reach formulas < length trace → AllStill trace row formulas
@@ -164,3 +157,24 @@ module _ (program : Program) (numbers : AuditNumbers) (trace : AuditTrace) (know
         keeps = subst (λ (ts : List Track). QueueStandsFor now ts bound given)
             (append_assoc before (then ∷ []) (rest.later ++ after) ∙ sym (append_assoc before (then ∷ rest.later) after)) rest.keeps;
       }
+
+-- ---- the step without its row
+
+module _ (program : Program) (numbers : AuditNumbers) (ranks : ℕ → ByRank) (trace : AuditTrace) (known : Known) (seen : Option PairStep) (row : Atom → Verdict) (glance : Glance)
+    (of : IsApartRow numbers ranks known seen glance row) (stands : StandsFor program numbers trace (watched known seen row))
+    (old : TraceState) (was : Follows program old (formulas_of numbers) known.trace) (same : GivesTheSame program old trace.values)
+    (count : length known.trace ≡ length known.steps) (reach : greatest_reach (formulas_of numbers) < length known.trace) where
+  apart_mark : IsMeetingMark numbers.detect (known.steps ++ seen ∷ []) (length known.steps) Nothing
+  apart_mark =
+      let last : length (known.steps ++ seen ∷ []) - 1 ≡ length known.steps = omega (arith, length-append known.steps (seen ∷ [])) in
+      subst (λ (i : ℕ). ¬ IsEngaged numbers.detect (known.steps ++ seen ∷ []) i) last of.is
+
+  pub rested_apart : (queue : RowQueue) (step : ℕ) → step ≡ known.start + length known.steps → (before mine after : List Track) (bound : ℕ) (given : List Row)
+      → AreTracksSoFar numbers known mine → QueueStandsFor queue (before ++ mine ++ after) bound given
+      → Steps program numbers trace known seen row queue before after bound given
+  rested_apart queue step at before mine after bound given tracks keeps =
+      rested program numbers trace known seen row Nothing stands apart_mark old was same reach (length before) queue queue
+      (meeting_marked numbers known seen Nothing Apart Apart true (length before) step queue queue at of.was of.is apart_mark
+      (λ _. refl) (λ _. refl) (λ _. omega (arith, at, count, reach))
+      (λ bound before after track given keeps e next repeats. repeated queue before after track Nothing bound given (repeats refl) keeps))
+      before mine after bound given tracks refl keeps

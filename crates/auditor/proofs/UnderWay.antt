@@ -9,7 +9,8 @@ use Rattle.mtl_formulas.specs.FormulaTree.{FormulaTree}
 use Rattle.mtl_formulas.specs.Traces.{Trace}
 use Rattle.mtl_monitor.specs.Following.{IsProgramOf, count_of}
 use Rattle.mtl_monitor.specs.declared.program.Program.{Program}
-use Rattle.meetings.specs.Answers.{answer_of}
+use Rattle.mtl_formulas.specs.declared.atom.Atom.{Atom}
+use Rattle.mtl_formulas.specs.declared.verdict.Verdict.{Verdict}
 use Rattle.meetings.specs.declared.by_rank.ByRank.{ByRank}
 use Rattle.rule_set.specs.NamedTrees.{NamedTree}
 use Rattle.audit_rows.specs.Standing.{QueueStandsFor}
@@ -18,9 +19,8 @@ use Rattle.audit_rows.specs.declared.mark.Mark.{Mark}
 use Rattle.audit_rows.specs.declared.row.Row.{Row}
 use Rattle.audit_rows.specs.declared.row_queue.RowQueue.{RowQueue}
 use Rattle.traces.specs.Audited.{AuditNumbers}
-use Rattle.traces.specs.Keeping.{IsAtStep, IsNextRow}
+use Rattle.traces.specs.Keeping.{IsAtStep}
 use Rattle.traces.specs.Known.{Known, watched}
-use Rattle.traces.specs.declared.next_row.NextRow.{NextRow}
 use Rattle.traces.proofs.ForCallers.{zip_at, zip_set}
 use Rattle.auditor.specs.Inner.AuditKeeping.{AreAllTracks, AreTracksOfAll}
 use Rattle.auditor.specs.Inner.TracesMarked.{AreEnding, AreMarked}
@@ -65,13 +65,13 @@ module _ (program : Program) (numbers : AuditNumbers) (is : IsProgramOf program 
       first_is ∙ ap (λ (n : ℕ). n * (count_of program + 1)) at
       ∙ sym (tracks_count AreMarks numbers (count_of program + 1) (sym (ap (λ (n : ℕ). n + 1) (program_length program numbers is))) before tracks all)
 
-  module _ (step : ℕ) (given : List Row) (queue queue' : RowQueue) (next : NextRow) (ranks : ℕ → ByRank) (kept : List AuditTrace) (other was after : AuditTrace) (done rest : List Known) (known : Known)
-      (seen : Option PairStep) (at : index ≡ length done) (here : get_or kept index other ≡ was) (is_at : IsAtStep step known) (row : IsNextRow numbers ranks known seen next)
+  module _ (step : ℕ) (given : List Row) (queue queue' : RowQueue) (answers : Atom → Verdict) (IsRow : AuditNumbers → (ℕ → ByRank) → Known → Option PairStep → Type 0) (ranks : ℕ → ByRank) (kept : List AuditTrace) (other was after : AuditTrace) (done rest : List Known) (known : Known)
+      (seen : Option PairStep) (at : index ≡ length done) (here : get_or kept index other ≡ was) (is_at : IsAtStep step known) (row : IsRow numbers ranks known seen)
       (it : (numbers : AuditNumbers) (ranks : ℕ → ByRank) (known : Known) (seen : Option PairStep) (front mine back : List Track) (bound : ℕ) (given : List Row)
-      → StandsFor program numbers was known → step ≡ known.start + length known.steps → IsNextRow numbers ranks known seen next → AreTracksSoFar numbers known mine → first ≡ length front
-      → QueueStandsFor queue (front ++ mine ++ back) bound given → Steps program numbers after known seen (answer_of next.row.now) queue' front back bound given) where
+      → StandsFor program numbers was known → step ≡ known.start + length known.steps → IsRow numbers ranks known seen → AreTracksSoFar numbers known mine → first ≡ length front
+      → QueueStandsFor queue (front ++ mine ++ back) bound given → Steps program numbers after known seen answers queue' front back bound given) where
     abbrev after_known : Known
-    after_known = watched known seen (answer_of next.row.now)
+    after_known = watched known seen answers
 
     by_tracks : AllZip (StandsFor program numbers) kept (done ++ known ∷ rest) → (front back : List Track) → AreAllTracks numbers done front → AreAllTracks numbers (known ∷ rest) back
         → QueueStandsFor queue (front ++ back) (settled_by numbers step) given → AreMarked program queue' numbers step (set kept index after) (done ++ after_known ∷ []) rest given

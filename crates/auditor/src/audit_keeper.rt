@@ -9,6 +9,7 @@ ghost use Rattle.auditor.specs.Tallies.{IsUnknown, begun_tracks};
 use crate::trace::AuditTrace;
 use audit_rows::{RowQueue, Topic};
 use meetings::Pair;
+use mtl_formulas::Glance;
 use mtl_monitor::Program;
 use out_of_memory::Memory;
 use std::alloc::Global;
@@ -67,6 +68,11 @@ impl TraceKeeper for AuditKeeper {
         let first = self.first_track(index);
         trace.step(&self.program, next, step, &mut self.queue, first)?;
         Ok(())
+    }
+
+    #[inline(always)]
+    fn rest(&self, _index: usize, trace: &mut AuditTrace, glance: Glance, step: u32) -> bool {
+        trace.rest(&self.program, glance, step)
     }
 
     fn end(&mut self, index: usize, trace: &mut AuditTrace) -> Result<(), Memory> {

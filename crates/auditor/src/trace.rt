@@ -1,5 +1,5 @@
 //! The marks of one trace.
-ghost use Rattle.std.specs.Prelude.{◌≡◌, ◌<◌, ◌^◌, ◌∷◌, ◌++◌, [], ℕ, List, length, Option, true, OnOk};
+ghost use Rattle.std.specs.Prelude.{◌≡◌, ◌<◌, ◌^◌, ◌∷◌, ◌++◌, [], ℕ, List, length, Option, false, true, OnOk};
 ghost use Rattle.std.specs.Option.{option_copied};
 ghost use Rattle.encounters.specs.Standing.{IsStateAfter};
 ghost use Rattle.encounters.specs.declared.detect.Detect.{Detect};
@@ -13,7 +13,7 @@ ghost use Rattle.auditor.specs.ValueMarks.{mark_of};
 use audit_rows::{Mark, RowQueue};
 use closest_approach::least;
 use encounters::{EngagementState, PairStep};
-use mtl_formulas::Verdict;
+use mtl_formulas::{Glance, Verdict};
 use mtl_monitor::{Program, TraceState};
 use out_of_memory::Memory;
 use std::alloc::Global;
@@ -88,7 +88,10 @@ impl AuditTrace {
     ghost use Rattle.mtl_monitor.specs.Reaches.{greatest_reach};
     ghost use Rattle.mtl_monitor.specs.declared.program.Program.{Program};
     ghost use Rattle.traces.specs.Audited.{AuditNumbers};
-    ghost use Rattle.traces.specs.Keeping.{IsNextRow};
+    ghost use Rattle.mtl_formulas.specs.declared.atom.Atom.{Atom};
+    ghost use Rattle.mtl_formulas.specs.declared.verdict.Verdict.{Verdict};
+    ghost use Rattle.audit_rows.specs.declared.row_queue.RowQueue.{RowQueue};
+    ghost use Rattle.traces.specs.Keeping.{IsApartRow, IsNextRow};
     ghost use Rattle.traces.specs.Known.{Known, opened};
     ghost use Rattle.auditor.specs.Inner.RowAnswers.{MarksRule, MarksRules};
     ghost use Rattle.auditor.specs.TraceKeeping.{AreTracksSoFar, HasTracksOf, IsReady, StandsFor, Steps, steps_of};
@@ -205,6 +208,29 @@ impl AuditTrace {
             return Ok(());
         }
         self.mark_rules(program, queue, first + 1)
+    }
+
+    /// Takes the next step without its row, if a glance at the row suffices: each mark repeats, as the vessels stay apart.
+    /// Otherwise changes nothing and returns false.
+    #[inline(always)]
+    pub fn rest(&mut self, program: &Program, glance: Glance, step: u32) -> bool
+        requires ready { IsReady program.now self.old }
+        requires few { steps_of self.old < 2 ^ 31 }
+        ensures stays { result ≡ false → self.new ≡ self.old }
+        ensures ready { IsReady program.now self.new }
+        ensures steps { result ≡ true → steps_of self.new ≡ steps_of self.old + 1 }
+        ensures rests { result ≡ true → (numbers : AuditNumbers) (ranks : ℕ → ByRank)
+            (known : Known) (seen : Option PairStep) (answers : Atom → Verdict) (queue : RowQueue)
+            (before mine after : List Track) (bound : ℕ) (given : List Row)
+            → StandsFor program.now numbers self.old known → step ≡ known.start + length known.steps
+            → IsApartRow numbers ranks known seen glance answers → AreTracksSoFar numbers known mine
+            → QueueStandsFor queue (before ++ mine ++ after) bound given
+            → Steps program.now numbers self.new known seen answers queue before after bound given }
+    {
+        if !self.has_answered(program, step) {
+            return false;
+        }
+        self.values.rest(program, glance)
     }
 
     /// Ends the trace and adds the marks of all remaining positions to its tracks.

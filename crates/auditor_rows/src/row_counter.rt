@@ -1,5 +1,6 @@
 //! Another keeper of traces, which counts the rows of each.
 use meetings::Pair;
+use mtl_formulas::Glance;
 use out_of_memory::Memory;
 use traces::{NextRow, TraceKeeper};
 
@@ -25,6 +26,11 @@ impl TraceKeeper for RowCounter {
     fn step(&mut self, _: usize, rows: &mut u32, _: NextRow<'_>, _: u32) -> Result<(), Memory> {
         *rows += 1;
         Ok(())
+    }
+
+    fn rest(&self, _: usize, rows: &mut u32, _: Glance, _: u32) -> bool {
+        *rows += 1;
+        true
     }
 
     fn end(&mut self, _index: usize, rows: &mut u32) -> Result<(), Memory> {

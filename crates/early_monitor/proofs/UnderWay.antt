@@ -3,8 +3,8 @@ use Rattle.std.proofs.Common.{◌≡◌, ℕ, ◌⊎◌, ◌↔◌, inl, inr, Li
 use Rattle.std.specs.Prelude.{Option}
 use Rattle.std.specs.List.{AllZip, Contains}
 use Rattle.encounters.specs.declared.pair_step.PairStep.{PairStep}
-use Rattle.meetings.specs.Answers.{answer_of}
-use Rattle.meetings.specs.declared.atom_row.AtomRow.{AtomRow}
+use Rattle.mtl_formulas.specs.declared.atom.Atom.{Atom}
+use Rattle.mtl_formulas.specs.declared.verdict.Verdict.{Verdict}
 use Rattle.traces.specs.Audited.{AuditNumbers}
 use Rattle.traces.specs.Known.{Known, watched}
 use Rattle.traces.proofs.ForCallers.{zip_at, zip_set}
@@ -23,14 +23,14 @@ both Was Now Before Here All was now all = (
   λ h. now.1 (elim (all.1 h) [ inl there ↦ inl (was.1 there) | inr here ↦ inr here ]),
 )
 
-module _ (w : WatchedRules) (numbers : AuditNumbers) (step : ℕ) (alarms alarms' : List Alarm) (kept : List WatchedTrace) (index : ℕ) (other was after : WatchedTrace) (row : AtomRow)
+module _ (w : WatchedRules) (numbers : AuditNumbers) (step : ℕ) (alarms alarms' : List Alarm) (kept : List WatchedTrace) (index : ℕ) (other was after : WatchedTrace) (answers : Atom → Verdict)
     (done rest : List Known) (known : Known) (seen : Option PairStep) (at : index ≡ length done) (here : get_or kept index other ≡ was)
-    (stands : AreWatched w numbers.rules → StandsFor w numbers was known → StandsFor w numbers after (watched known seen (answer_of row)))
-    (adds : AreWatched w numbers.rules → StandsFor w numbers was known → Adds (IsBreachOf numbers step (watched known seen (answer_of row))) alarms alarms') where
+    (stands : AreWatched w numbers.rules → StandsFor w numbers was known → StandsFor w numbers after (watched known seen answers))
+    (adds : AreWatched w numbers.rules → StandsFor w numbers was known → Adds (IsBreachOf numbers step (watched known seen answers)) alarms alarms') where
   -- The trace at an index takes its step.
-  pub found_more : AreFound w alarms numbers step kept done (known ∷ rest) tt → AreFound w alarms' numbers step (set kept index after) (done ++ watched known seen (answer_of row) ∷ []) rest tt
+  pub found_more : AreFound w alarms numbers step kept done (known ∷ rest) tt → AreFound w alarms' numbers step (set kept index after) (done ++ watched known seen answers ∷ []) rest tt
   found_more f =
-      let after_known : Known = watched known seen (answer_of row) in
+      let after_known : Known = watched known seen answers in
       let old : StandsFor w numbers was known =
       subst (λ (t : WatchedTrace). StandsFor w numbers t known) here
       (subst (λ (n : ℕ). StandsFor w numbers (get_or kept n other) known) (sym at) (zip_at (StandsFor w numbers) kept done known rest other f.stand)) in

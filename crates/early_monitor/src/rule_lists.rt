@@ -1,5 +1,5 @@
 //! The early form of each rule of a watch, and its state for a new trace.
-ghost use Rattle.std.specs.Prelude.{◌≡◌, ◌+◌, ◌≤◌, ◌++◌, ◌∷◌, [], IfOk, List, Option, length};
+ghost use Rattle.std.specs.Prelude.{ℕ, ◌≡◌, ◌+◌, ◌<◌, ◌≤◌, ◌++◌, ◌∷◌, [], IfOk, List, None, Option, get_or, length, true};
 ghost use Rattle.mtl_formulas.specs.FormulaTree.{tree_of};
 ghost use Rattle.mtl_formulas.specs.FormulaMeasures.{IsValid};
 ghost use Rattle.mtl_monitor.specs.Following.{count_of};
@@ -76,4 +76,27 @@ pub(crate) fn begin_rules(
         early.push(rules.begin_rule(alloc, rule)?)?;
     }
     Ok(early)
+}
+
+/// Returns whether the rule at an index has no program of its own.
+fn is_plain(early: &[Option<EarlyRule>], rule: usize) -> bool
+    requires { rule < length early.now }
+    ensures { result ≡ true → get_or early.now rule None ≡ None }
+{
+    match &early[rule] {
+        None => true,
+        Some(_) => false,
+    }
+}
+
+/// Returns whether no rule has a program of its own.
+pub(crate) fn are_plain(early: &[Option<EarlyRule>]) -> bool
+    ensures { result ≡ true → (k : ℕ) → k < length early.now → get_or early.now k None ≡ None }
+{
+    for rule in 0..early.len() {
+        if !is_plain(early, rule) {
+            return false;
+        }
+    }
+    true
 }

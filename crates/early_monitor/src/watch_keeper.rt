@@ -3,6 +3,7 @@ use crate::alarm::Alarm;
 use crate::watched_rules::WatchedRules;
 use crate::watched_trace::WatchedTrace;
 use meetings::Pair;
+use mtl_formulas::Glance;
 use out_of_memory::Memory;
 use std::alloc::Global;
 use std::collections::BTreeSet;
@@ -41,6 +42,11 @@ impl TraceKeeper for WatchKeeper {
     ) -> Result<(), Memory> {
         trace.step(&self.rules, next.row, step, &mut self.alarms)?;
         Ok(())
+    }
+
+    #[inline(always)]
+    fn rest(&self, _index: usize, trace: &mut WatchedTrace, glance: Glance, _step: u32) -> bool {
+        trace.rest(&self.rules, glance)
     }
 
     /// Does nothing: the end of a trace has no alarm.

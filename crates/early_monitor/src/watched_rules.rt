@@ -1,5 +1,5 @@
 //! The rules of a watch: all of them as one program, and separately those whose breaches may be decided early.
-ghost use Rattle.std.specs.Prelude.{◌≡◌, length};
+ghost use Rattle.std.specs.Prelude.{◌≡◌, false, length, true};
 ghost use Rattle.mtl_monitor.specs.Following.{count_of};
 
 use crate::alarm::Alarm;
@@ -24,7 +24,7 @@ pub(crate) struct WatchedRules {
 }
 
 impl WatchedRules {
-    ghost use Rattle.std.specs.Prelude.{◌<◌, ◌≤◌, ◌-◌, ◌^◌, ◌++◌, ◌∷◌, [], IfOk, List, OnOk, true};
+    ghost use Rattle.std.specs.Prelude.{◌<◌, ◌≤◌, ◌-◌, ◌^◌, ◌++◌, ◌∷◌, [], IfOk, List, OnOk};
     ghost use Rattle.rule_set.specs.NamedTrees.{NamedTree};
     ghost use Rattle.meetings.specs.Answers.{answer_of};
     ghost use Rattle.mtl_monitor.specs.Following.{Fits, Follows, fed_of};
@@ -61,10 +61,11 @@ impl WatchedRules {
     }
 
     /// Adds the alarms of the latest row of a trace for the rule of the place. The values have already taken the row;
-    /// the rule's early state takes it here. Returns whether further rows have no alarm unless they change the rule's
-    /// value.
+    /// the rule's early state takes it here. A quiet row changes no rule's value, so it has no alarm of a rule without
+    /// a program of its own. Returns whether further rows have none either unless they change the rule's value.
     pub(crate) fn take_row(
         &self,
+        quiet: bool,
         values: &TraceState,
         state: &mut Option<EarlyState>,
         row: &AtomRow,
@@ -77,6 +78,7 @@ impl WatchedRules {
         requires start { place.start < 2 ^ 31 }
         requires fits { FitsRule (fed_of values.now - 1) (early_at self.now place.rule) state.old }
         requires some { 0 < fed_of values.now }
+        requires quiet { quiet ≡ true → IsCalmRule self.now values.now place.rule }
         ensures calm { IfOk result
             (λ calm. calm ≡ true → IsCalmRule self.now values.now place.rule) }
         ensures fits { OnOk result
@@ -95,6 +97,9 @@ impl WatchedRules {
         let rule = place.rule as usize;
         match &self.early[rule] {
             None => {
+                if quiet {
+                    return Ok(true);
+                }
                 let answer = values.answer(&self.program, rule);
                 take_answer(alarms, place, answer)?;
                 Ok(is_not_broken(answer))
@@ -103,9 +108,23 @@ impl WatchedRules {
                 None => Ok(false),
                 Some(state) => {
                     early.take_row(state, row, place, alarms)?;
-                    Ok(false)
+                    Ok(true)
                 }
             },
         }
     }
+}
+
+/// Returns whether a row changes no value after rows that leave all rules without own programs calm.
+pub(crate) fn is_quiet(calm: bool, changes: bool) -> bool
+    ensures { result ≡ true → (calm ≡ true) × (changes ≡ false) }
+{
+    calm && !changes
+}
+
+/// Returns whether a row is quiet and no rule has a program of its own.
+pub(crate) fn has_no_alarm(quiet: bool, plain: bool) -> bool
+    ensures { result ≡ true → (quiet ≡ true) × (plain ≡ true) }
+{
+    quiet && plain
 }

@@ -4,9 +4,10 @@ ghost use Rattle.std.specs.Prelude.{◌<◌, ◌^◌};
 use crate::alarm::Alarm;
 use crate::alarm_set::Place;
 use crate::early_program::EarlyState;
-use crate::rule_lists::begin_rules;
-use crate::watched_rules::WatchedRules;
+use crate::rule_lists::{are_plain, begin_rules};
+use crate::watched_rules::{WatchedRules, has_no_alarm, is_quiet};
 use meetings::{AtomRow, Pair};
+use mtl_formulas::Glance;
 use mtl_monitor::TraceState;
 use out_of_memory::Memory;
 use std::alloc::Global;
@@ -20,18 +21,24 @@ pub(crate) struct WatchedTrace {
     values: TraceState,
     /// The early state of each rule whose breaches may be decided early.
     early: Vec<Option<EarlyState>>,
-    /// Whether further rows have no alarm unless they change a rule's value.
+    /// Whether further rows have no alarm of a rule without a program of its own unless they change a rule's value.
     calm: bool,
+    /// Whether no rule has a program of its own.
+    plain: bool,
     ghost small: { start < 2 ^ 31 },
 }
 
 impl WatchedTrace {
-    ghost use Rattle.std.specs.Prelude.{◌≡◌, ◌≤◌, ◌+◌, IfOk, OnOk, Option};
+    ghost use Rattle.std.specs.Prelude.{ℕ, ◌≡◌, ◌≤◌, ◌+◌, List, IfOk, OnOk, Option, false, true};
     ghost use Rattle.encounters.specs.declared.pair_step.PairStep.{PairStep};
     ghost use Rattle.meetings.specs.Answers.{answer_of};
+    ghost use Rattle.mtl_formulas.specs.Glances.{IsTold};
+    ghost use Rattle.mtl_formulas.specs.declared.atom.Atom.{Atom};
+    ghost use Rattle.mtl_formulas.specs.declared.verdict.Verdict.{Verdict};
     ghost use Rattle.mtl_monitor.specs.Following.{count_of};
     ghost use Rattle.traces.specs.Audited.{AuditNumbers};
     ghost use Rattle.traces.specs.Known.{Known, opened, watched};
+    ghost use Rattle.early_monitor.specs.declared.alarm.Alarm.{Alarm};
     ghost use Rattle.early_monitor.specs.Inner.Breaches.{Adds, IsBreachOf};
     ghost use Rattle.early_monitor.specs.Inner.RulesWatched.{AreWatched};
     ghost use Rattle.early_monitor.specs.Inner.TraceWatched.{IsReady, StandsFor, steps_of};
@@ -52,12 +59,14 @@ impl WatchedTrace {
     {
         let values = TraceState::new(alloc, &rules.program)?;
         let early = begin_rules(alloc, rules)?;
+        let plain = are_plain(&rules.early);
         Ok(WatchedTrace {
             pair,
             start,
             values,
             early,
             calm: false,
+            plain,
         })
     }
 
@@ -90,9 +99,11 @@ impl WatchedTrace {
             values,
             early,
             calm,
+            plain,
         } = self;
         let changes = values.feed(&rules.program, row);
-        if *calm && !changes {
+        let quiet = is_quiet(*calm, changes);
+        if has_no_alarm(quiet, *plain) {
             return Ok(());
         }
         let mut all_calm = true;
@@ -103,11 +114,36 @@ impl WatchedTrace {
                 rule: rule as u32,
                 step,
             };
-            if !rules.take_row(values, state, row, place, alarms)? {
+            if !rules.take_row(quiet, values, state, row, place, alarms)? {
                 all_calm = false;
             }
         }
         *calm = all_calm;
         Ok(())
+    }
+
+    /// Takes the next step without its row, if a glance at the row suffices: it has no alarm. Otherwise changes nothing
+    /// and returns false.
+    #[inline(always)]
+    pub(crate) fn rest(&mut self, rules: &WatchedRules, glance: Glance) -> bool
+        requires ready { IsReady rules.now self.old }
+        requires few { steps_of self.old < 2 ^ 31 }
+        ensures stays { result ≡ false → self.new ≡ self.old }
+        ensures ready { IsReady rules.now self.new }
+        ensures steps { result ≡ true → steps_of self.new ≡ steps_of self.old + 1 }
+        ensures stands { result ≡ true → (numbers : AuditNumbers) (known : Known)
+            (seen : Option PairStep) (answers : Atom → Verdict) → IsTold glance answers
+            → AreWatched rules.now numbers.rules → StandsFor rules.now numbers self.old known
+            → StandsFor rules.now numbers self.new (watched known seen answers) }
+        ensures adds { result ≡ true → (numbers : AuditNumbers) (known : Known)
+            (seen : Option PairStep) (answers : Atom → Verdict) (step : ℕ) (alarms : List Alarm)
+            → IsTold glance answers → AreWatched rules.now numbers.rules
+            → StandsFor rules.now numbers self.old known
+            → Adds (IsBreachOf numbers step (watched known seen answers)) alarms alarms }
+    {
+        if !has_no_alarm(self.calm, self.plain) {
+            return false;
+        }
+        self.values.rest(&rules.program, glance)
     }
 }

@@ -42,4 +42,9 @@ mod JoinedLegs
 mod PredictedStates
 mod KnownTicks
 mod SoundSituations
+mod ReadNumbers
+mod ReadOwn
+mod ReadRules
+mod ReadScenarios
+mod AskedScenarios
 mod SomeEnding

@@ -2,6 +2,7 @@
 use Rattle.std.proofs.Common.{ℕ, ◌≡◌, ◌<◌, ◌≤◌, inl, inr, Bool, true, false, IsTrue, List, ◌++◌, length, take, Option, None, Some, Ok, Err, mul-le-mul, refl, subst, sym}
 use Rattle.std.specs.Prelude.{IfSome, IsSome, Result}
 use Rattle.std.proofs.lemmas.Bool.{cases_lt}
+use Rattle.colregs_program.specs.AskedScenarios.{task_of}
 use Rattle.hull_domains.specs.Shapes.{IsShape}
 use Rattle.lattice.specs.Grids.{IsGrid}
 use Rattle.log_lines.specs.GrowingLog.{ended_lines}
@@ -29,7 +30,8 @@ use Rattle.sessions.proofs.ForCallers.{behind_own, behind_targets, behind_traces
 use Rattle.settling.specs.ScenarioAudit.{audit_numbers}
 use Rattle.tasks.specs.declared.mode.Mode.{Mode}
 use Rattle.tasks.specs.declared.mode.Mode.TheVariants as mode
-use Rattle.laws.specs.Endings.{IsScenarioFor, SomeEnding}
+use Rattle.laws.specs.Endings.{IsScenarioFor, SomeEnding, SomeEndingOfRun}
+use Rattle.laws.proofs.AskedScenarios.{asked_scenario}
 use Rattle.laws.proofs.HaveRows.{HaveRows}
 use Rattle.laws.proofs.SomeAlarms.{some_alarms}
 use Rattle.laws.proofs.SomeAuditRows.{some_audit_rows}
@@ -168,3 +170,8 @@ module _ (rows_of : HaveRows) (scenario : Scenario) (log : List ℕ) (none : Boo
 
 pub some_ending : HaveRows → SomeEnding
 some_ending rows_of task scenario log none = some_report rows_of scenario log none task.mode task.why task.rows
+
+pub some_ending_of_run : HaveRows → SomeEndingOfRun
+some_ending_of_run rows_of words files given request rows scenario log none ready met =
+    let (held, bytes, is, lies, is_scenario) = ready.lies in
+    some_ending rows_of (task_of request rows) scenario log none (asked_scenario words request bytes scenario ready.asked is_scenario) met

@@ -1,5 +1,5 @@
 -- The situation in which a log leaves own ship is one in which a plan may be sought.
-use Rattle.std.proofs.Common.{◌≡◌, ℕ, ◌+◌, ◌-◌, ◌*◌, ◌^◌, ◌<◌, ◌≤◌, Bool, true, false, List, [], length, map, Option, None, Some, Ok, Err, mul-le-mul, refl, sym, subst, arith}
+use Rattle.std.proofs.Common.{◌≡◌, ℕ, ◌+◌, ◌*◌, ◌^◌, ◌<◌, ◌≤◌, Bool, true, false, List, [], length, map, Option, None, Some, Ok, Err, mul-le-mul, refl, sym, subst, arith}
 use Rattle.std.specs.Prelude.{IfSome, Result, ◌&&◌, not, ◌==◌, if◌then◌else◌}
 use Rattle.std.specs.List.{All, filter_map, last_or}
 use Rattle.std.proofs.lemmas.Bool.Decides.{nat_tests}

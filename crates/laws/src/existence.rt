@@ -1,7 +1,8 @@
 //! Laws of existence, which follow from the definitions alone: some list of rows, alarms, totals or entries, some
 //! settled text and some report always exist (in double negation). That there is at most one of each is a law of
-//! `reports`, or of the crate that defines it. So no run ends out of memory because no report meets its definition.
-ghost use Rattle.laws.specs.Endings.{SomeEnding, SomeSettledText};
+//! `reports`, or of the crate that defines it. So no run ends out of memory because no report meets its definition. The
+//! scenarios that can be read, to which the report of a run belongs, are in their ranges.
+ghost use Rattle.laws.specs.Endings.{AskedInRange, ReadInRange, SomeEnding, SomeEndingOfRun, SomeSettledText};
 ghost use Rattle.laws.specs.Findings.{SomeAlarms, SomeAuditRows, SomeTotals};
 ghost use Rattle.laws.specs.Reasons.{SomeCanonicalList};
 
@@ -37,10 +38,19 @@ pub fn some_settled_text()
     ensures { SomeSettledText }
 {}
 
-/// A log that meets no refusal has a report, of each task. Such logs exist for each task: the tests of `run_rows` have some. The law's
-/// premise is on the scenario alone, and holds of each that the program reads: its values are in their ranges.
+/// Each scenario that the bytes of a file mean for a mode has its values in their ranges, and own ship if the mode needs
+/// her. So has each that a run asks about, also if its options give another window.
+pub fn each_scenario_is_in_range()
+    ensures read { ReadInRange }
+    ensures asked { AskedInRange }
+{}
+
+/// A log that meets no refusal has a report, of each task. Such logs exist for each task: the tests of `run_rows` have
+/// some. Clause `in_range` has a premise on the scenario, and `each_scenario_is_in_range` proves it of each scenario that
+/// can be read. Clause `run` has no such premise: its scenario is the one that a run reads.
 pub fn some_ending()
-    ensures { SomeEnding }
+    ensures in_range { SomeEnding }
+    ensures run { SomeEndingOfRun }
 {
     there_are_rows();
 }

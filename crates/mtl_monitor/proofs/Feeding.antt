@@ -1,13 +1,14 @@
 -- A state that follows some rows follows them with the next, and can be closed; and its answers are right.
-use Rattle.std.proofs.Common.{◌≡◌, ◌≢◌, ℕ, ◌+◌, ◌-◌, ◌<◌, ◌≤◌, refl, ap, sym, ◌∙◌, arith, Bool, true, false, inl, inr, List, [], ◌∷◌, ◌++◌, length, Option, Some, None, append_assoc, length-append}
+use Rattle.std.proofs.Common.{◌≡◌, ◌≢◌, ℕ, ◌+◌, ◌-◌, ◌<◌, ◌≤◌, refl, ap, subst, sym, ◌∙◌, arith, Bool, true, false, inl, inr, List, [], ◌∷◌, ◌++◌, length, Option, Some, None, append_assoc, length-append}
 use Rattle.std.specs.Prelude.{nat_lt, slice_get, ◌⊎◌, ◌%◌}
 use Rattle.std.proofs.lemmas.Bool.Decides.{nat_tests}
 use Rattle.std.proofs.lemmas.List.{length_push, append-nil}
 use Rattle.std.proofs.lemmas.Option.{slice_get_past}
 use Rattle.std.proofs.lemmas.Nat.Bits.{bit_at-zero}
 use Rattle.mtl_formulas.specs.declared.atom.Atom.{Atom}
+use Rattle.mtl_formulas.specs.declared.atom.Atom.TheVariants.{Always}
 use Rattle.mtl_formulas.specs.declared.verdict.Verdict.{Verdict}
-use Rattle.mtl_formulas.specs.declared.verdict.Verdict.TheVariants.{Open}
+use Rattle.mtl_formulas.specs.declared.verdict.Verdict.TheVariants.{Open, Yes}
 use Rattle.mtl_formulas.specs.FormulaTree.{FormulaTree}
 use Rattle.mtl_formulas.specs.FormulaMeasures.{reach_of}
 use Rattle.mtl_formulas.specs.FormulaValue.{answer_at}
@@ -18,7 +19,8 @@ use Rattle.mtl_formulas.specs.Traces.{Trace, value_in}
 use Rattle.mtl_monitor.specs.Inner.Steps.{value_at}
 use Rattle.mtl_monitor.specs.Inner.Quiet.{AreAnswered, AreQuiet, flag_at, CanStay, MayRest, Walked}
 use Rattle.mtl_monitor.specs.Inner.Marks.{IsUnmarked, OnlyMarked}
-use Rattle.mtl_monitor.specs.Inner.Reading.{atom_at, IsAtom, AreAllListed, IsUntold, AreReadable, AreKnown, ReadsAtoms}
+use Rattle.mtl_monitor.specs.Inner.Reading.{atom_at, IsAtom, AreAllListed, IsUntold, AreReadable, ReadsAtoms}
+use Rattle.mtl_monitor.specs.Inner.Idle.{AreAlike, HasShown, IsReadAs}
 use Rattle.mtl_monitor.specs.declared.node.AtomNode.{AtomNode}
 use Rattle.mtl_monitor.specs.declared.node.Kept.{Kept}
 use Rattle.mtl_monitor.specs.declared.node.ProgramNode.{ProgramNode}
@@ -28,10 +30,10 @@ use Rattle.mtl_monitor.proofs.QuietNodes.{IsQuiet-ended, GoesOn-fed, GoesOn-ende
 use Rattle.mtl_monitor.proofs.Operands.{operands_are}
 use Rattle.mtl_formulas.specs.declared.glance.Glance.{Glance}
 use Rattle.mtl_formulas.specs.Glances.{IsTold}
-use Rattle.mtl_monitor.proofs.Knowing.{AreKnown-answered}
+use Rattle.mtl_monitor.proofs.AlikeValues.{alike-append, alike-length, alike-value, alike-value-on}
 use Rattle.mtl_monitor.proofs.Walks.{Walk-begins, Walk-reached}
 use Rattle.mtl_monitor.specs.Inner.Standing.{node_at, late_at, root_at, AllBelow, IsRow, EndsAt, KeepAll, GiveAll, Passes}
-use Rattle.mtl_monitor.specs.Following.{Follows, Closes, IsEnded, formula_at}
+use Rattle.mtl_monitor.specs.Following.{Follows, Closes, IsEnded, formula_at, last_value}
 use Rattle.mtl_monitor.specs.Monitoring.{IsNext}
 
 next_row : (rows more : Trace) (r : Atom → Verdict) → slice_get (rows ++ r ∷ more) (length rows) ≡ Some r
@@ -61,77 +63,88 @@ IsRow-beyond rows i h a = sym (ap (answer_at (λ r. r) rows a) (slice_get_past r
 -- what follows its rows can be closed
 pub Closes-Follows : (p : Program) (s : TraceState) (formulas : List FormulaTree) (rows : Trace) → Follows p s formulas rows → Closes p s formulas rows
 Closes-Follows p s formulas rows h =
-    let all : KeepAll (rows ++ []) h.trees p.nodes.items s.states.items (length rows) = h.keeps [] in
+    let all : KeepAll (h.fed ++ []) h.trees p.nodes.items s.states.items (length rows) = h.keeps [] in
     let fed : s.fed ≡ s.passed = h.all_fed ∙ sym h.all_passed in
     record {
       trees = h.trees;
       of = h.of;
+      fed = h.fed;
+      alike = h.alike;
       all_fed = h.all_fed;
       all_passed = omega (arith, h.all_passed);
-      keeps = rw h.all_passed (rw (append-nil rows) at all);
-      gives = λ some. rw h.all_passed (rw (append-nil rows) at (h.gives (omega (arith, h.all_passed)) []));
+      keeps = rw h.all_passed (rw (append-nil h.fed) at all);
+      gives = λ some. rw h.all_passed (rw (append-nil h.fed) at (h.gives (omega (arith, h.all_passed)) []));
       quiet = λ k inside flag. rw fed (IsQuiet-ended _ _ _ _ _ _ (h.quiet k inside flag));
       still = h.still;
-      known = h.known;
+      shown = h.shown;
     }
 
 module _ (p : Program) (s s' : TraceState) (formulas : List FormulaTree) (rows : Trace) where
-  module _ (r : Atom → Verdict) (h : Follows p s formulas rows) (fed : s'.fed ≡ s.passed + 1) (passed : s'.passed ≡ s.passed + 1)
+  -- a further row, for which one that is alike to it is taken
+  module _ (row r : Atom → Verdict) (same : AreAlike p.idle r row) (h : Follows p s formulas rows) (fed : s'.fed ≡ s.passed + 1) (passed : s'.passed ≡ s.passed + 1)
       (q : Passes p.nodes.items s.states.items s'.states.items s'.values.items r s.passed (s.passed + 1))
       (quiet : AreQuiet p.nodes.items s'.states.items s'.values.items s'.moving.items (s.passed + 1) ((s.passed + 1) + 1))
       (still : s'.still ≡ true → (k : ℕ) → k < length p.nodes.items → flag_at s'.moving.items k ≡ false)
-      (known : AreKnown s'.glance p.nodes.items s'.values.items) where
-    row_is : (more : Trace) → IsRow (rows ++ r ∷ more) r s.passed
-    row_is more = rw h.all_passed (IsRow-next rows more r)
+      (shown : HasShown s'.glance p.nodes.items s'.values.items) where
+    all_so_far : s.passed ≡ length h.fed
+    all_so_far = h.all_passed ∙ sym (alike-length p.idle h.fed rows h.alike)
 
-    end_is : (more : Trace) → EndsAt (rows ++ r ∷ more) s.passed (s.passed + 1)
-    end_is more = rw h.all_passed (EndsAt-next rows more r)
+    row_is : (more : Trace) → IsRow (h.fed ++ r ∷ more) r s.passed
+    row_is more = rw all_so_far (IsRow-next h.fed more r)
 
-    kept_before : (more : Trace) → KeepAll (rows ++ r ∷ more) h.trees p.nodes.items s.states.items s.passed
+    end_is : (more : Trace) → EndsAt (h.fed ++ r ∷ more) s.passed (s.passed + 1)
+    end_is more = rw all_so_far (EndsAt-next h.fed more r)
+
+    kept_before : (more : Trace) → KeepAll (h.fed ++ r ∷ more) h.trees p.nodes.items s.states.items s.passed
     kept_before more = rw h.all_passed (h.keeps (r ∷ more))
 
-    kept_after : (more : Trace) → KeepAll ((rows ++ r ∷ []) ++ more) h.trees p.nodes.items s'.states.items (s.passed + 1)
-    kept_after more = rw (regrouped rows more r) (q.kept (rows ++ r ∷ more) h.trees h.of.sound.program (row_is more) (end_is more) (kept_before more))
+    kept_after : (more : Trace) → KeepAll ((h.fed ++ r ∷ []) ++ more) h.trees p.nodes.items s'.states.items (s.passed + 1)
+    kept_after more = rw (regrouped h.fed more r) (q.kept (h.fed ++ r ∷ more) h.trees h.of.sound.program (row_is more) (end_is more) (kept_before more))
 
-    gave_after : (more : Trace) → GiveAll ((rows ++ r ∷ []) ++ more) h.trees p.nodes.items s'.values.items s.passed
-    gave_after more = rw (regrouped rows more r) (q.given (rows ++ r ∷ more) h.trees h.of.sound.program (row_is more) (end_is more) (kept_before more))
+    gave_after : (more : Trace) → GiveAll ((h.fed ++ r ∷ []) ++ more) h.trees p.nodes.items s'.values.items s.passed
+    gave_after more = rw (regrouped h.fed more r) (q.given (h.fed ++ r ∷ more) h.trees h.of.sound.program (row_is more) (end_is more) (kept_before more))
 
-    pub Follows-next : Follows p s' formulas (rows ++ r ∷ [])
+    pub Follows-next : Follows p s' formulas (rows ++ row ∷ [])
     Follows-next =
-        let one_more : length (rows ++ r ∷ []) ≡ length rows + 1 = length_push rows r in
-        let count : length (rows ++ r ∷ []) ≡ s.passed + 1 = omega (arith, h.all_passed, one_more) in
+        let one_more : length (rows ++ row ∷ []) ≡ length rows + 1 = length_push rows row in
+        let count : length (rows ++ row ∷ []) ≡ s.passed + 1 = omega (arith, h.all_passed, one_more) in
         let last : (s.passed + 1) - 1 ≡ s.passed = omega arith in
         record {
           trees = h.trees;
           of = h.of;
+          fed = h.fed ++ r ∷ [];
+          alike = alike-append p.idle h.fed rows (r ∷ []) (row ∷ []) h.alike (same, tt);
           all_fed = fed ∙ sym count;
           all_passed = passed ∙ sym count;
           keeps = λ more. rw count (kept_after more);
           gives = λ some more. rw (count, last) (gave_after more);
           quiet = rw passed quiet;
           still = still;
-          known = known;
+          shown = shown;
         }
 
   -- a row beyond the end
   pub Closes-next : Closes p s formulas rows → s'.fed ≡ s.fed → s'.passed ≡ s.passed + 1
       → Passes p.nodes.items s.states.items s'.states.items s'.values.items beyond s.passed s.fed
       → AreQuiet p.nodes.items s'.states.items s'.values.items s'.moving.items (s.passed + 1) s.fed
-      → (s'.still ≡ true → (k : ℕ) → k < length p.nodes.items → flag_at s'.moving.items k ≡ false) → AreKnown s'.glance p.nodes.items s'.values.items → Closes p s' formulas rows
-  Closes-next h fed passed q quiet still known =
+      → (s'.still ≡ true → (k : ℕ) → k < length p.nodes.items → flag_at s'.moving.items k ≡ false) → HasShown s'.glance p.nodes.items s'.values.items → Closes p s' formulas rows
+  Closes-next h fed passed q quiet still shown =
       let last : (s.passed + 1) - 1 ≡ s.passed = omega arith in
-      let row : IsRow rows beyond s.passed = IsRow-beyond rows s.passed h.all_passed in
-      let end : EndsAt rows s.passed s.fed = λ j below. rw h.all_fed refl in
+      let count : length h.fed ≡ length rows = alike-length p.idle h.fed rows h.alike in
+      let row : IsRow h.fed beyond s.passed = IsRow-beyond h.fed s.passed (omega (arith, count, h.all_passed)) in
+      let end : EndsAt h.fed s.passed s.fed = λ j below. rw (h.all_fed, count) refl in
       record {
         trees = h.trees;
         of = h.of;
+        fed = h.fed;
+        alike = h.alike;
         all_fed = fed ∙ h.all_fed;
         all_passed = omega (arith, passed, h.all_passed);
-        keeps = rw passed (q.kept rows h.trees h.of.sound.program row end h.keeps);
-        gives = λ some. rw (passed, last) (q.given rows h.trees h.of.sound.program row end h.keeps);
+        keeps = rw passed (q.kept h.fed h.trees h.of.sound.program row end h.keeps);
+        gives = λ some. rw (passed, last) (q.given h.fed h.trees h.of.sound.program row end h.keeps);
         quiet = rw (passed, fed) quiet;
         still = still;
-        known = known;
+        shown = shown;
       }
 
 module _ (nodes : List ProgramNode) (states : List Kept) (before values : List Verdict) (moving : List Bool) (i end : ℕ)
@@ -175,39 +188,52 @@ ReadsAtoms-listed glance nodes atoms before values marks readable changed others
     by_operator k (op.Since width lower from a b) is = inr (unlisted k (λ h. rw is at h))
     by_operator k (op.Until from full lower a behind b) is = inr (unlisted k (λ h. rw is at h))
 
+-- No glance shows, at a row beyond the end, that the vessels are apart, so none is taken for it.
+beyond-alike : (idle : Bool) (row : Atom → Verdict) → AreAlike idle row beyond → row ≡ beyond
+beyond-alike idle row alike = elim alike [
+  | inl same ↦ same
+  | inr apart ↦ let no : Open ≡ Yes = apart.2 Always in absurd (cc)
+]
+
 module _ (p : Program) (s s' : TraceState) (formulas : List FormulaTree) (rows : Trace) (values : List Verdict) (marks : ℕ)
     (reads : ReadsAtoms p.nodes.items s.values.items values marks) (below : AllBelow p.nodes.items) where
-  -- The row's answers are the values of its atoms' nodes, where those before were what the glance told.
-  abbrev pub Answered : (Atom → Verdict) → Type 0
-  Answered row = AreAllListed p.nodes.items p.atoms.items p.asked.items → AreKnown s.glance p.nodes.items s.values.items → AreAnswered p.nodes.items values row
+  -- The row was read, or one that is alike to it is taken for it.
+  abbrev pub Read : (Atom → Verdict) → Type 0
+  Read row =
+      AreAllListed p.nodes.items p.atoms.items p.asked.items → HasShown s.glance p.nodes.items s.values.items → IsReadAs p.idle p.nodes.items values s'.glance row
 
-  pub Follows-walked : (r : Atom → Verdict) → Follows p s formulas rows → s'.fed ≡ s.passed + 1 → s'.passed ≡ s.passed + 1 → IsTold s'.glance r → Answered r
+  pub Follows-walked : (row : Atom → Verdict) → Follows p s formulas rows → s'.fed ≡ s.passed + 1 → s'.passed ≡ s.passed + 1 → Read row
       → Walked p.nodes.items s.states.items s.values.items values s.moving.items s.passed (s.passed + 1) marks s'.states.items s'.values.items s'.moving.items s'.still
-      → Follows p s' formulas (rows ++ r ∷ [])
-  Follows-walked r h fed passed told answers w =
+      → Follows p s' formulas (rows ++ row ∷ [])
+  Follows-walked row h fed passed read w =
       let rest : MayRest p.nodes.items s.states.items s.values.items values s.moving.items s.passed (s.passed + 1) marks = record { quiet = h.quiet; reads = reads } in
-      let all = answers h.of.listed h.known in
-      Follows-next p s s' formulas rows r h fed passed
+      let it = read h.of.listed h.shown in
+      let r = it.shown.row in
+      let all = it.shown.answered in
+      Follows-next p s s' formulas rows row r it.alike h fed passed
       (record {
         kept = λ trace trees program answers ends keeps. record { each = (w.walk.midway trace trees r program answers ends rest all keeps).passed };
         given = λ trace trees program answers ends keeps. record { each = (w.walk.midway trace trees r program answers ends rest all keeps).gave };
       })
       (λ k inside flag. w.walk.quiet _ (GoesOn-fed s.passed) rest below k inside flag) w.walk.all_still
-      (AreKnown-answered s'.glance p.nodes.items s'.values.items r told (w.walk.answered r all))
+      (inr (record { row = r; told = it.shown.told; answered = w.walk.answered r all }))
 
-  pub Closes-walked : Closes p s formulas rows → s'.fed ≡ s.fed → s'.passed ≡ s.passed + 1 → IsTold s'.glance beyond → Answered beyond
+  pub Closes-walked : Closes p s formulas rows → s'.fed ≡ s.fed → s'.passed ≡ s.passed + 1 → Read beyond
       → Walked p.nodes.items s.states.items s.values.items values s.moving.items s.passed s.fed marks s'.states.items s'.values.items s'.moving.items s'.still
       → Closes p s' formulas rows
-  Closes-walked h fed passed told answers w =
+  Closes-walked h fed passed read w =
       let rest : MayRest p.nodes.items s.states.items s.values.items values s.moving.items s.passed s.fed marks = record { quiet = h.quiet; reads = reads } in
-      let all = answers h.of.listed h.known in
+      let it = read h.of.listed h.shown in
+      let same = beyond-alike p.idle it.shown.row it.alike in
+      let all : AreAnswered p.nodes.items values beyond = subst (λ (r : Atom → Verdict). AreAnswered p.nodes.items values r) same it.shown.answered in
+      let told : IsTold s'.glance beyond = subst (λ (r : Atom → Verdict). IsTold s'.glance r) same it.shown.told in
       Closes-next p s s' formulas rows h fed passed
       (record {
         kept = λ trace trees program answers ends keeps. record { each = (w.walk.midway trace trees beyond program answers ends rest all keeps).passed };
         given = λ trace trees program answers ends keeps. record { each = (w.walk.midway trace trees beyond program answers ends rest all keeps).gave };
       })
       (λ k inside flag. w.walk.quiet _ (GoesOn-ended s.passed s.fed) rest below k inside flag) w.walk.all_still
-      (AreKnown-answered s'.glance p.nodes.items s'.values.items beyond told (w.walk.answered beyond all))
+      (inr (record { row = beyond; told = told; answered = w.walk.answered beyond all }))
 
 -- the answers to the last row that passed
 module _ (p : Program) (s : TraceState) (formulas : List FormulaTree) (rows : Trace) (k : ℕ) (root : Operand) (v : Verdict)
@@ -220,10 +246,11 @@ module _ (p : Program) (s : TraceState) (formulas : List FormulaTree) (rows : Tr
       let late : root.late ≡ (root_at p.roots.items k).late = ap (λ (o : Operand). o.late) root_is in
       let index : root.index ≡ (root_at p.roots.items k).index = ap (λ (o : Operand). o.index) root_is in
       let some : 0 < length rows = omega (arith, h.all_passed) in
-      let at : s.passed - root.late - 1 ≡ (length rows - 1) - (root_at p.roots.items k).late = omega (arith, h.all_passed, late) in (
+      let at : s.passed - root.late - 1 ≡ (length rows - 1) - (root_at p.roots.items k).late = omega (arith, h.all_passed, late) in
+      let given : (more : Trace) → v ≡ value_in (h.fed ++ more) (formula_at formulas k) (s.passed - root.late - 1) = λ more. rw (v_is, index, at, ← is.tree, ← is.lateness)
+      ((h.gives some more).each (root_at p.roots.items k).index is.inside (omega (arith, is.lateness, late, h.all_passed))) in (
         omega (arith, h.all_passed, late, is.late),
-        λ more. rw (v_is, index, at, ← is.tree, ← is.lateness)
-            ((h.gives some more).each (root_at p.roots.items k).index is.inside (omega (arith, is.lateness, late, h.all_passed))),
+        λ more. given more ∙ alike-value-on p.idle h.fed rows more h.alike (formula_at formulas k) (λ idle. h.of.idle idle k inside) (s.passed - root.late - 1),
       )
 
   pub ended_value : Closes p s formulas rows → k < length formulas → root.late < s.passed
@@ -233,8 +260,21 @@ module _ (p : Program) (s : TraceState) (formulas : List FormulaTree) (rows : Tr
       let late : root.late ≡ (root_at p.roots.items k).late = ap (λ (o : Operand). o.late) root_is in
       let index : root.index ≡ (root_at p.roots.items k).index = ap (λ (o : Operand). o.index) root_is in
       let at : s.passed - root.late - 1 ≡ (s.passed - 1) - (root_at p.roots.items k).late = omega (arith, late) in
+      let given : v ≡ value_in h.fed (formula_at formulas k) (s.passed - root.late - 1) =
       rw (v_is, index, at, ← is.tree, ← is.lateness)
-      ((h.gives (omega arith)).each (root_at p.roots.items k).index is.inside (omega (arith, is.lateness, late)))
+      ((h.gives (omega arith)).each (root_at p.roots.items k).index is.inside (omega (arith, is.lateness, late))) in
+      given ∙ alike-value p.idle h.fed rows h.alike (formula_at formulas k) (λ idle. h.of.idle idle k inside) (s.passed - root.late - 1)
+
+-- The last value of a formula is that at the position which the last row has decided.
+pub last_given : (p : Program) (s : TraceState) (formulas : List FormulaTree) (rows : Trace) → Follows p s formulas rows → (k : ℕ) → k < length formulas
+    → reach_of (formula_at formulas k) < length rows → (more : Trace)
+    → last_value p s k ≡ value_in (rows ++ more) (formula_at formulas k) (length rows - 1 - reach_of (formula_at formulas k))
+last_given p s formulas rows h k inside ready more =
+    let root = root_at p.roots.items k in
+    let late : root.late ≡ reach_of (formula_at formulas k) = (h.of.each k inside).late in
+    let value = (fed_value p s formulas rows k root (last_value p s k) refl refl h inside (omega (arith, late, ready, h.all_passed))).1 more in
+    let at : s.passed - root.late - 1 ≡ length rows - 1 - reach_of (formula_at formulas k) = omega (arith, late, h.all_passed) in
+    rw at at value
 
 -- One row beyond the end after another, a formula's next answer comes.
 pub IsNext-ended : (answer : Option (ℕ × Verdict)) (t : FormulaTree) (rows : Trace) (past next : ℕ) → length rows + past ≡ next + reach_of t + 1 → past ≤ reach_of t

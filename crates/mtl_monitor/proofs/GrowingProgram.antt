@@ -1,5 +1,7 @@
 -- A program with a further formula.
-use Rattle.std.proofs.Common.{◌≡◌, ℕ, ◌+◌, ◌<◌, ◌≤◌, refl, ap, sym, ◌∙◌, arith, List, [], ◌∷◌, ◌++◌, length, max, below_more}
+use Rattle.std.proofs.Common.{◌≡◌, ℕ, ◌+◌, ◌<◌, ◌≤◌, refl, ap, sym, ◌∙◌, arith, true, List, [], ◌∷◌, ◌++◌, length, max, below_more}
+use Rattle.std.specs.Prelude.{◌&&◌}
+use Rattle.std.proofs.lemmas.Bool.{and_parts}
 use Rattle.std.proofs.lemmas.List.{length_push, get_or_push, get_or_append_left}
 use Rattle.mtl_formulas.specs.declared.atom.Atom.TheVariants.{Always}
 use Rattle.mtl_formulas.specs.FormulaTree.{FormulaTree, leaf}
@@ -12,6 +14,7 @@ use Rattle.mtl_monitor.specs.Inner.Compiling.{Compiled, compiled}
 use Rattle.mtl_monitor.specs.Following.{formula_at, IsRoot, IsProgramOf}
 use Rattle.mtl_monitor.specs.Reaches.{greatest_reach}
 use Rattle.mtl_monitor.specs.Growing.{GrowsBy}
+use Rattle.mtl_monitor.specs.Inner.Idle.{is_idle}
 use Rattle.mtl_monitor.proofs.Gaining.{Grown, IsTree}
 use Rattle.mtl_monitor.proofs.Joining.{late_kept}
 use Rattle.mtl_monitor.proofs.Compiled.{IsCompiled, compiled_is}
@@ -76,6 +79,11 @@ module _ (old : Program) (formulas : List FormulaTree) (t : FormulaTree) (valid 
       → IsRoot built.nodes g.grown (root_at (old.roots.items ++ built.operand ∷ []) k) (formula_at (formulas ++ t ∷ []) k)
   each_of = below_more _ _ each_before last
 
+  idle_of : (old.idle && is_idle true t) ≡ true → (k : ℕ) → k < length formulas + 1 → is_idle true (formula_at (formulas ++ t ∷ []) k) ≡ true
+  idle_of both = below_more _ _
+      (λ k inside. rw (get_or_append_left formulas (t ∷ []) (leaf Always) k inside) (h.of.idle (and_parts old.idle (is_idle true t) both).0 k inside))
+      (rw (get_or_push formulas t (leaf Always) (length formulas) refl) (and_parts old.idle (is_idle true t) both).1)
+
   pub IsProgramOf-grown : (new : Program) → GrowsBy old new t → IsProgramOf new (formulas ++ t ∷ [])
   IsProgramOf-grown new grows =
       record {
@@ -87,5 +95,6 @@ module _ (old : Program) (formulas : List FormulaTree) (t : FormulaTree) (valid 
               each = rw (grows.nodes, grows.roots) (λ k inside. each_of k (omega (arith, length_push formulas t)));
               farthest = grows.reach ∙ (ap (λ n. max n (reach_of t)) h.of.farthest ∙ sym (greatest_reach-push formulas t));
               listed = grows.listed;
+              idle = λ is k inside. idle_of (sym grows.idle ∙ is) k (omega (arith, length_push formulas t, inside));
             };
       }

@@ -15,9 +15,10 @@ use Rattle.mtl_monitor.specs.Inner.Steps.{value_at}
 use Rattle.mtl_monitor.specs.Inner.Standing.{node_at}
 use Rattle.mtl_monitor.specs.Inner.Quiet.{Answers, AreAnswered}
 use Rattle.mtl_monitor.specs.Inner.Reading.{atom_at, IsListed, AreListed, AreReadable, AreRead, IsKnown, AreKnown, AreAllListed, AreToBeRead}
+use Rattle.mtl_monitor.specs.Inner.Idle.{HasShown}
 
 -- if a glance gives nothing, nothing is asked of a value
-pub IsKnown-nothing : (o : Operator) (v : Verdict) → IsKnown Nothing o v
+IsKnown-nothing : (o : Operator) (v : Verdict) → IsKnown Nothing o v
 IsKnown-nothing (op.Atom a) v = tt
 IsKnown-nothing (op.Not a) v = tt
 IsKnown-nothing (op.Pair kind a b) v = tt
@@ -36,9 +37,15 @@ known_one glance (op.Window kind width from a) row v told answers = tt
 known_one glance (op.Since width lower from a b) row v told answers = tt
 known_one glance (op.Until from full lower a behind b) row v told answers = tt
 
-pub AreKnown-answered : (glance : Glance) (nodes : List ProgramNode) (values : List Verdict) (row : Atom → Verdict) → IsTold glance row → AreAnswered nodes values row
+AreKnown-answered : (glance : Glance) (nodes : List ProgramNode) (values : List Verdict) (row : Atom → Verdict) → IsTold glance row → AreAnswered nodes values row
     → AreKnown glance nodes values
 AreKnown-answered glance nodes values row told answers k inside = known_one glance (node_at nodes k).operator row (value_at values k) told (answers k inside)
+
+pub AreKnown-shown : (glance : Glance) (nodes : List ProgramNode) (values : List Verdict) → HasShown glance nodes values → AreKnown glance nodes values
+AreKnown-shown glance nodes values shown = elim shown [
+  | inl nothing ↦ rw nothing (λ k inside. IsKnown-nothing (node_at nodes k).operator (value_at values k))
+  | inr of ↦ AreKnown-answered glance nodes values of.row of.told of.answered
+]
 
 module _ (glance : Glance) (nodes : List ProgramNode) (atoms : List AtomNode) (before values : List Verdict) (row : Atom → Verdict) (n : ℕ)
     (readable : AreReadable glance nodes n atoms) (told : IsTold glance row) (read : AreRead atoms values row)
@@ -73,10 +80,10 @@ module _ (glance : Glance) (nodes : List ProgramNode) (atoms : List AtomNode) (b
 pub AreAnswered-to_be_read : (nodes : List ProgramNode) (all asked : List AtomNode) (was is : Glance) (atoms : List AtomNode) (before values : List Verdict) (row : Atom → Verdict)
     → AreToBeRead nodes all asked was is atoms → IsTold is row → AreRead atoms values row
     → ((k : ℕ) → ((j : ℕ) → j < length atoms → (atom_at atoms j).index ≢ k) → value_at values k ≡ value_at before k)
-    → AreAllListed nodes all asked → AreKnown was nodes before → AreAnswered nodes values row
-AreAnswered-to_be_read nodes all asked was is atoms before values row h told read others listed known = elim h.of_both [
+    → AreAllListed nodes all asked → HasShown was nodes before → AreAnswered nodes values row
+AreAnswered-to_be_read nodes all asked was is atoms before values row h told read others listed shown = elim h.of_both [
   | inl nothing ↦ answered (rw nothing (λ a. tt)) (rw nothing (λ k inside. IsKnown-nothing (node_at nodes k).operator (value_at before k)))
-  | inr both ↦ answered (rw both.1 told) (rw both.0 known)
+  | inr both ↦ answered (rw both.1 told) (rw both.0 (AreKnown-shown was nodes before shown))
 ]
   where
     answered : IsTold h.told row → AreKnown h.told nodes before → AreAnswered nodes values row

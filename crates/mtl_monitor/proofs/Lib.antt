@@ -20,6 +20,8 @@ pub mod Shapes
 pub mod QuietNodes
 pub mod Walks
 pub mod Knowing
+pub mod ApartValues
+pub mod AlikeValues
 pub mod Listing
 pub mod Keepers
 pub mod Programs

@@ -1,6 +1,6 @@
 -- What a program and the state of a trace stand for. A reader has only to know that a new state follows no rows, how each call
 -- takes this on, and what the answers are: what the nodes keep for it is of no matter here.
-use Rattle.std.specs.Prelude.{◌≡◌, ℕ, ◌+◌, ◌-◌, ◌<◌, ◌≤◌, List, [], ◌∷◌, ◌++◌, length, get_or, ◌⊎◌, Option, Some, None, true, false}
+use Rattle.std.specs.Prelude.{◌≡◌, ℕ, ◌+◌, ◌-◌, ◌<◌, ◌≤◌, List, ◌++◌, length, get_or, ◌⊎◌, Option, Some, None, true, false}
 use Rattle.mtl_formulas.specs.declared.atom.Atom.TheVariants.{Always}
 use Rattle.mtl_formulas.specs.declared.verdict.Verdict.{Verdict}
 use Rattle.mtl_formulas.specs.FormulaTree.{FormulaTree, leaf}
@@ -15,7 +15,8 @@ use Rattle.mtl_monitor.specs.Inner.Steps.{value_at}
 use Rattle.mtl_monitor.specs.Inner.Standing.{tree_at, late_at, root_at, Sound, KeepAll, GiveAll}
 use Rattle.mtl_monitor.specs.Inner.Copying.{HaveShapes}
 use Rattle.mtl_monitor.specs.Inner.Quiet.{AreQuiet, flag_at}
-use Rattle.mtl_monitor.specs.Inner.Reading.{AreAllListed, AreKnown}
+use Rattle.mtl_monitor.specs.Inner.Reading.{AreAllListed}
+use Rattle.mtl_monitor.specs.Inner.Idle.{AreAlikeTraces, HasShown, is_idle}
 
 -- the formula with this index
 abbrev pub formula_at : List FormulaTree → ℕ → FormulaTree
@@ -35,6 +36,7 @@ pub record IsProgramWith (p : Program) (formulas trees : List FormulaTree) : Typ
   pub each : (k : ℕ) → k < length formulas → IsRoot p.nodes.items trees (root_at p.roots.items k) (formula_at formulas k)
   pub farthest : p.reach ≡ greatest_reach formulas
   pub listed : AreAllListed p.nodes.items p.atoms.items p.asked.items
+  pub idle : p.idle ≡ true → (k : ℕ) → k < length formulas → is_idle true (formula_at formulas k) ≡ true
 
 -- The program is one of these formulas, in this order.
 pub record IsProgramOf (p : Program) (formulas : List FormulaTree) : Type 0 where
@@ -74,29 +76,34 @@ last_value p s k = value_at s.values.items (root_at p.roots.items k).index
 abbrev pub GivesTheSame : Program → TraceState → TraceState → Type 0
 GivesTheSame p old new = (k : ℕ) → k < count_of p → last_value p new k ≡ last_value p old k
 
--- The state of the program of these formulas was fed these rows, and may be fed more.
+-- The state of the program of these formulas was fed these rows, and may be fed more. What it keeps is by rows that are alike to them:
+-- each formula has the same values over both.
 pub record Follows (p : Program) (s : TraceState) (formulas : List FormulaTree) (rows : Trace) : Type 0 where
   pub trees : List FormulaTree
   pub of : IsProgramWith p formulas trees
+  pub fed : Trace
+  pub alike : AreAlikeTraces p.idle fed rows
   pub all_fed : s.fed ≡ length rows
   pub all_passed : s.passed ≡ length rows
-  pub keeps : (more : Trace) → KeepAll (rows ++ more) trees p.nodes.items s.states.items (length rows)
-  pub gives : 0 < length rows → (more : Trace) → GiveAll (rows ++ more) trees p.nodes.items s.values.items (length rows - 1)
+  pub keeps : (more : Trace) → KeepAll (fed ++ more) trees p.nodes.items s.states.items (length rows)
+  pub gives : 0 < length rows → (more : Trace) → GiveAll (fed ++ more) trees p.nodes.items s.values.items (length rows - 1)
   pub quiet : AreQuiet p.nodes.items s.states.items s.values.items s.moving.items s.passed (s.passed + 1)
   pub still : s.still ≡ true → (k : ℕ) → k < length p.nodes.items → flag_at s.moving.items k ≡ false
-  pub known : AreKnown s.glance p.nodes.items s.values.items
+  pub shown : HasShown s.glance p.nodes.items s.values.items
 
--- The state of the program of these formulas was fed these rows, and no more come.
+-- The state of the program of these formulas was fed these rows, or rows that are alike to them, and no more come.
 pub record Closes (p : Program) (s : TraceState) (formulas : List FormulaTree) (rows : Trace) : Type 0 where
   pub trees : List FormulaTree
   pub of : IsProgramWith p formulas trees
+  pub fed : Trace
+  pub alike : AreAlikeTraces p.idle fed rows
   pub all_fed : s.fed ≡ length rows
   pub all_passed : length rows ≤ s.passed
-  pub keeps : KeepAll rows trees p.nodes.items s.states.items s.passed
-  pub gives : 0 < s.passed → GiveAll rows trees p.nodes.items s.values.items (s.passed - 1)
+  pub keeps : KeepAll fed trees p.nodes.items s.states.items s.passed
+  pub gives : 0 < s.passed → GiveAll fed trees p.nodes.items s.values.items (s.passed - 1)
   pub quiet : AreQuiet p.nodes.items s.states.items s.values.items s.moving.items s.passed s.fed
   pub still : s.still ≡ true → (k : ℕ) → k < length p.nodes.items → flag_at s.moving.items k ≡ false
-  pub known : AreKnown s.glance p.nodes.items s.values.items
+  pub shown : HasShown s.glance p.nodes.items s.values.items
 
 -- A formula's answer to the last of these rows: the value at the position that lies its reach before, which no further rows change.
 -- None where there is no such position.

@@ -11,3 +11,4 @@ pub mod Keeping
 pub mod Copying
 pub mod Quiet
 pub mod Reading
+pub mod Idle

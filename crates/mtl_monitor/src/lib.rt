@@ -10,6 +10,7 @@
 mod building;
 mod copying;
 mod delay_line;
+mod idle;
 mod keeping;
 mod left;
 mod lookahead;

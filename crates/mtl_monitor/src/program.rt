@@ -7,6 +7,7 @@ ghost use Rattle.mtl_monitor.specs.Inner.Triggers.{AreTriggers, AreTriggers-prop
 ghost use Rattle.mtl_monitor.specs.Inner.Keeping.{keepers_of};
 
 use crate::building::{Operand, add};
+use crate::idle::is_idle;
 use crate::keeping::list_keepers;
 use crate::node::{AtomNode, ProgramNode};
 use crate::reading::list_atoms;
@@ -28,6 +29,8 @@ pub struct Program {
     pub(crate) triggers: Vec<Trigger>,
     /// The indices of the nodes that keep something between rows, in order.
     pub(crate) keepers: Vec<usize>,
+    /// Whether no formula's value depends on a distance or a bearing where the vessels are apart.
+    pub(crate) idle: bool,
     ghost valid: { AllValid nodes.items } by { AllValid-prop nodes.items },
     ghost below: { AllBelow nodes.items } by { AllBelow-prop nodes.items },
     ghost inside: { AllInside (length nodes.items) roots.items } by { AllInside-prop (length nodes.items) roots.items },
@@ -39,13 +42,17 @@ pub struct Program {
 }
 
 impl Program {
-    ghost use Rattle.std.specs.Prelude.{IfOk, List, [], ◌∷◌, ◌++◌, ◌+◌};
+    ghost use Rattle.std.specs.Prelude.{IfOk, List, [], ◌∷◌, ◌++◌, ◌+◌, ◌≢◌, true};
     ghost use Rattle.mtl_formulas.specs.FormulaTree.{FormulaTree, tree_of};
     ghost use Rattle.mtl_formulas.specs.FormulaMeasures.{IsValid};
     ghost use Rattle.mtl_monitor.specs.Following.{IsProgramOf, count_of};
     ghost use Rattle.mtl_monitor.specs.Reaches.{greatest_reach};
     ghost use Rattle.mtl_monitor.specs.Growing.{IsEmpty, GrowsBy};
+    ghost use Rattle.mtl_monitor.specs.Inner.Idle.{AreAlike};
     ghost use Rattle.mtl_monitor.specs.Inner.Reading.{AreToBeRead};
+    ghost use Rattle.mtl_formulas.specs.Glances.{IsTold};
+    ghost use Rattle.mtl_formulas.specs.declared.atom.Atom.{Atom};
+    ghost use Rattle.mtl_formulas.specs.declared.verdict.Verdict.{Verdict};
 
     /// Returns the program of no formula. It takes no memory.
     pub fn new(alloc: Global) -> Program
@@ -61,6 +68,7 @@ impl Program {
             asked: Vec::new(alloc),
             triggers: Vec::new(alloc),
             keepers: Vec::new(alloc),
+            idle: true,
         }
     }
 
@@ -82,7 +90,9 @@ impl Program {
             mut asked,
             mut triggers,
             mut keepers,
+            idle,
         } = self;
+        let asks_none = is_idle(true, formula);
         let root = add(&mut nodes, formula)?;
         list_atoms(&nodes, Glance::Nothing, &mut atoms)?;
         list_atoms(&nodes, Glance::Apart, &mut asked)?;
@@ -97,6 +107,7 @@ impl Program {
                 asked,
                 triggers,
                 keepers,
+                idle: idle & asks_none,
             }),
             Err(_) => Err(Memory),
         }
@@ -111,6 +122,21 @@ impl Program {
             (Glance::Apart, Glance::Apart) => &self.asked,
             (Glance::Unseen, Glance::Unseen) | (Glance::Beyond, Glance::Beyond) => &[],
             _ => &self.atoms,
+        }
+    }
+
+    /// Returns whether a row is alike to the row before, by what a glance gave for each: the vessels are unseen at both,
+    /// or they stay apart, and distances and bearings change no formula's value.
+    #[inline(always)]
+    pub(crate) fn are_alike(&self, before: Glance, now: Glance) -> bool
+        ensures shown { result ≡ true → before ≢ Nothing }
+        ensures alike { result ≡ true → (row other : Atom → Verdict)
+            → IsTold before row → IsTold now other → AreAlike self.now.idle row other }
+    {
+        match (before, now) {
+            (Glance::Apart, Glance::Apart) => self.idle,
+            (Glance::Unseen, Glance::Unseen) => true,
+            _ => false,
         }
     }
 

@@ -51,9 +51,10 @@ impl TraceState {
     ghost use Rattle.mtl_formulas.specs.Traces.{Trace};
     ghost use Rattle.mtl_monitor.specs.declared.program.Program.{Program};
     ghost use Rattle.mtl_monitor.specs.Inner.Quiet.{Walked};
-    ghost use Rattle.mtl_monitor.specs.Inner.Reading.{AreAllListed, AreKnown, ReadsAtoms};
-    ghost use Rattle.mtl_monitor.specs.Inner.Quiet.{AreAnswered};
+    ghost use Rattle.mtl_monitor.specs.Inner.Reading.{AreAllListed, ReadsAtoms};
+    ghost use Rattle.mtl_monitor.specs.Inner.Idle.{HasShown, IsReadAs};
     ghost use Rattle.mtl_formulas.specs.Glances.{IsTold};
+    ghost use Rattle.mtl_formulas.specs.declared.atom.Atom.{Atom};
     ghost use Rattle.mtl_formulas.specs.declared.verdict.Verdict.{Verdict};
     ghost use Rattle.mtl_monitor.specs.Following.{GivesTheSame, last_value, IsProgramOf, Fits, HasRoom, AreStatesOf, Follows, Closes, IsFed, IsEnded, formula_at, count_of, fed_of, past_of};
 
@@ -103,7 +104,9 @@ impl TraceState {
         );
     }
 
-    /// Reads a row's atoms except those that a glance gives as at the last row, and marks the nodes of those that are answered otherwise than at the last row.
+    /// Reads a row's atoms except those that a glance gives as at the last row, and marks the nodes of those that are
+    /// answered otherwise than at the last row. An idle program asks none if the vessels stay apart: the last row is taken
+    /// for this one.
     fn read<A: Atoms>(&mut self, program: &Program, row: &A) -> u64
         requires { Fits program.now self.old }
         ensures fits { Fits program.now self.new }
@@ -112,15 +115,18 @@ impl TraceState {
         ensures still { self.new.still ≡ self.old.still }
         ensures fed { self.new.fed ≡ self.old.fed }
         ensures passed { self.new.passed ≡ self.old.passed }
-        ensures told { IsTold self.new.glance (A.answer row.now) }
-        ensures answered { AreAllListed program.now.nodes.items program.now.atoms.items
+        ensures read { AreAllListed program.now.nodes.items program.now.atoms.items
             program.now.asked.items
-            → AreKnown self.old.glance program.now.nodes.items self.old.values.items
-            → AreAnswered program.now.nodes.items self.new.values.items (A.answer row.now) }
+            → HasShown self.old.glance program.now.nodes.items self.old.values.items
+            → IsReadAs program.now.idle program.now.nodes.items self.new.values.items
+            self.new.glance (A.answer row.now) }
         ensures reads { ReadsAtoms program.now.nodes.items self.old.values.items
             self.new.values.items result }
     {
         let glance = row.glance();
+        if program.are_alike(self.glance, glance) {
+            return 0;
+        }
         let atoms = program.to_be_read(self.glance, glance);
         self.glance = glance;
         read_atoms(atoms, &mut self.values, row)
@@ -148,6 +154,32 @@ impl TraceState {
             return false;
         }
         self.pass(program, i, i + 1, marks);
+        true
+    }
+
+    /// Counts the next row without its atoms if what a glance shows of it suffices: a further equal row changes nothing,
+    /// and the row is alike to the last one. Then each formula's answer has the value of its last one. Otherwise changes
+    /// nothing and returns false.
+    #[inline(always)]
+    pub fn rest(&mut self, program: &Program, glance: Glance) -> bool
+        requires fits { Fits program.now self.old }
+        requires unclosed { past_of self.old ≡ 0 }
+        requires small { fed_of self.old < 2 ^ 31 }
+        ensures stays { result ≡ false → self.new ≡ self.old }
+        ensures fits { Fits program.now self.new }
+        ensures room { HasRoom program.now self.old → HasRoom program.now self.new }
+        ensures fed { result ≡ true → fed_of self.new ≡ fed_of self.old + 1 }
+        ensures past { past_of self.new ≡ 0 }
+        ensures follows { result ≡ true → (formulas : List FormulaTree) (rows : Trace)
+            (row : Atom → Verdict) → IsTold glance row → Follows program.now self.old formulas rows
+            → Follows program.now self.new formulas (rows ++ row ∷ []) }
+        ensures same { GivesTheSame program.now self.old self.new }
+    {
+        if !self.still || !program.are_alike(self.glance, glance) {
+            return false;
+        }
+        self.passed += 1;
+        self.fed = self.passed;
         true
     }
 

@@ -9,3 +9,4 @@ pub mod AtNow
 pub mod Grown
 pub mod ForCallers
 pub mod Ending
+pub mod Calm

@@ -141,7 +141,7 @@ module _ (program : Program) (s : Situation) (X : List ℕ) (T : Target) (at : �
       (subst (λ (xs : List (Option PairStep)). IsFedOn xs []) (sym empty) fed)
       (record { before_end = omega arith; contact = contact; least = h.apart })
 
-  pub with_row : (in_contact : Bool) → StandsFor program s X T at w → (IsTrue in_contact ↔ IsContactAt (own_at s X) (target_at s T) s.detect.watch at)
+  pub with_row : (in_contact : Bool) → StandsFor program s X T at w → (w.begun ≡ false → (IsTrue in_contact ↔ IsContactAt (own_at s X) (target_at s T) s.detect.watch at))
       → monitor.fed_of w.values < 2 ^ 31 → (w.begun || in_contact) ≡ true → next.begun ≡ true → FeedsOn → StandsFor program s X T (at + 1) next
   with_row in_contact h contact few now_begun next_begun feeds = record {
     begun = λ _. by_case w.begun refl;
@@ -150,16 +150,16 @@ module _ (program : Program) (s : Situation) (X : List ℕ) (T : Target) (at : �
     where
       by_case : (b : Bool) → w.begun ≡ b → HasBegun program s X T (at + 1) next
       by_case true e = goes_on (h.begun e) few feeds
-      by_case false e = let now : in_contact ≡ true = rw e at now_begun in begins_here (h.waits e) (contact.0 now) feeds
+      by_case false e = let now : in_contact ≡ true = rw e at now_begun in begins_here (h.waits e) ((contact e).0 now) feeds
 
-  pub without_row : (in_contact : Bool) → StandsFor program s X T at w → (IsTrue in_contact ↔ IsContactAt (own_at s X) (target_at s T) s.detect.watch at)
+  pub without_row : (in_contact : Bool) → StandsFor program s X T at w → (w.begun ≡ false → (IsTrue in_contact ↔ IsContactAt (own_at s X) (target_at s T) s.detect.watch at))
       → (w.begun || in_contact) ≡ false → next.begun ≡ false → next.follower ≡ w.follower → next.values ≡ w.values → StandsFor program s X T (at + 1) next
   without_row in_contact h contact not_begun next_not same_follower same_values = record {
     begun = λ holds. cc;
     waits = λ _. record {
       apart = λ k lt. elim (cases_lt k at) [
         | inl before ↦ was.apart k before
-        | inr here ↦ (let e : at ≡ k = omega arith in λ touch. not_now (contact.1 (subst (IsContactAt (own_at s X) (target_at s T) s.detect.watch) (sym e) touch)))
+        | inr here ↦ (let e : at ≡ k = omega arith in λ touch. not_now ((contact parts.0).1 (subst (IsContactAt (own_at s X) (target_at s T) s.detect.watch) (sym e) touch)))
       ];
       follows = rw same_follower was.follows;
       values = rw same_values was.values;

@@ -1,10 +1,10 @@
 //! The rules that are already broken at now.
-ghost use Rattle.std.specs.Prelude.{ℕ, ◌≡◌, ◌+◌, ◌<◌, ◌≤◌, ◌^◌, ◌↔◌, IfOk, IsTrue, List, OnOk, false, length};
+ghost use Rattle.std.specs.Prelude.{ℕ, ◌≡◌, ◌≢◌, ◌+◌, ◌<◌, ◌≤◌, ◌^◌, ◌↔◌, IfOk, IsTrue, List, OnOk, false, length};
 ghost use Rattle.mtl_formulas.specs.FormulaTree.{FormulaTree};
 ghost use Rattle.mtl_formulas.specs.declared.verdict.Verdict.TheVariants.{No};
-ghost use Rattle.mtl_monitor.specs.Following.{count_of, fed_of, formula_at, past_of, Fits, Follows, HasRoom};
+ghost use Rattle.mtl_monitor.specs.Following.{count_of, fed_of, formula_at, last_value, past_of, Fits, Follows, HasRoom};
 ghost use Rattle.mtl_formulas.specs.Traces.{Trace};
-ghost use Rattle.planner.specs.Inner.Breaking.{flag_at, HasPassed, IsBrokenAt, IsNewlyBrokenAt, IsRowAdded, Tells};
+ghost use Rattle.planner.specs.Inner.Breaking.{flag_at, HasPassed, IsBrokenAt, IsCalm, IsNewlyBrokenAt, IsRowAdded, Tells};
 
 use mtl_formulas::Verdict;
 use mtl_monitor::{Program, TraceState};
@@ -37,6 +37,44 @@ fn is_no(program: &Program, values: &TraceState, rule: usize) -> bool
         Some((_, value)) => is_value_no(value),
         None => false,
     }
+}
+
+/// Returns whether the latest row has decided a position of a formula, and not as broken.
+fn is_kept(program: &Program, values: &TraceState, rule: usize) -> bool
+    requires fits { Fits program.now values.now }
+    requires inside { rule < count_of program.now }
+    ensures { IsTrue result → last_value program.now values.now rule ≢ No }
+{
+    match values.answer(program, rule) {
+        Some((_, value)) => !is_value_no(value),
+        None => false,
+    }
+}
+
+/// Returns whether the latest row has decided a position of each formula, and none as broken.
+fn is_calm(program: &Program, values: &TraceState) -> bool
+    requires { Fits program.now values.now }
+    ensures { IsTrue result → IsCalm program.now values.now }
+{
+    for rule in 0..program.formula_count() {
+        if !is_kept(program, values, rule) {
+            return false;
+        }
+    }
+    true
+}
+
+/// Returns the same, if it may be known already: the formulas are asked only if it is not.
+#[inline(always)]
+pub(crate) fn is_calm_now(known: bool, program: &Program, values: &TraceState) -> bool
+    requires fits { Fits program.now values.now }
+    requires known { IsTrue known → IsCalm program.now values.now }
+    ensures { IsTrue result → IsCalm program.now values.now }
+{
+    if known {
+        return true;
+    }
+    is_calm(program, values)
 }
 
 impl Already {

@@ -1,12 +1,14 @@
 //! Following own ship's path in a leg towards a target.
-ghost use Rattle.std.specs.Prelude.{◌≡◌, ◌+◌, ◌↔◌, IsTrue, false, length};
+ghost use Rattle.std.specs.Prelude.{◌≡◌, ◌+◌, ◌<◌, ◌↔◌, IsTrue, false, length};
 ghost use Rattle.mtl_monitor.specs.Following.{Fits, HasRoom};
 ghost use Rattle.mtl_formulas.specs.Traces.{Trace};
 ghost use Rattle.planner.specs.Inner.Legs.{IsPathIn, IsPlannedLeg};
 ghost use Rattle.planner.specs.Inner.Watching.{IsCut, IsEarly, IsFollowed, IsReady, IsTowards, Stands};
 ghost use Rattle.plan_situations.specs.Boxes.{ahead_from, HoldsPath};
 ghost use Rattle.plan_situations.specs.FailingPlans.{EntersDomain, FailsTowards};
+ghost use Rattle.meetings.specs.Traces.{IsContactAt};
 ghost use Rattle.plan_situations.specs.Prefixes.{reached};
+ghost use Rattle.plan_situations.specs.Situations.{now_of, own_at, target_at};
 
 use crate::already::Already;
 use crate::legs::PlannedLeg;
@@ -27,6 +29,25 @@ pub(crate) struct Towards<'a> {
 }
 
 impl Towards<'_> {
+    /// Returns whether both are in contact at a step of the path. A trace that has begun needs no contact: then it is not asked.
+    #[inline(always)]
+    fn is_contact(&self, leg: &PlannedLeg, path: &[TickState], begun: bool, j: usize) -> bool
+        requires towards { IsTowards self.now }
+        requires path { IsPathIn self.now.situation.now leg.now path.now }
+        requires tick { j < length path.now }
+        ensures { begun ≡ false
+            → (IsTrue result ↔ IsContactAt (own_at self.now.situation.now leg.now.plan)
+            (target_at self.now.situation.now self.now.target.now)
+            self.now.situation.now.detect.watch
+            (now_of self.now.situation.now + leg.now.begins + j)) }
+    {
+        if begun {
+            return true;
+        }
+        self.situation
+            .is_contact_on(path, self.target, leg.begins, j)
+    }
+
     /// Follows own ship's path in a leg. Returns whether some row decides a position as newly
     /// broken.
     fn follow(&self, leg: &PlannedLeg, path: &[TickState], watched: &mut Watched) -> bool
@@ -43,9 +64,7 @@ impl Towards<'_> {
             (reached self.now.situation.now (leg.now.index + 1)) watched.old watched.new result }
     {
         for j in 0..path.len() - 1 {
-            let in_contact = self
-                .situation
-                .is_contact_on(path, self.target, leg.begins, j);
+            let in_contact = self.is_contact(leg, path, watched.has_begun(), j);
             let seen = self.situation.step_on(path, self.target, leg.begins, j);
             if watched.take_planned(self, in_contact, seen.as_ref()) {
                 return true;

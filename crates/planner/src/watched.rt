@@ -13,7 +13,7 @@ ghost use Rattle.plan_situations.specs.Situations.{now_of};
 ghost use Rattle.plan_situations.specs.declared.situation.Situation.{Situation};
 ghost use Rattle.plan_situations.specs.declared.situation.Target.{Target};
 
-use crate::already::Already;
+use crate::already::{Already, is_calm_now};
 use crate::towards::Towards;
 use encounters::{Act, Detect, PairStep};
 use meetings::Follower;
@@ -26,16 +26,25 @@ use std::alloc::Global;
 #[derive(Drop)]
 pub(crate) struct Watched {
     begun: bool,
+    /// Whether it is known that each rule has a last value, and that none of these is No.
+    calm: bool,
     follower: Follower,
     values: TraceState,
     since_now: u32,
 }
 
 /// Returns whether the trace has begun once a step is taken.
-fn has_begun(before: bool, in_contact: bool) -> bool
+fn begins(before: bool, in_contact: bool) -> bool
     ensures { result ≡ (before || in_contact) }
 {
     before || in_contact
+}
+
+/// Returns whether no last value is No after a row, by whether none was No before and whether the row may change one.
+fn stays_calm(calm: bool, changes: bool) -> bool
+    ensures { IsTrue result → IsTrue calm × (changes ≡ false) }
+{
+    calm && !changes
 }
 
 impl Watched {
@@ -59,24 +68,33 @@ impl Watched {
     {
         Ok(Watched {
             begun: false,
+            calm: false,
             follower: Follower::new(detect, act, tick),
             values: TraceState::new(alloc, program)?,
             since_now: 0,
         })
     }
 
-    /// Takes over what is kept of the same target after other steps. This takes no memory.
+    /// Returns whether the trace has begun.
+    pub(crate) fn has_begun(&self) -> bool
+        ensures { result ≡ self.now.begun }
+    {
+        self.begun
+    }
+
+    /// Takes over what is kept of the same target after other steps. This takes no memory. The rules are asked again at the next row.
     pub(crate) fn copy_from(&mut self, program: &Program, other: &Watched)
         requires { AreStatesOf program.now self.old.values other.now.values }
         ensures { IsCopyOf self.new other.now }
     {
         self.begun = other.begun;
+        self.calm = false;
         self.follower = other.follower;
         self.values.copy_from(program, &other.values);
         self.since_now = other.since_now;
     }
 
-    /// Takes a step. The vessels are in contact at its first tick, or are not; it is seen, or is not.
+    /// Takes a step. The vessels are in contact at its first tick, or are not, which counts until the trace has begun; it is seen, or is not.
     pub(crate) fn take(&mut self, program: &Program, in_contact: bool, seen: Option<&PairStep>)
         requires ready { IsReady program.now self.old }
         requires few { fed_of self.old.values < 2 ^ 31 }
@@ -87,13 +105,14 @@ impl Watched {
         ensures unfed { self.new.begun ≡ false → fed_of self.new.values ≡ fed_of self.old.values }
         ensures stands { (situation : Situation) (plan : List ℕ) (target : Target) (at : ℕ)
             → StandsFor program.now situation plan target at self.old
-            → IsStepAt situation plan target at in_contact (option_copied seen.entry)
+            → IsStepAt situation plan target at self.old.begun in_contact (option_copied seen.entry)
             → StandsFor program.now situation plan target (at + 1) self.new }
     {
-        self.begun = has_begun(self.begun, in_contact);
+        self.begun = begins(self.begun, in_contact);
         if self.begun {
             let row = self.follower.step(seen);
-            self.values.feed(program, &row);
+            let changes = self.values.feed(program, &row);
+            self.calm = stays_calm(self.calm, changes);
         }
     }
 
@@ -113,8 +132,8 @@ impl Watched {
         ensures since { self.new.since_now ≤ self.old.since_now + 1 }
         ensures fed { fed_of self.new.values ≤ fed_of self.old.values + 1 }
         ensures followed { (plan : List ℕ) (at : ℕ) → now_of towards.now.situation.now ≤ at
-            → IsStepAt towards.now.situation.now plan towards.now.target.now at in_contact
-            (option_copied seen.entry)
+            → IsStepAt towards.now.situation.now plan towards.now.target.now at self.old.begun
+            in_contact (option_copied seen.entry)
             → IsFollowed towards.now plan at (at + 1) self.old self.new result }
     {
         self.take(towards.program, in_contact, seen);
@@ -123,6 +142,10 @@ impl Watched {
         }
         let index = self.since_now;
         self.since_now = index + 1;
+        self.calm = is_calm_now(self.calm, towards.program, &self.values);
+        if self.calm {
+            return false;
+        }
         towards
             .already
             .is_newly_broken(towards.program, &self.values, index)

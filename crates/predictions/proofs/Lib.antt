@@ -1,3 +1,3 @@
 mod Lists
 mod Tables
-mod Ranges
+pub mod Ranges

@@ -1,25 +1,22 @@
 -- The rows of stretches, written one after the other.
-use Rattle.std.proofs.Common.{ℕ, ◌≡◌, List, ◌++◌, append_assoc, sym, ap, subst, ◌∙◌}
+use Rattle.std.proofs.Common.{ℕ, ◌≡◌, List, ◌++◌, sym, subst}
 use Rattle.std.specs.Prelude.{All}
 use Rattle.std.specs.List.{Contains}
-use Rattle.std.proofs.lemmas.Grind.{flat_map-append}
 use Rattle.std.proofs.lemmas.List.Elements.{All-contains, All-contains_itself, All-weaker, Contains-append_right}
 use Rattle.audit_rows.specs.Order.{topic_of}
 use Rattle.audit_rows.specs.declared.row.Row.{Row}
 use Rattle.audit_rows.specs.declared.row.Row.TheVariants.{Meeting, Verdict}
 use Rattle.audit_rows.specs.declared.topic.Topic.{Topic}
 use Rattle.audit_rows.specs.declared.mark.Mark.{Mark}
-use Rattle.report_csv.specs.CsvRows.{row_of}
 use Rattle.auditor.specs.AuditTracks.{AreMarksOf}
 use Rattle.traces.specs.Audited.{AuditNumbers, Sighting}
 use Rattle.auditor.specs.AuditRows.{AreAuditRows, IsAuditRow}
 use Rattle.log_lines.specs.SentLines.{sent}
-use Rattle.rule_set.specs.NamedTrees.{NamedTree}
 use Rattle.scenario_values.specs.declared.values.Scenario.{Scenario}
 use Rattle.settling.specs.DecidedRows.{AreDecided}
 use Rattle.settled_ticks.specs.Sightings.{sighted}
 use Rattle.settling.specs.ScenarioAudit.{audit_numbers}
-use Rattle.audit_report.specs.StretchRows.{AreOfRules, IsOfRules, stretch_fields, stretch_rows}
+use Rattle.audit_report.specs.StretchRows.{AreOfRules, IsOfRules}
 
 -- ---- rows name rules that exist
 
@@ -39,18 +36,10 @@ pub rows_of_rules : (numbers : AuditNumbers) (ticks : List Sighting) (rows : Lis
 rows_of_rules numbers ticks rows are = all_of (IsOfRules numbers.rules) rows (λ row i. of_rules numbers ticks row ((are.each row).0 i))
 
 -- rows behind others
-pub last_of_rules : (rules : List NamedTree) (given rows : List Row) → AreOfRules rules (given ++ rows) → AreOfRules rules rows
-last_of_rules rules given rows all =
-    all_of (IsOfRules rules) rows (λ row i. All-contains (IsOfRules rules) (given ++ rows) row all (Contains-append_right given rows row i))
+pub last_of_rules : (scenario : Scenario) (given rows : List Row) → AreOfRules scenario.rules (given ++ rows) → AreOfRules scenario.rules rows
+last_of_rules scenario given rows all =
+    all_of (IsOfRules scenario.rules) rows (λ row i. All-contains (IsOfRules scenario.rules) (given ++ rows) row all (Contains-append_right given rows row i))
 
 pub rows_of_rules_decided : (scenario : Scenario) (lines : List (List ℕ)) (rows : List Row) → AreDecided scenario lines rows → AreOfRules scenario.rules rows
 rows_of_rules_decided scenario lines rows are =
     all_of (IsOfRules scenario.rules) rows (λ row i. of_rules (audit_numbers scenario) (sighted scenario (sent scenario lines)) row ((are.each row).0 i).0)
-
--- ---- the rows that were written
-
-pub rows_on : (rules : List NamedTree) (front : List ℕ) (given rows : List Row)
-    → (front ++ stretch_rows rules given) ++ stretch_rows rules rows ≡ front ++ stretch_rows rules (given ++ rows)
-rows_on rules front given rows =
-    append_assoc front (stretch_rows rules given) (stretch_rows rules rows)
-    ∙ ap (λ (l : List ℕ). front ++ l) (sym (flat_map-append (λ (r : Row). row_of (stretch_fields rules r)) given rows))

@@ -1,15 +1,15 @@
 -- A session that is fed.
-use Rattle.std.proofs.Common.{ℕ, suc, ◌≡◌, ◌≢◌, ◌+◌, ◌-◌, ◌<◌, ◌≤◌, ◌^◌, List, [], ◌∷◌, ◌++◌, length, take, drop, get_or, Some, None, Result, Ok, Err, IsTrue, false, arith, append_assoc, append-nil, length-append, refl, ◌∙◌, ap, sym, subst, subst₂}
+use Rattle.std.proofs.Common.{ℕ, suc, ◌≡◌, ◌≢◌, ◌+◌, ◌-◌, ◌<◌, ◌≤◌, ◌^◌, List, [], ◌∷◌, ◌++◌, length, take, drop, get_or, Some, None, Result, Ok, Err, IsTrue, Bool, true, false, nat_lt, if◌then◌else◌, arith, append_assoc, append-nil, length-append, refl, ◌∙◌, ap, sym, subst, subst₂}
 use Rattle.std.specs.Prelude.{All, IfErr, IsErrAnd, position}
 use Rattle.std.proofs.Math.Seq.{take-add, take-append-add, take-suc}
+use Rattle.std.proofs.lemmas.Bool.{ltb-false}
 use Rattle.std.proofs.lemmas.Bool.Decides.{nat_tests}
 use Rattle.std.proofs.lemmas.List.Quantifiers.{position-Some}
 use Rattle.std.proofs.lemmas.List.Splits.{length-slice_split}
-use Rattle.std.proofs.lemmas.List.Sums.{count_by-le-length}
+use Rattle.std.proofs.lemmas.List.Sums.{count_by-le-length, fails_before_first}
 use Rattle.std.proofs.lemmas.List.{get_or-take, length-drop, length-map, length-take, length-take-le, take-append-drop, take-take, take_all}
-use Rattle.std.specs.List.{slice_split}
+use Rattle.std.specs.List.{position_or_len, slice_split}
 use Rattle.outside.proofs.ForCallers.{err_cause}
-use Rattle.aivdm.proofs.Parts.{position-fails}
 use Rattle.audit_report.specs.ReportTexts.{HasText}
 use Rattle.audit_report.specs.declared.report_text.ReportText.{ReportText}
 use Rattle.log_lines.specs.GrowingLog.{ended_among, ended_lines}
@@ -89,8 +89,14 @@ up_to_feed bytes at is =
 pub feed_within : (bytes : List ℕ) (at : ℕ) → position is_line_feed bytes ≡ Some at → at + 1 ≤ length bytes
 feed_within bytes at is = let within = (position-Some is_line_feed bytes at 0 is).0 in omega (arith, within)
 
+none_within : (bytes : List ℕ) (first : ℕ) (b : Bool) → nat_lt first (length bytes) ≡ b → (if b then Some first else None) ≡ None → length bytes ≤ first
+none_within bytes first true t e = absurd cc
+none_within bytes first false t e = ltb-false first (length bytes) t
+
 pub no_feed : (bytes : List ℕ) → position is_line_feed bytes ≡ None → All (λ byte. is_line_feed byte ≡ false) bytes
-no_feed bytes is = position-fails is_line_feed bytes (sym is)
+no_feed bytes is k d below =
+    let past = none_within bytes (position_or_len is_line_feed bytes) (nat_lt (position_or_len is_line_feed bytes) (length bytes)) refl is in
+    fails_before_first is_line_feed bytes k d (omega (arith, below, past))
 
 -- ---- what a session stands for, with its limit of bytes and without
 

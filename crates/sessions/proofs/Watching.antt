@@ -14,7 +14,6 @@ use Rattle.traces.specs.ManyTraces.{HaveMoreThan}
 use Rattle.traces.specs.declared.all_traces.TheConstants.{MOST_TRACES}
 use Rattle.traces.specs.declared.fault.TickFault.{TickFault as WatchFault}
 use Rattle.traces.specs.declared.fault.TickFault.TheVariants as watch_fault
-use Rattle.rule_set.specs.NamedTrees.{NamedTree}
 use Rattle.scenario_values.specs.declared.values.Scenario.{Scenario}
 use Rattle.tasks.specs.declared.mode.Mode.TheVariants as mode
 use Rattle.settling.specs.DecidedAlarms.{AreDecidedAlarms}
@@ -33,20 +32,21 @@ use Rattle.sessions.proofs.Meeting.{pairs_answer}
 
 -- ---- alarms name rules that exist
 
-abbrev pub AreOfRules : List NamedTree → List Alarm → Type 0
-AreOfRules rules early = All (λ (alarm : Alarm). alarm.rule < length rules) early
+-- Each alarm is of one of so many rules.
+abbrev pub AreOfRules : ℕ → List Alarm → Type 0
+AreOfRules count early = All (λ (alarm : Alarm). alarm.rule < count) early
 
-pub alarms_of_rules : (numbers : AuditNumbers) (ticks : List Sighting) (early : List Alarm) → AreAlarms numbers ticks early → AreOfRules numbers.rules early
+pub alarms_of_rules : (numbers : AuditNumbers) (ticks : List Sighting) (early : List Alarm) → AreAlarms numbers ticks early → AreOfRules (length numbers.rules) early
 alarms_of_rules numbers ticks early are = all_of (λ (alarm : Alarm). alarm.rule < length numbers.rules) early (λ alarm i. ((are.each alarm).0 i).within)
 
-pub alarms_of_rules_decided : (scenario : Scenario) (lines : List (List ℕ)) (early : List Alarm) → AreDecidedAlarms scenario lines early → AreOfRules scenario.rules early
+pub alarms_of_rules_decided : (scenario : Scenario) (lines : List (List ℕ)) (early : List Alarm) → AreDecidedAlarms scenario lines early → AreOfRules (length scenario.rules) early
 alarms_of_rules_decided scenario lines early are = all_of (λ (alarm : Alarm). alarm.rule < length scenario.rules) early (λ alarm i. ((are.each alarm).0 i).0.within)
 
 -- alarms behind others
-pub last_alarms : (rules : List NamedTree) (given early : List Alarm) → AreOfRules rules (given ++ early) → AreOfRules rules early
-last_alarms rules given early all =
-    all_of (λ (alarm : Alarm). alarm.rule < length rules) early
-    (λ alarm i. All-contains (λ (a : Alarm). a.rule < length rules) (given ++ early) alarm all (Contains-append_right given early alarm i))
+pub last_alarms : (count : ℕ) (given early : List Alarm) → AreOfRules count (given ++ early) → AreOfRules count early
+last_alarms count given early all =
+    all_of (λ (alarm : Alarm). alarm.rule < count) early
+    (λ alarm i. All-contains (λ (a : Alarm). a.rule < count) (given ++ early) alarm all (Contains-append_right given early alarm i))
 
 -- ---- at a log's end
 

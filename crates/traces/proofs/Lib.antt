@@ -16,3 +16,4 @@ mod Reach
 mod Keeping
 mod UnderWay
 mod ByRanks
+mod StayingApart

@@ -5,11 +5,14 @@ use Rattle.std.proofs.lemmas.List.{get_or-drop, get_or_default, length-drop}
 use Rattle.std.proofs.lemmas.List.Sorted.{ranks_by, sorted_far}
 use Rattle.std.proofs.lemmas.Cmp.{int_cmp_total}
 use Rattle.std.proofs.lemmas.Nat.{mul-lt}
-use Rattle.std.specs.Prelude.{IsTrue, unsigned_abs, int_lt}
+use Rattle.std.specs.Prelude.{IsTrue, unsigned_abs, int_lt, nat_lt}
 use Rattle.std.specs.declared.cmp.Ordering.{Ordering}
 use Rattle.std.specs.declared.cmp.Ordering.TheVariants.{Less, Equal, Greater}
 use Rattle.std.specs.List.Sorted.{IsSortedByKey}
 use Rattle.std.specs.Ordering.{int_cmp, is_lt}
+use Rattle.fixed_geometry.specs.Displacement.{displacement}
+use Rattle.fixed_geometry.specs.Plane.{norm2_of}
+use Rattle.fixed_geometry.specs.declared.point.Point.{Point}
 use Rattle.meetings.specs.Traces.{IsContact}
 use Rattle.meetings.specs.declared.pair.Pair.{Pair}
 use Rattle.motion.specs.declared.leg.TickState.{TickState}
@@ -78,3 +81,20 @@ none_in_reach watch v others k d up lt untrue pair h =
     let is : get_or others (k + m) d ≡ found.one = get_or_default others (k + m) d found.one inside ∙ sym (get_or-drop k others m found.one) ∙ found.has.2 in
     let east = east_of others k m d up inside in
     too_far watch v (get_or others k d) (get_or others (k + m) d) pair east far (subst (λ (x : ℕ × TickState). MakePair watch v x pair) (sym is) found.pairs)
+
+-- ---- too far in one component
+
+less : (a b : ℕ) → nat_lt a b ≡ true → a < b
+less a b test = grind arith
+
+pub far_east : (watch far : ℕ) (a b : Point) → nat_lt watch far ≡ true → far ≡ unsigned_abs (b.x -ℤ a.x) → ¬ (norm2_of (displacement a b) ≤ℤ pos (watch * watch))
+far_east watch far a b test is h =
+    let over = less watch far test in
+    let near = within (b.x -ℤ a.x) (b.y -ℤ a.y) watch h in
+    omega (arith, over, near, is)
+
+pub far_north : (watch far : ℕ) (a b : Point) → nat_lt watch far ≡ true → far ≡ unsigned_abs (b.y -ℤ a.y) → ¬ (norm2_of (displacement a b) ≤ℤ pos (watch * watch))
+far_north watch far a b test is h =
+    let over = less watch far test in
+    let near = within (b.y -ℤ a.y) (b.x -ℤ a.x) watch (omega (arith, ints, h)) in
+    omega (arith, over, near, is)

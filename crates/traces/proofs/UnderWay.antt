@@ -8,12 +8,13 @@ use Rattle.encounters.specs.declared.pair_step.PairStep.{PairStep}
 use Rattle.meetings.specs.Answers.{answer_of}
 use Rattle.meetings.specs.Atoms.{IsRankedRow}
 use Rattle.meetings.specs.declared.pair.Pair.{Pair}
+use Rattle.mtl_formulas.specs.declared.glance.Glance.{Glance}
 use Rattle.outside.proofs.Members.{in_head, in_tail}
 use Rattle.traces.specs.Audited.{AuditNumbers, SeenVessels, Sighting, step_of, terms_of, trace_ranks}
-use Rattle.traces.specs.Keeping.{HasEndedTrace, HasTakenStep, IsAtStep, IsNextRow, Keeper}
+use Rattle.traces.specs.Keeping.{HasEndedTrace, HasRested, HasTakenStep, IsAtStep, IsNextRow, Keeper}
 use Rattle.traces.specs.Known.{AreKnown, AreOpened, IsFollowed, IsUpTo, Known, next_step_of, opened, pairs_of, watched}
-use Rattle.traces.specs.Standing.{StandsFor, latest_vessels, traces_of}
-use Rattle.traces.specs.Window.{AreStepped}
+use Rattle.traces.specs.Standing.{StandsApart, StandsFor, latest_vessels, traces_of}
+use Rattle.traces.specs.Window.{AreStepped, TakesStep}
 use Rattle.traces.specs.declared.all_traces.AllTraces.{AllTraces}
 use Rattle.traces.specs.declared.next_row.NextRow.{NextRow}
 use Rattle.traces.proofs.Growing.{zip_push}
@@ -63,11 +64,9 @@ module _ {Kept Given : Type 0} (numbers : AuditNumbers) (ticks : List Sighting) 
     keeps = keeps;
   }
 
-  module _ (old new : Keeper Kept Given) (traces traces' : AllTraces) (kept : List Kept) (index : ℕ) (next : NextRow) (other is : Kept) (latest : step ≡ length ticks - 1)
-      (within : index < traces_of traces) (it : HasTakenStep old new index step next (get_or kept index other) is)
-      (gives : (front : List Known) (known : Known) (back : List Known) → StandsFor traces numbers ticks (front ++ known ∷ back) → index ≡ length front → length known.steps < 2 ^ 31 → IsUpTo ticks known
-      → IsNextRow numbers (trace_ranks ticks known.pair known.start) known (next_step_of ticks seen known) next
-      × StandsFor traces' numbers ticks (front ++ watched known (next_step_of ticks seen known) (answer_of next.row.now) ∷ back)) where
+  module _ (old new : Keeper Kept Given) (traces traces' : AllTraces) (kept : List Kept) (index : ℕ) (other is : Kept) (latest : step ≡ length ticks - 1) (within : index < traces_of traces)
+      (takes : (front : List Known) (known : Known) (back : List Known) → StandsFor traces numbers ticks (front ++ known ∷ back) → index ≡ length front → length known.steps < 2 ^ 31 → IsUpTo ticks known
+      → IsAtStep step known → TakesStep old new numbers ticks seen step traces' index (get_or kept index other) is front known back) where
     by_rest : (front rest done : List Known) → knowns ≡ front ++ rest → length done ≡ index → AllZip (IsFollowed numbers ticks seen) front done
         → ((known : Known) → Contains rest known → IsAtStep step known) → ((known : Known) → Contains rest known → length known.steps < 2 ^ 31)
         → StandsFor traces numbers ticks (done ++ rest) → old.Stands numbers step kept done rest given
@@ -75,21 +74,20 @@ module _ {Kept Given : Type 0} (numbers : AuditNumbers) (ticks : List Sighting) 
     by_rest front [] done parted count followed at short stands keeps =
         absurd (omega (arith, length-append done [], known_count traces numbers ticks (done ++ []) stands, count, within))
     by_rest front (k ∷ ks) done parted count followed at short stands keeps =
-        let step_seen : Option PairStep = next_step_of ticks seen k in
         let here : IsAtStep step k = at k (in_head k ks) in
-        let row = gives done k ks stands (sym count) (short k (in_head k ks)) (sym here.0 ∙ latest) in
-        let after : Known = watched k step_seen (answer_of next.row.now) in
+        let taken = takes done k ks stands (sym count) (short k (in_head k ks)) (sym here.0 ∙ latest) here in
+        let after : Known = watched k (next_step_of ticks seen k) taken.answers in
         record {
           front = front ++ k ∷ [];
           rest = ks;
           done = done ++ after ∷ [];
           parted = parted ∙ sym (append_assoc front (k ∷ []) ks);
           count = omega (arith, length-append done (after ∷ []), count);
-          followed = zip_push (IsFollowed numbers ticks seen) front done k after followed (record { answers = answer_of next.row.now; is = refl; row = row.0.row });
+          followed = zip_push (IsFollowed numbers ticks seen) front done k after followed (record { answers = taken.answers; is = refl; row = taken.row });
           at = λ known i. at known (in_tail k ks known i);
           short = λ known i. short known (in_tail k ks known i);
-          stands = subst (λ (ys : List Known). StandsFor traces' numbers ticks ys) (sym (append_assoc done (after ∷ []) ks)) row.1;
-          keeps = it.stands numbers (trace_ranks ticks k.pair k.start) kept other done ks k step_seen given keeps (sym count) refl here row.0;
+          stands = subst (λ (ys : List Known). StandsFor traces' numbers ticks ys) (sym (append_assoc done (after ∷ []) ks)) taken.stands;
+          keeps = taken.keeps kept other given keeps refl;
         }
 
     pub under_way_more : IsUnderWay old traces kept index → IsUnderWay new traces' (set kept index is) (index + 1)
@@ -148,6 +146,36 @@ module _ (numbers : AuditNumbers) (ticks : List Sighting) (seen : SeenVessels) w
         },
         subst (λ (o : Option PairStep). StandsFor traces' numbers ticks (front ++ watched known o (answer_of next.row.now) ∷ back)) here after,
       )
+
+-- ---- one trace takes its step
+
+module _ {Kept Given : Type 0} (numbers : AuditNumbers) (ticks : List Sighting) (seen : SeenVessels) (step : ℕ) (traces : AllTraces) (index : ℕ) (was is : Kept) (front : List Known)
+    (known : Known) (back : List Known) (at : index ≡ length front) (here : IsAtStep step known) where
+  pub takes_row : (old new : Keeper Kept Given) (next : NextRow) → HasTakenStep old new index step next was is
+      → IsNextRow numbers (trace_ranks ticks known.pair known.start) known (next_step_of ticks seen known) next
+      × StandsFor traces numbers ticks (front ++ watched known (next_step_of ticks seen known) (answer_of next.row.now) ∷ back)
+      → TakesStep old new numbers ticks seen step traces index was is front known back
+  takes_row old new next it row = record {
+    answers = answer_of next.row.now;
+    row = row.0.row;
+    stands = row.1;
+    keeps = λ kept other given keeps same.
+        it.stands numbers (trace_ranks ticks known.pair known.start) kept other front back known (next_step_of ticks seen known) given keeps at same here row.0;
+  }
+
+  pub takes_none : (keeper : Keeper Kept Given) (glance : Glance) → HasRested keeper index step glance was is
+      → (taken : Option PairStep) → taken ≡ next_step_of ticks seen known → StandsApart traces numbers ticks front known back taken glance
+      → TakesStep keeper keeper numbers ticks seen step traces index was is front known back
+  takes_none keeper glance it taken same apart =
+      let row : StandsApart traces numbers ticks front known back (next_step_of ticks seen known) glance =
+      subst (λ (o : Option PairStep). StandsApart traces numbers ticks front known back o glance) same apart in
+      record {
+        answers = row.answers;
+        row = row.row.row;
+        stands = row.stands;
+        keeps = λ kept other given keeps same.
+            it.stands numbers (trace_ranks ticks known.pair known.start) kept other front back known (next_step_of ticks seen known) row.answers given keeps at same here row.row;
+      }
 
 -- ---- traces begin
 

@@ -3,7 +3,12 @@ use Rattle.std.specs.Prelude.{ℕ, ◌≡◌, ◌+◌, ◌<◌, ◌≤◌, List,
 use Rattle.std.specs.List.{Contains}
 use Rattle.std.specs.Option.{option_copied}
 use Rattle.encounters.specs.Standing.{IsStateAfter}
+use Rattle.encounters.specs.declared.engagement_state.EngagementState.TheVariants.{Apart}
 use Rattle.encounters.specs.declared.pair_step.PairStep.{PairStep}
+use Rattle.mtl_formulas.specs.Glances.{IsTold}
+use Rattle.mtl_formulas.specs.declared.atom.Atom.{Atom}
+use Rattle.mtl_formulas.specs.declared.glance.Glance.{Glance}
+use Rattle.mtl_formulas.specs.declared.verdict.Verdict.{Verdict}
 use Rattle.meetings.specs.Answers.{answer_of}
 use Rattle.meetings.specs.Atoms.{IsRankedRow}
 use Rattle.meetings.specs.declared.by_rank.ByRank.{ByRank}
@@ -19,6 +24,13 @@ pub record IsNextRow (numbers : AuditNumbers) (ranks : ℕ → ByRank) (known : 
   pub was : IsStateAfter numbers.detect known.steps next.was.now
   pub is : IsStateAfter numbers.detect (known.steps ++ step ∷ []) next.is.now
   pub row : IsRankedRow (terms_of numbers) ranks (known.steps ++ step ∷ []) (length known.steps) (answer_of next.row.now)
+
+-- The row is that of this step of the trace. The vessels are apart before the step and at it, and a glance at the row shows this.
+pub record IsApartRow (numbers : AuditNumbers) (ranks : ℕ → ByRank) (known : Known) (step : Option PairStep) (glance : Glance) (answers : Atom → Verdict) : Type 0 where
+  pub was : IsStateAfter numbers.detect known.steps Apart
+  pub is : IsStateAfter numbers.detect (known.steps ++ step ∷ []) Apart
+  pub row : IsRankedRow (terms_of numbers) ranks (known.steps ++ step ∷ []) (length known.steps) answers
+  pub shows : IsTold glance answers
 
 -- The next step of the trace is the one with this number.
 abbrev pub IsAtStep : ℕ → Known → Type 0
@@ -58,6 +70,15 @@ pub record HasTakenStep {Kept Given : Type 0} (old new : Keeper Kept Given) (ind
       → old.Stands numbers step kept done (known ∷ rest) given → index ≡ length done → get_or kept index other ≡ was
       → IsAtStep step known → IsNextRow numbers ranks known seen next
       → new.Stands numbers step (set kept index is) (done ++ watched known seen (answer_of next.row.now) ∷ []) rest given
+
+-- The trace with this index has taken its next step without its row: the vessels are apart there, as a glance shows.
+pub record HasRested {Kept Given : Type 0} (keeper : Keeper Kept Given) (index step : ℕ) (glance : Glance) (was is : Kept) : Type 0 where
+  pub ready : keeper.Ready is
+  pub one_more : keeper.steps is ≡ keeper.steps was + 1
+  pub stands : (numbers : AuditNumbers) (ranks : ℕ → ByRank) (kept : List Kept) (other : Kept) (done rest : List Known) (known : Known) (seen : Option PairStep) (answers : Atom → Verdict) (given : Given)
+      → keeper.Stands numbers step kept done (known ∷ rest) given → index ≡ length done → get_or kept index other ≡ was
+      → IsAtStep step known → IsApartRow numbers ranks known seen glance answers
+      → keeper.Stands numbers step (set kept index is) (done ++ watched known seen answers ∷ []) rest given
 
 -- The trace with this index has ended.
 pub record HasEndedTrace {Kept Given : Type 0} (old new : Keeper Kept Given) (index : ℕ) (was is : Kept) : Type 0 where

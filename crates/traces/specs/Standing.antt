@@ -1,9 +1,14 @@
 -- What the traces of a window stand for: their numbers, the vessels seen at the ticks that were given, and what is known of each.
-use Rattle.std.specs.Prelude.{ℕ, ◌≡◌, ◌+◌, ◌≤◌, List, ◌++◌, length}
+use Rattle.std.specs.Prelude.{ℕ, ◌≡◌, ◌+◌, ◌≤◌, List, ◌∷◌, ◌++◌, length, Option}
 use Rattle.encounters.specs.Risk.{IsDetect}
-use Rattle.traces.specs.Audited.{AreAscending, ArePlaced, AuditNumbers, SeenVessels, Sighting, last_sighting}
+use Rattle.encounters.specs.declared.pair_step.PairStep.{PairStep}
+use Rattle.mtl_formulas.specs.declared.atom.Atom.{Atom}
+use Rattle.mtl_formulas.specs.declared.glance.Glance.{Glance}
+use Rattle.mtl_formulas.specs.declared.verdict.Verdict.{Verdict}
+use Rattle.traces.specs.Audited.{AreAscending, ArePlaced, AuditNumbers, SeenVessels, Sighting, last_sighting, trace_ranks}
 use Rattle.traces.specs.Inner.TracesKept.{Holds}
-use Rattle.traces.specs.Known.{AreKnown, AreOpened, Known}
+use Rattle.traces.specs.Keeping.{IsApartRow}
+use Rattle.traces.specs.Known.{AreKnown, AreOpened, Known, watched}
 use Rattle.traces.specs.declared.all_traces.AllTraces.{AllTraces}
 use Rattle.traces.specs.declared.all_traces.TheConstants.{MOST_TRACES}
 
@@ -47,6 +52,12 @@ pub record StandsFor (kept : AllTraces) (numbers : AuditNumbers) (ticks : List S
   pub count : kept.given ≡ length ticks
   pub latest : latest_sighting kept ≡ last_sighting ticks
   pub holds : Holds kept numbers ticks knowns
+
+-- The trace of these before which so many stand has taken its next step too: the vessels are apart there, as a glance shows.
+pub record StandsApart (kept : AllTraces) (numbers : AuditNumbers) (ticks : List Sighting) (front : List Known) (known : Known) (back : List Known) (seen : Option PairStep) (glance : Glance) : Type 0 where
+  pub answers : Atom → Verdict
+  pub row : IsApartRow numbers (trace_ranks ticks known.pair known.start) known seen glance answers
+  pub stands : StandsFor kept numbers ticks (front ++ watched known seen answers ∷ back)
 
 -- Behind the traces that there were stand those that have begun at the latest tick, and they are all traces of these ticks.
 pub record HaveBegun (kept : AllTraces) (numbers : AuditNumbers) (ticks : List Sighting) (start : ℕ) (before : List Known) : Type 0 where

@@ -1,9 +1,12 @@
 -- What a window of traces stands for: the vessels seen at the ticks that it took, what is known of each trace, and what was given.
-use Rattle.std.specs.Prelude.{ℕ, ◌≡◌, ◌-◌, ◌≤◌, List, [], ◌∷◌, ◌++◌, length, All}
+use Rattle.std.specs.Prelude.{ℕ, ◌≡◌, ◌-◌, ◌≤◌, List, [], ◌∷◌, ◌++◌, length, get_or, set, All}
 use Rattle.std.specs.List.{AllZip}
-use Rattle.traces.specs.Audited.{AuditNumbers, SeenVessels, Sighting}
+use Rattle.mtl_formulas.specs.declared.atom.Atom.{Atom}
+use Rattle.mtl_formulas.specs.declared.verdict.Verdict.{Verdict}
+use Rattle.meetings.specs.Atoms.{IsRankedRow}
+use Rattle.traces.specs.Audited.{AuditNumbers, SeenVessels, Sighting, terms_of, trace_ranks}
 use Rattle.traces.specs.Keeping.{Keeper}
-use Rattle.traces.specs.Known.{AreKnown, AreOpened, IsFollowed, Known}
+use Rattle.traces.specs.Known.{AreKnown, AreOpened, IsFollowed, Known, next_step_of, watched}
 use Rattle.traces.specs.Standing.{IsSound, StandsFor, given_of, traces_of}
 use Rattle.traces.specs.declared.all_traces.AllTraces.{AllTraces}
 use Rattle.traces.specs.declared.trace_window.TraceWindow.{TraceWindow}
@@ -37,6 +40,15 @@ pub record WindowStandsFor {K Kept Given : Type 0} (keeper : Keeper Kept Given) 
   pub are_known : AreKnown numbers ticks knowns
   pub stands : StandsFor (traces_in window) numbers ticks knowns
   pub keeps : keeper.Stands numbers (length ticks - 1) (kept_in window) [] knowns given
+
+-- The trace with this index has taken its next step, and so has what is kept of it.
+pub record TakesStep {Kept Given : Type 0} (old new : Keeper Kept Given) (numbers : AuditNumbers) (ticks : List Sighting) (seen : SeenVessels) (step : ℕ) (traces : AllTraces) (index : ℕ)
+    (was is : Kept) (front : List Known) (known : Known) (back : List Known) : Type 0 where
+  pub answers : Atom → Verdict
+  pub row : IsRankedRow (terms_of numbers) (trace_ranks ticks known.pair known.start) (known.steps ++ next_step_of ticks seen known ∷ []) (length known.steps) answers
+  pub stands : StandsFor traces numbers ticks (front ++ watched known (next_step_of ticks seen known) answers ∷ back)
+  pub keeps : (kept : List Kept) (other : Kept) (given : Given) → old.Stands numbers step kept front (known ∷ back) given → get_or kept index other ≡ was
+      → new.Stands numbers step (set kept index is) (front ++ watched known (next_step_of ticks seen known) answers ∷ []) back given
 
 -- All traces have taken their step to the tick at which these vessels are seen.
 pub record AreStepped {Kept Given : Type 0} (keeper : Keeper Kept Given) (numbers : AuditNumbers) (ticks : List Sighting) (seen : SeenVessels) (step : ℕ) (traces : AllTraces)

@@ -12,7 +12,7 @@ ghost use Rattle.ranks.specs.declared.rank.Rank.{Rank};
 ghost use Rattle.traces.specs.Audited.{AreAscending, ArePlaced, AuditNumbers, MoveLittle, SeenVessels, Sighting, step_of, terms_of, trace_ranks};
 ghost use Rattle.traces.specs.Inner.TracesKept.{AreBegun, AreKnownOn, AreTooMany, HaveBegunNow, Holds, IsBeginning, IsNextTick, IsTaken, MayBegin, MayTake};
 ghost use Rattle.traces.specs.Known.{AreKnown, IsFollowed, IsUpTo, Known, opened, pairs_of, watched};
-ghost use Rattle.traces.specs.Standing.{HaveBegun, IsSound, StandsFor, given_of, last_tick_of, latest_vessels, traces_of};
+ghost use Rattle.traces.specs.Standing.{HaveBegun, IsSound, StandsApart, StandsFor, given_of, last_tick_of, latest_vessels, traces_of};
 ghost use Rattle.traces.specs.ManyTraces.{HaveMoreThan};
 ghost use Rattle.traces.specs.declared.fault.TickFault.TheVariants.{TooManyPairs};
 
@@ -23,6 +23,7 @@ use crate::known_pairs::{add, is_among, is_chosen};
 use encounters::{Act, Detect, EngagementState, PairStep};
 use meetings::{AtomRow, Pair};
 use motion::TickState;
+use mtl_formulas::Glance;
 use out_of_memory::Memory;
 use ranks::Rank;
 use std::alloc::Global;
@@ -146,6 +147,32 @@ impl AllTraces {
             → StandsFor self.new numbers ticks (front ++ known ∷ back) }
     {
         self.traces[index].next_step(&self.latest, seen)
+    }
+
+    /// Returns what a glance at the next step of the trace with this index shows, if the places of its vessels decide it.
+    #[inline(always)]
+    pub fn glance(&mut self, index: usize, seen: &[(u32, TickState)]) -> Option<Glance>
+        requires sound { IsSound self.old }
+        requires within { index < traces_of self.old }
+        requires ascending { AreAscending seen.now }
+        ensures sound { IsSound self.new }
+        ensures given { given_of self.new ≡ given_of self.old }
+        ensures last_tick { last_tick_of self.new ≡ last_tick_of self.old }
+        ensures latest { latest_vessels self.new ≡ latest_vessels self.old }
+        ensures as_many { traces_of self.new ≡ traces_of self.old }
+        ensures rests { IfSome result
+            (λ glance. (numbers : AuditNumbers) (ticks : List Sighting) (front : List Known)
+            (known : Known) (back : List Known)
+            → StandsFor self.old numbers ticks (front ++ known ∷ back) → index ≡ length front
+            → length known.steps < 2 ^ 31
+            → StandsApart self.new numbers ticks front known back
+            (step_of known.pair (latest_vessels self.old) seen.now) glance) }
+        ensures stands { (numbers : AuditNumbers) (ticks : List Sighting) (front : List Known)
+            (known : Known) (back : List Known)
+            → StandsFor self.old numbers ticks (front ++ known ∷ back) → index ≡ length front
+            → StandsFor self.new numbers ticks (front ++ known ∷ back) }
+    {
+        self.traces[index].glance(&self.latest, seen, self.detect.watch)
     }
 
     /// Takes the next step of the trace with this index, and returns its row, by the ranks at the tick at which the

@@ -1,20 +1,26 @@
 //! One trace: its next step, and the values of the atoms at it.
-ghost use Rattle.std.specs.Prelude.{◌≡◌, ◌<◌, ◌^◌, ◌++◌, ◌∷◌, [], List, length, IfSome};
+ghost use Rattle.std.specs.Prelude.{◌≡◌, ◌<◌, ◌≤◌, ◌^◌, ◌++◌, ◌∷◌, [], List, length, IfSome, pos, ◌*◌, ◌≤ℤ◌, true};
 ghost use Rattle.std.specs.Option.{option_copied};
+ghost use Rattle.fixed_geometry.specs.Plane.{norm2_of};
+ghost use Rattle.fixed_geometry.specs.Sizes.{IsBelow};
+ghost use Rattle.motion.specs.Displacement.{displacement};
 ghost use Rattle.encounters.specs.Directions.{HaveDirections};
 ghost use Rattle.encounters.specs.Risk.{IsDetect};
 ghost use Rattle.encounters.specs.Standing.{IsStateAfter};
 ghost use Rattle.meetings.specs.Answers.{answer_of};
 ghost use Rattle.meetings.specs.Atoms.{IsRankedRow};
+ghost use Rattle.meetings.specs.Traces.{IsPlaced, step_between};
 ghost use Rattle.traces.specs.Audited.{AreAscending, ArePlaced, AuditNumbers, MoveLittle, Sighting, by_rank_in, step_of, terms_of, trace_ranks};
-ghost use Rattle.traces.specs.Inner.TracesKept.{Follows, IsTakenFrom};
+ghost use Rattle.traces.specs.Inner.TracesKept.{Follows, FollowsApart, IsTakenFrom, ShowsApart};
 ghost use Rattle.traces.specs.Known.{Known, opened, watched};
 
 use crate::pair_ranks::by_rank;
 use crate::sightings::{rank_near, state_near};
 use encounters::{Act, Detect, EngagementState, PairStep};
+use fixed_geometry::Point;
 use meetings::{AtomRow, BOTH_POWER_DRIVEN, ByRank, Follower, Pair, step_between};
 use motion::TickState;
+use mtl_formulas::Glance;
 use ranks::Rank;
 
 /// One trace: its pair, its first step, and the engagement. Its model is the list of steps so far.
@@ -49,6 +55,46 @@ fn by_rank_near(
         rank_near(seen, ranks, pair.subject, subject_place),
         rank_near(seen, ranks, pair.other, other_place),
     )
+}
+
+/// Returns whether two points are more than `watch` apart in one of their components.
+#[inline(always)]
+fn are_far(a: &Point, b: &Point, watch: u64) -> bool
+    requires a { IsBelow (2 ^ 33) a.now }
+    requires b { IsBelow (2 ^ 33) b.now }
+    requires watch { watch ≤ 1000000000 }
+    ensures { result ≡ true → ¬ (norm2_of (displacement a.now b.now) ≤ℤ pos (watch * watch)) }
+{
+    watch < (b.x - a.x).unsigned_abs() || watch < (b.y - a.y).unsigned_abs()
+}
+
+/// Returns what a glance at a step shows of two vessels that were apart, if their places decide it: at its two ticks the
+/// one has the states `a0` and `a1`, and the other `b0` and `b1`.
+#[inline(always)]
+fn glance_between(
+    a0: Option<&TickState>,
+    b0: Option<&TickState>,
+    a1: Option<&TickState>,
+    b1: Option<&TickState>,
+    watch: u64,
+) -> Option<Glance>
+    requires a0 { IsPlaced (option_copied a0) }
+    requires b0 { IsPlaced (option_copied b0) }
+    requires watch { watch ≤ 1000000000 }
+    ensures { IfSome result
+        (ShowsApart watch (step_between (option_copied a0.entry) (option_copied b0.entry)
+        (option_copied a1.entry) (option_copied b1.entry))) }
+{
+    match (a0, b0, a1, b1) {
+        (Some(a), Some(b), Some(_), Some(_)) => {
+            if are_far(&a.point, &b.point, watch) {
+                Some(Glance::Apart)
+            } else {
+                None
+            }
+        }
+        _ => Some(Glance::Unseen),
+    }
 }
 
 impl FollowedTrace {
@@ -97,6 +143,39 @@ impl FollowedTrace {
         let a1 = state_near(seen, subject, &mut self.subject_place);
         let b1 = state_near(seen, other, &mut self.other_place);
         step_between(a0, b0, a1, b1)
+    }
+
+    /// Returns what a glance at its next step shows, if the places of its vessels decide it: they were apart, and are
+    /// unseen or farther apart than `watch`.
+    #[inline(always)]
+    pub(crate) fn glance(
+        &mut self,
+        before: &[(u32, TickState)],
+        seen: &[(u32, TickState)],
+        watch: u64,
+    ) -> Option<Glance>
+        requires before_ascending { AreAscending before.now }
+        requires before_placed { ArePlaced before.now }
+        requires ascending { AreAscending seen.now }
+        requires watch { watch ≤ 1000000000 }
+        ensures rests { IfSome result
+            (λ glance. (numbers : AuditNumbers) (ticks : List Sighting) (known : Known)
+            → Follows numbers ticks self.old known → watch ≡ numbers.detect.watch
+            → length known.steps < 2 ^ 31
+            → FollowsApart numbers ticks self.new known (step_of known.pair before.now seen.now)
+            glance) }
+        ensures follows { (numbers : AuditNumbers) (ticks : List Sighting) (known : Known)
+            → Follows numbers ticks self.old known → Follows numbers ticks self.new known }
+    {
+        let EngagementState::Apart = self.follower.state() else {
+            return None;
+        };
+        let Pair { subject, other } = self.pair;
+        let a0 = state_near(before, subject, &mut self.subject_place);
+        let b0 = state_near(before, other, &mut self.other_place);
+        let a1 = state_near(seen, subject, &mut self.subject_place);
+        let b1 = state_near(seen, other, &mut self.other_place);
+        glance_between(a0, b0, a1, b1, watch)
     }
 
     /// Takes this step from the tick at which these vessels are seen with their ranks; returns its row. It looks up

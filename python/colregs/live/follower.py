@@ -15,6 +15,7 @@ from colregs.stream.sources import Lines, Mark, Source
 
 LONGEST_WAIT = 5                # the longest pause between two lines of a replayed log, in seconds
 EACH = 1.0                      # s after which the position in a replayed log is stored again
+EARLY = 0.05                    # s that a line of a replayed log may come early, to come together with those before it
 
 
 class Paced:
@@ -37,28 +38,26 @@ class Paced:
                 yield part, {**mark, "offset": offset} if mark else None
 
     def parts(self, lines: list[bytes]) -> Iterator[list[bytes]]:
-        """Yields the lines in parts of one time each, after the wait that each part needs."""
+        """Yields the lines in parts that are due together, after the wait that each part needs."""
         part: list[bytes] = []
         for line in lines:
             at = stamp(line)
-            if at is not None and at > self.latest:
+            left = self.left(at) if at is not None and at > self.latest else 0
+            if left > EARLY:
                 if part:
                     yield part
                 part = []
-                self.wait(at)
+                self.stopped.wait(self.due - time.monotonic())
             part.append(line)
         if part:
             yield part
 
-    def wait(self, at: int) -> None:
-        """Waits until a line with a later time is due."""
+    def left(self, at: int) -> float:
+        """Returns the seconds until a line with a later time is due."""
         passed = (at - self.latest) / self.speed if self.latest else 0
         self.due, self.latest = self.due + min(passed, LONGEST_WAIT), at
-        left = self.due - time.monotonic()
-        if left > 0:
-            self.stopped.wait(left)
-        else:
-            self.due = max(self.due, time.monotonic() - 1)          # it does not catch up after a stop
+        self.due = max(self.due, time.monotonic() - 1)              # it does not catch up after a stop
+        return self.due - time.monotonic()
 
     def done(self, mark: Mark) -> None:
         """Notes that the lines up to a mark are taken.

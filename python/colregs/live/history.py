@@ -69,8 +69,7 @@ class History:
         state.set_clock(moment)
         lines = list(lines_between(self.files, moment - BEFORE, moment, self.scenario.slack))
         state.lines(lines, moment)
-        for row in self.points(lines, moment):
-            state.point(row)
+        state.points(self.points(lines, moment))
         self.take_rows(state, moment)
         state.fleet.forget(moment - BEFORE)
         self.add_names(state)

@@ -121,10 +121,11 @@ class State:
         self.clock = self.alarms.clock = clock
         self.first = clock if self.first is None else self.first
 
-    def point(self, row: str) -> None:
-        """Takes a row `point`."""
+    def points(self, rows: Iterable[str]) -> None:
+        """Takes rows of `points`."""
         with self.lock:
-            self.fleet.take_point(row)
+            for row in rows:
+                self.fleet.take_point(row)
 
     def passed(self, clock: int) -> None:
         """Takes the time of the stream's clock after its rows."""

@@ -137,10 +137,13 @@ class Marks:
 
     def motion(self, pair: Pair, step: int) -> tuple[float, bool, bool]:
         """Returns how far apart two vessels are at a step, whether their velocities are alike, and whether both make
-        way on like courses."""
+        way on like courses; infinity if they are too far apart for any mark."""
         one, two = (self.case.places[mmsi] for mmsi in pair)
-        a, b, c, d = one[step], one[step + 1], two[step], two[step + 1]
-        if not (a and b and c and d):
+        a, c = one[step], two[step]
+        if not (a and c) or math.dist(a, c) >= TOW:
+            return math.inf, False, False
+        b, d = one[step + 1], two[step + 1]
+        if not (b and d):
             return math.inf, False, False
         u, v, w, z = b[0] - a[0], b[1] - a[1], d[0] - c[0], d[1] - c[1]
         like = math.hypot(u - w, v - z) < LIKE * self.case.tick

@@ -3,8 +3,6 @@ areas, like colregs-many does with such a share (colregs/shares/runs.py)."""
 import os
 import tempfile
 import threading
-from collections.abc import Callable
-from typing import Any
 
 from colregs.errors import Fault, reason
 from colregs.model.scenario import Scenario
@@ -12,33 +10,37 @@ from colregs.run.limits import STATUS
 from colregs.shares.jobs import Job, Kept
 from colregs.shares.runs import Room, whole_report
 from colregs.stream.day_files import DayFiles, Mark
-from colregs.stream.runs import Window, WindowRun
+from colregs.stream.runs import Rows, Window, WindowRun
 
 
 class AreaRun(WindowRun):
     """The audit of a window by areas, which begins after its lines are over."""
 
-    def __init__(self, window: Window, scenario: Scenario, ticks: int, program: str, files: DayFiles,
-                 rows: Callable[[tuple[Any, ...]], None]) -> None:
+    def __init__(self, window: Window, scenario: Scenario, ticks: int, program: str,
+                 files: DayFiles) -> None:
         super().__init__(window, "audit", None)
-        self.scenario, self.ticks, self.program, self.files, self.rows = scenario, ticks, program, files, rows
+        self.scenario, self.ticks, self.program, self.files = scenario, ticks, program, files
+        self.found: Rows = [], None                     # all of it, from the end of the audit on
 
     def end_at(self, place: Mark, clock: int, cut: bool) -> None:
         """Begins the audit. If the stream continues later, a later run of the tool does it."""
         super().end_at(place, clock, cut)
-        threading.Thread(target=self.work, daemon=True).start()
+        threading.Thread(target=self.audit, daemon=True).start()
 
-    def work(self) -> None:
-        """Passes on the rows, and then the end of the audit."""
-        self.status, words = 0, ""
+    def work(self) -> Rows:
+        """Returns the rows at the end of the audit."""
+        return self.found
+
+    def audit(self) -> None:
+        """Stores the rows, or why there are none."""
+        self.status, rows, words = 0, list[str](), ""
         try:
-            for row in [] if self.cut else self.audited():
-                self.rows(("row", self, row))
+            rows = [] if self.cut else self.audited()
         except Fault as fault:
             self.status, words = STATUS, str(fault)
         except OSError as error:
             self.status, words = STATUS, f"{error.filename}: {reason(error)}"
-        self.rows(("ended", self, words))
+        self.found = rows, words
 
     def audited(self) -> list[str]:
         """Returns the rows of the window."""

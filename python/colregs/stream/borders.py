@@ -16,6 +16,8 @@ from colregs.shares.results import Pair, Stretch, stretch_of
 
 BEFORE, AFTER, DOUBT = "begins_before", "ends_after", "doubt"
 DIFFERS = "two windows differ about the two, as if two vessels had one MMSI"
+OTHER = "two windows accept different reports of hers; two vessels may share the MMSI"
+EARLIER = "their meeting began before the window"
 DAY = 86400                                     # s for which the rows of a pair stay doubtful
 Marks = tuple[str, ...]
 Track = tuple[Any, ...]                         # a pair, and its meetings or a rule's value
@@ -27,14 +29,20 @@ class Border:
 
     `known` says that the window before is done, and `comparable` that its rows in the overlap are here. Pairs of `open`
     have a meeting that began before the window agrees with the whole, and until their step in `syncs` their rows are
-    not those of one run. If `blind`, it is not known which pairs these are. `until` has the last steps of meetings that
-    began as early and ended in time. `over` has the rows of the window before that continue after the border, and `met`
-    those that this window has too. `earlier` and `own` are the rows of either in the overlap.
+    not those of one run. If `blind`, it is not known which pairs these are, and neither is it of the vessels `before`.
+    Of the vessels `others` the two windows accept different reports, and of those `lost` to the end. `until` has the
+    last steps of meetings that began as early and ended in time. `over` has the rows of the window before that continue
+    after the border, and `met` those that this window has too. `earlier` and `own` are the rows of either in the
+    overlap.
     """
 
     known: bool = False
     comparable: bool = True
     blind: bool = False
+    uncompared: str = ""                        # why nobody knows whether the two windows accept the same reports
+    before: set[int] = field(default_factory=set)
+    others: set[int] = field(default_factory=set)
+    lost: set[int] = field(default_factory=set)
     open: set[Pair] = field(default_factory=set)
     unsure: set[Pair] = field(default_factory=set)
     syncs: dict[Pair, int] = field(default_factory=dict)
@@ -49,19 +57,28 @@ class Border:
         """Returns what a restart needs, as JSON can hold it."""
         return {
             "known": self.known, "blind": self.blind, "open": sorted(self.open), "over": list(self.over.values()),
-            "until": [[*pair, step] for pair, step in self.until.items()]
+            "until": [[*pair, step] for pair, step in self.until.items()], "before": sorted(self.before),
+            "others": sorted(self.others), "lost": sorted(self.lost), "uncompared": self.uncompared,
+            "comparable": self.comparable,
+            "earlier": [row.words() for rows in self.earlier.values() for row in rows]
         }
 
     @staticmethod
     def load(told: Mapping[str, Any]) -> "Border":
         """Loads the state that an earlier run stored."""
         over = [(str(text), tuple(map(str, marks))) for text, marks in told["over"]]
-        return Border(bool(told["known"]), False, bool(told.get("blind")), {(int(one), int(two))
-                                                                            for one, two in told["open"]},
-                      until={(int(one), int(two)): int(step)
-                             for one, two, step in told.get("until", [])},
-                      over={track_of(stretch_of(text, {})): (text, marks)
-                            for text, marks in over})
+        before, others, lost = (set(map(int, told.get(name, []))) for name in ("before", "others", "lost"))
+        found = Border(bool(told["known"]), bool(told.get("comparable")), bool(told.get("blind")),
+                       str(told.get("uncompared", "")), before, others, lost,
+                       {(int(one), int(two)) for one, two in told["open"]},
+                       until={(int(one), int(two)): int(step)
+                              for one, two, step in told.get("until", [])},
+                       over={track_of(stretch_of(text, {})): (text, marks)
+                             for text, marks in over})
+        for text in told.get("earlier", []):
+            row = stretch_of(str(text), {})
+            found.earlier.setdefault(row.pair, []).append(row)
+        return found
 
 
 def track_of(row: Stretch) -> Track:
@@ -99,7 +116,7 @@ class Borders:
         row, border, following = stretch_of(text, {}), self.at(start), self.at(start + self.length)
         self.compare_early(start, border, row)
         marks = self.marks(border, row)
-        if row.is_meeting and (row.first <= self.base or BEFORE in marks):
+        if row.is_meeting and (row.first <= self.base or BEFORE in marks or not border.others.isdisjoint(row.pair)):
             if row.last > self.last:
                 following.open.add(row.pair)
             else:
@@ -113,12 +130,13 @@ class Borders:
     def marks(self, border: Border, row: Stretch) -> Marks:
         """Returns the marks of a row."""
         before = self.begins_before(border, row)
-        doubt = border.known and (row.pair in self.doubtful or not self.is_of_meetings(row))
+        doubt = border.known and (row.pair in self.doubtful or not self.is_of_meetings(row)
+                                  or not border.others.isdisjoint(row.pair))
         return (BEFORE,) * before + (DOUBT,) * doubt
 
     def begins_before(self, border: Border, row: Stretch) -> bool:
         """Returns whether a row's meeting began before its window, or the window before has another beginning of it."""
-        was_open, sync = border.blind or row.pair in border.open, border.syncs.get(row.pair)
+        was_open, sync = is_open(border, row.pair), border.syncs.get(row.pair)
         if row.is_meeting and was_open and sync is None and row.last <= self.last:
             border.syncs[row.pair] = row.last + 1
         before = was_open and (sync is None or row.first <= sync)
@@ -143,24 +161,46 @@ class Borders:
         if self.begin is None or start <= self.begin and not border.blind:
             return ()                                   # no window was before it
         sync = border.syncs.get(pair)
-        if sync is None and not border.blind and pair not in border.open:
+        if sync is None and not is_open(border, pair):
             sync = max(self.base - self.every, border.until.get(pair, -1) + 1)
         before = sync is None or int(step) <= sync + (sight.back if sight else 0)
-        doubt = pair in self.doubtful or sight is not None and not is_plain(sight)
+        doubt = (pair in self.doubtful or sight is not None and not is_plain(sight)
+                 or not border.others.isdisjoint(pair))
         return (BEFORE,) * before + (DOUBT,) * doubt
 
-    def in_question(self, start: int) -> list[tuple[Pair, str]]:
-        """Returns the pairs whose alarms the window that begins at a time may lack, and why; (0, 0) stands for all."""
+    def in_question(self, start: int, mode: str) -> list[tuple[Pair, str]]:
+        """Returns the pairs whose rows or alarms the window that begins at a time may lack, and why; (0, 0) stands for
+        all, and a vessel and 0 for all pairs of hers. Marks of rows show where a known meeting is cut."""
         border = self.at(start)
         found = [((0, 0), f"the formula {name} is not of meetings alone")
                  for name, sight in self.sights.items()
                  if not is_plain(sight)]
+        found += [((0, 0), f"its reports are not compared with those of the window before: {why}")
+                  for why in [border.uncompared] if why]
+        found += [((mmsi, 0), OTHER) for mmsi in sorted(border.others)]
         if border.blind:
             return [*found, ((0, 0), "it is not known which meetings began before the window")]
-        # the window before decides steps up to the border, and this one those of a meeting that it may see otherwise
-        late = {pair for pair, step in border.until.items() if step > self.last - self.every - self.reach}
-        found += [(pair, "their meeting began before the window") for pair in sorted(border.open | late)]
+        found += [((mmsi, 0), "it is not known which meetings of hers began before the window")
+                  for mmsi in sorted(border.before)]
+        if mode == "watch":
+            # the window before decides steps up to the border, and this one those of a meeting that it may see
+            # otherwise
+            late = {pair for pair, step in border.until.items() if step > self.last - self.every - self.reach}
+            found += [(pair, EARLIER) for pair in sorted(border.open | late)]
         return found + [(pair, DIFFERS) for pair in sorted(self.doubtful)]
+
+    def differ(self, start: int, others: Mapping[int, int | None]) -> None:
+        """Takes the vessels whose accepted reports are others than in the window before, and until when. What the next
+        window sees of them may have begun before that one."""
+        border = self.at(start)
+        border.others, border.lost = set(others), {mmsi for mmsi, at in others.items() if at is None}
+        fresh = sorted(border.others - border.before)
+        if fresh:
+            more = f" and {len(fresh) - 3} more" if len(fresh) > 3 else ""
+            self.say(f"the windows from {iso(start - self.length)} and {iso(start)} accept different reports of "
+                     f"{', '.join(map(str, fresh[:3]))}{more}; two vessels may share an MMSI. Their rows get the mark "
+                     f"`{DOUBT}`")
+        self.at(start + self.length).before = set(others)
 
     # rows that two windows share
 
@@ -178,7 +218,8 @@ class Borders:
             return
         border.compared.add(pair)
         earlier, own = border.earlier.pop(pair, []), border.own.pop(pair, [])
-        if not border.known or not border.comparable or pair in border.open or pair in border.unsure:
+        if (not border.known or not border.comparable or is_open(border, pair) or pair in border.unsure
+                or not border.others.isdisjoint(pair)):
             return
         sync = self.base - self.every
         for row in earlier:
@@ -234,6 +275,11 @@ class Borders:
     def take_window(self, start: int) -> None:
         """Takes the start of a window that begins; the first of all begins with the stream."""
         self.begin = start if self.begin is None else min(self.begin, start)
+
+
+def is_open(border: Border, pair: Pair) -> bool:
+    """Returns whether a meeting of a pair may have begun before its window."""
+    return border.blind or pair in border.open or not border.before.isdisjoint(pair)
 
 
 def is_plain(sight: Sight) -> bool:

@@ -10,8 +10,9 @@ from typing import BinaryIO, NamedTuple
 
 from colregs.errors import Fault, reason
 from colregs.io.forms import Unsure
+from colregs.io.lines import stamp_of
 from colregs.io.sentences import block
-from colregs.io.tag_blocks import blocks, stamp
+from colregs.io.tag_blocks import blocks
 from colregs.stream.health import station_of
 
 BLOCK = 1 << 16                  # bytes of a chunk for a run
@@ -47,7 +48,7 @@ class Clock:
 
     def take(self, line: bytes) -> int | None:
         """Takes a line; returns the time of the clock after it."""
-        at = stamp(line)
+        at = stamp_of(line)
         if at is None or self.time is not None and at <= self.time:
             self.ahead = self.ahead if at is None else []
         elif self.time is None or at <= self.time + LEAP:
@@ -87,7 +88,7 @@ class MedianClock:
 
     def take(self, line: bytes) -> int | None:
         """Takes a line; returns the time of the clock after it."""
-        at = stamp(line)
+        at = stamp_of(line)
         if at is None:
             return self.time
         self.lines += 1
@@ -103,7 +104,7 @@ class MedianClock:
 
     def released(self, line: bytes) -> list[Timed]:
         """Returns the lines to write after taking a line, in order, as they arrived and with their times."""
-        self.held.append(Held(line, stamp(line), self.lines, self.leaps, self.time or 0))
+        self.held.append(Held(line, stamp_of(line), self.lines, self.leaps, self.time or 0))
         found: list[Timed] = []
         while self.held and self.is_decided(self.held[0]):
             found.append(self.timed(self.held.popleft()))
@@ -262,10 +263,11 @@ class DayFiles:
         day, offset = place
         while True:
             limit = goes_on()                          # before the read below, which then gets all lines up to it
-            later, most = self.after(day), BLOCK
+            is_last, most = day == self.day, BLOCK
+            later = None if is_last else self.after(day)
             if limit and limit[0] == day:
                 most = min(most, limit[1] - offset)
-            found = read_at(self.path(day), offset, most)
+            found = b"" if is_last and offset >= self.length else read_at(self.path(day), offset, most)
             offset += len(found)
             if found:
                 yield found

@@ -10,12 +10,13 @@ import itertools
 import json
 import os
 import queue
+import select
 import tempfile
 import threading
 import time
 from collections.abc import Collection, Iterator
 from types import TracebackType
-from typing import Any, Protocol
+from typing import Protocol
 
 from colregs.errors import DONE, FAILED, Fault, report
 from colregs.io.files import replace
@@ -25,16 +26,18 @@ from colregs.model.formulas import Sight, sight_of
 from colregs.model.scenario import MOST_SUBJECTS, Scenario
 from colregs.run.limits import STATUS, limit_of, next_step
 from colregs.shares.heads import STRADDLE
+from colregs.stream.agreements import Agreements
 from colregs.stream.areas import AreaRun
 from colregs.stream.borders import AFTER, DIFFERS, Border, Borders, Marks
 from colregs.stream.day_files import Clock, DayFiles, Mark, MedianClock, Timed, lines_of
 from colregs.stream.health import Health
 from colregs.stream.rows import Sink, Written, steps_of
 from colregs.stream.runs import StreamRun, Window, WindowRun
-from colregs.stream.sources import Source
+from colregs.stream.sources import Lines, Source
 from colregs.stream.types import StreamTypes
 
 WAITING, MOST_RUNS = 16, 12      # the most waiting blocks of lines; lines wait if more runs than this are left
+PAUSE, TOGETHER = 0.05, 1000     # s for which lines and rows wait for more of them; lines that are taken together
 LEAST, MOST = 200000000, 799999999
 MARK = 600                       # s
 NEW = 10                         # s of the clock between searches for vessels without a group
@@ -80,8 +83,8 @@ class Listener(Protocol):
     def lines(self, lines: list[bytes], clock: int) -> None:
         """Takes lines in the form of the day files, with the time of the clock after them."""
 
-    def point(self, row: str) -> None:
-        """Takes a row of `points`."""
+    def points(self, rows: list[str]) -> None:
+        """Takes rows of `points`."""
 
     def passed(self, clock: int) -> None:
         """Takes the time of the clock, after the lines and rows so far."""
@@ -91,6 +94,7 @@ class Listener(Protocol):
 
 
 POINTS = "points"                # the rows of this mode go only to a listener
+CHECKS = "checks"                # and those of this one, which are also of `points`, to the comparison of windows
 
 
 class Follow:
@@ -105,6 +109,8 @@ class Follow:
         self.clock: Clock | MedianClock = MedianClock(scenario.slack) if given.clock == "median" else Clock()
         self.health = Health(given.days, scenario.slack, self.say)
         self.written, self.types = Written(given.days, sink), StreamTypes(given.days, scenario.slack, scenario.ranks)
+        self.agreements = Agreements(scenario, self.numbers.length, self.numbers.ticks * scenario.tick,
+                                     self.numbers.warm)
         self.borders = Borders(self.numbers.last, given.every + self.numbers.warm, given.every, self.numbers.length,
                                sights_of(scenario), self.say, self.numbers.reach)
         # alarms are marked by what `audit` says of their pairs, also if its rows are not asked for
@@ -115,11 +121,11 @@ class Follow:
         self.runs: set[WindowRun] = set()
         self.earliest: dict[str, int] = {}              # by mode: the first start of a window with a run, if known
         self.heard: dict[int, int] = {}                 # by vessel: the clock when she was last heard
-        self.events: queue.Queue[tuple[Any, ...]] = queue.Queue()
-        self.held: list[tuple[WindowRun, str]] = []     # rows that wait for the rows of earlier windows
+        self.held: list[tuple[WindowRun, list[str]]] = []       # rows that wait for the rows of earlier windows
         self.ending: dict[int, WindowRun] = {}          # by start: windows without a run that wait for earlier windows
         self.room = tempfile.TemporaryDirectory()
         self.grouped, self.cut, self.faults = False, False, 0
+        self.failed: Fault | OSError | None = None      # why the source failed
         self.looked: int | None = None                  # the clock at the last search for new vessels
         self.state = os.path.join(given.days, "windows.json")
         # the first window that is not done, stored for a restart
@@ -173,9 +179,16 @@ class Follow:
                     self.begin_window(start, True)
             self.open(again=True)
             if first is None and self.windows:
-                # which of its rows began before it is not known
-                self.borders.borders[min(self.windows)] = Border(known=True, comparable=False, blind=True)
+                self.begin_blind(min(self.windows))
             self.close_those_over()
+
+    def begin_blind(self, start: int) -> None:
+        """Begins with a window without knowing which of its rows began before it, or which rows before it are written.
+        """
+        self.borders.borders[start] = Border(known=True, comparable=False, blind=True)
+        for mode in self.given.modes:
+            self.written.lack(mode, start - self.numbers.length, self.numbers.ticks * self.numbers.tick,
+                              "what an earlier run of the tool had written is not known")
 
     def known_place(self, first: int | None) -> Mark:
         """Returns the place from which to read the day files, and sets the clock there. Without a stored window, or
@@ -209,14 +222,18 @@ class Follow:
             with open(self.state, encoding="utf-8") as source:
                 stored = json.load(source)
             self.borders.load(stored)
-            return int(stored["first"])
+            first = int(stored["first"])
+            # the windows from there on run again, which gives the later borders again
+            self.borders.borders = {start: border for start, border in self.borders.borders.items() if start == first}
+            return first
         except (OSError, ValueError, KeyError, TypeError, AttributeError, IndexError):
             return None
 
     def tell_done(self) -> None:
         """Stores which windows are not done yet, for a restart."""
         starts = [run.window.start for run in self.runs] + list(self.windows)
-        if starts and min(starts) != self.first:
+        # a window that is not compared yet needs the run of the one before it
+        if starts and min(starts) != self.first and min(starts) not in self.agreements.pending:
             self.first = min(starts)
             replace(self.state, json.dumps({"first": self.first, **self.borders.stored()}).encode())
 
@@ -288,6 +305,8 @@ class Follow:
         self.borders.take_window(start)
         window = self.windows[start] = Window(start, place or self.files.place(),
                                               self.types.lines_before(start - self.numbers.gap))
+        self.agreements.begin(start)
+        self.begin(window, CHECKS, None)
         if self.grouped:
             self.split(window, sorted(self.vessels(window)))
         else:
@@ -313,10 +332,12 @@ class Follow:
         oldest = min(self.windows, default=self.now()) - 2 * self.numbers.ticks * self.numbers.tick
         self.over = {start for start in self.over if start >= oldest}
         self.heard = {mmsi: at for mmsi, at in self.heard.items() if at >= oldest}
-        at_work = min([run.window.start for run in self.runs] + list(self.windows), default=self.now())
+        at_work = min([run.window.start for run in self.runs] + [*self.windows, *self.ending], default=self.now())
         # the end of a window can write rows of the window before
-        self.written.forget(at_work - 2 * self.numbers.length)
-        self.borders.forget(oldest)
+        behind = at_work - 2 * self.numbers.length
+        self.written.forget(behind)
+        self.borders.forget(behind)
+        self.agreements.forget(behind)
         self.marks = {mark: place for mark, place in self.marks.items() if mark >= oldest // MARK - 1}
 
     # the runs
@@ -326,9 +347,9 @@ class Follow:
         name = os.path.join(self.room.name, f"{next(NAMES)}.toml")
         with open(name, "w", encoding="utf-8") as out:
             out.write(self.scenario.with_subjects(sorted(group) if group else None))
-        words = [self.program, mode, name, f"--start={window.start}", f"--ticks={self.numbers.ticks}"]
-        run = StreamRun(words, window, mode, group, self.files, self.events.put)
-        self.runs.add(run)
+        words = [self.program, POINTS if mode == CHECKS else mode, name, f"--start={window.start}",
+                 f"--ticks={self.numbers.ticks}"]
+        self.runs.add(StreamRun(words, window, mode, group, self.files))
         self.earliest = {}
 
     def vessels(self, window: Window) -> set[int]:
@@ -366,11 +387,14 @@ class Follow:
         status = run.status or 0
         if run.mode == "audit" and status == 0 and run.counts:
             self.health.ended(run.window.start, run.counts)
-        if status == 7 and "pairs" in words:
+        is_killed = status < 0 and self.restarts.get(run.key(), 0) < MOST_RESTARTS
+        if run.mode == CHECKS and not is_killed:
+            self.end_checks(run, words)
+        elif status == 7 and "pairs" in words:
             self.split_at_limit(run)
         elif status == STATUS and limit_of(words) == "vessels" and run.mode == "audit":
             self.by_areas(run)
-        elif status < 0 and self.restarts.get(run.key(), 0) < MOST_RESTARTS:
+        elif is_killed:
             self.begin_again(run)
         elif status != 0:
             self.fault(f"a run of `{run.mode}` from {run.window.start} ended with status {status}, "
@@ -380,13 +404,38 @@ class Follow:
                 border = self.borders.at(run.window.start + self.numbers.length)
                 border.comparable, border.blind = False, True
 
+    def end_checks(self, run: WindowRun, words: str) -> None:
+        """Handles the end of a run whose reports are compared; if it failed, the window and the next one may accept
+        different reports."""
+        if run.status:
+            for start in (run.window.start, run.window.start + self.numbers.length):
+                self.borders.at(start).uncompared = words
+        self.compare(self.agreements.ended(run.window.start))
+
+    def compare(self, starts: list[int]) -> None:
+        """Compares the windows that begin at these times with those before them."""
+        for start in starts:
+            lost = self.borders.at(start - self.numbers.length).lost
+            self.borders.differ(start, self.agreements.compared(start, lost))
+
+    def check(self, run: WindowRun, rows: list[str]) -> None:
+        """Takes reports of a window for the comparison with its neighbours."""
+        compared = self.agreements.take(run.window.start, rows)
+        if self.agreements.is_done(run.window.start) and run.limit is None:
+            run.end_at(self.files.place(), self.now(), False)
+        if compared:
+            self.compare(compared)
+            self.hand_on()
+            if not self.cut:
+                self.tell_done()
+
     def by_areas(self, run: WindowRun) -> None:
         """Audits a window with too many vessels by areas, once its lines are over."""
         if any(isinstance(other, AreaRun) and other.window is run.window for other in self.runs):
             return
         self.say(f"the window from {run.window.start} has more than 4096 vessels; an audit by areas starts after its "
                  "end")
-        new = AreaRun(run.window, self.scenario, self.numbers.ticks, self.program, self.files, self.events.put)
+        new = AreaRun(run.window, self.scenario, self.numbers.ticks, self.program, self.files)
         self.runs.add(new)
         self.earliest = {}
         if run.limit and run.closed is not None:
@@ -399,6 +448,8 @@ class Follow:
         self.say(f"signal {-(run.status or 0)} killed a run of `{run.mode}` from {run.window.start}; it starts again "
                  "from the day files")
         before = set(self.runs)
+        if run.mode == CHECKS:
+            self.agreements.begin(run.window.start)
         self.begin(run.window, run.mode, run.group)
         if run.limit and run.closed is not None:
             for new in self.runs - before:
@@ -456,32 +507,45 @@ class Follow:
     def is_early(self, run: WindowRun) -> bool:
         """Returns whether a window before this run's window is not done. The rows and the points of that window come
         first: later rows must not delay them, and a listener ignores points that are older than those that it has."""
+        if run.mode != POINTS and run.window.start in self.agreements.pending:
+            return True
         if run.mode not in self.earliest:
             # the marks of alarms need the rows of `audit` of the window before
             modes = (run.mode, "audit") if run.mode == "watch" else (run.mode,)
             starts = [other.window.start for other in self.runs if other.mode in modes]
+            starts += self.ending if run.mode != POINTS else ()
             if not starts:
                 return False
             self.earliest[run.mode] = min(starts)
         return self.earliest[run.mode] < run.window.start
 
-    def handle(self, event: tuple[Any, ...]) -> None:
-        """Handles a row or the end of a run."""
-        if event[0] == "row" and self.is_early(event[1]):
-            self.held.append((event[1], event[2]))
-        elif event[0] == "row" and event[1].mode == POINTS:
-            if self.listener:
-                self.listener.point(event[2])
-        elif event[0] == "row":
-            self.row(*event[1:])
-        elif event[0] == "ended":
-            self.ended(*event[1:])
-            run = event[1]
-            if run.mode == "audit" and not self.cut and not self.has_audit(run.window.start):
-                self.ending[run.window.start] = run
-            self.hand_on()
-            if not self.cut:
-                self.tell_done()
+    def serve(self) -> None:
+        """Passes on the new lines to all runs, and handles their rows and ends."""
+        for run in sorted(self.runs, key=lambda run: (run.window.start, run.mode)):
+            rows, words = run.work()
+            self.take_rows(run, rows)
+            if words is not None:
+                self.ended(run, words)
+                if run.mode == "audit" and not self.cut and not self.has_audit(run.window.start):
+                    self.ending[run.window.start] = run
+                    self.earliest = {}
+                self.hand_on()
+                if not self.cut:
+                    self.tell_done()
+
+    def take_rows(self, run: WindowRun, rows: list[str]) -> None:
+        """Handles rows of a run, or lets them wait for earlier windows."""
+        if not rows:
+            return
+        if run.mode == CHECKS:
+            self.check(run, rows)
+        elif self.is_early(run):
+            self.held.append((run, rows))
+        elif run.mode != POINTS:
+            for row in rows:
+                self.row(run, row)
+        elif self.listener:
+            self.listener.points(rows)
 
     def has_audit(self, start: int) -> bool:
         """Returns whether a run of `audit` over the window from `start` has not ended."""
@@ -489,15 +553,23 @@ class Follow:
 
     def hand_on(self) -> None:
         """Passes on the rows that waited for earlier windows, and ends the windows without a run, in order."""
-        held: dict[int, list[tuple[WindowRun, str]]] = {}
-        for run, row in self.held:
-            held.setdefault(run.window.start, []).append((run, row))
+        held: dict[int, list[tuple[WindowRun, list[str]]]] = {}
+        for run, rows in self.held:
+            held.setdefault(run.window.start, []).append((run, rows))
         self.held = []
         for start in sorted({*held, *self.ending}):
-            for run, row in held.get(start, []):
-                self.handle(("row", run, row))
-            if start in self.ending and not self.is_early(self.ending[start]):
+            for run, rows in held.get(start, []):
+                self.take_rows(run, rows)
+            if start in self.ending and self.is_over_for_all(self.ending[start]):
                 self.end_window(self.ending.pop(start))
+                self.earliest = {}
+
+    def is_over_for_all(self, run: WindowRun) -> bool:
+        """Returns whether a window, whose last run of `audit` this is, can end: nothing before it is missing, its
+        alarms are written, and it is known whether the next window accepts the same reports."""
+        start = run.window.start
+        has_alarms = any(other.mode == "watch" and other.window.start == start for other in self.runs)
+        return not (has_alarms or self.is_early(run) or start + self.numbers.length in self.agreements.pending)
 
     def end_window(self, run: WindowRun) -> None:
         """Ends a window whose last run has ended. Writes, with a mark, the rows of the window before that continue
@@ -506,7 +578,8 @@ class Follow:
         self.write_over(start - self.numbers.length, self.borders.end(start))
         self.write_differing(start)
         if following in self.ending or self.has_audit(following):
-            self.write_questions(following, self.borders.in_question(following))
+            for mode in self.given.modes:
+                self.write_questions(following, mode, self.borders.in_question(following, mode))
         elif not self.is_last(run):
             self.write_over(start, self.borders.end(following))         # no window follows
 
@@ -518,76 +591,88 @@ class Follow:
     def write_differing(self, start: int) -> None:
         """Writes about which pairs the window that begins at a time turned out to differ from the one before it."""
         if self.borders.fresh:
-            self.write_questions(start, [(pair, DIFFERS) for pair in sorted(self.borders.fresh)])
+            for mode in self.given.modes:
+                self.write_questions(start, mode, [(pair, DIFFERS) for pair in sorted(self.borders.fresh)])
             self.borders.fresh.clear()
 
-    def write_questions(self, start: int, questions: list[tuple[tuple[int, int], str]]) -> None:
-        """Writes which pairs may lack alarms among the own steps of the window that begins at a time, or have wrong
-        ones."""
+    def write_questions(self, start: int, mode: str, questions: list[tuple[tuple[int, int], str]]) -> None:
+        """Writes which pairs may lack rows of a mode among the own steps of the window that begins at a time, or have
+        wrong ones."""
         first, last = self.numbers.behind - self.numbers.reach, self.numbers.last
         bounds = start + first * self.numbers.tick, start + (last + 1) * self.numbers.tick
-        for pair, why in questions if "watch" in self.given.modes else ():
-            self.written.question(pair, start, bounds, why)
+        for pair, why in questions:
+            self.written.question(pair, mode, start, bounds, why)
 
     # the whole
 
     def run(self, source: Source, stop: threading.Event) -> int:
         """Follows the stream to its end, or until `stop` is set; returns the exit status."""
-        room = threading.Semaphore(WAITING)
+        arrived: queue.Queue[Lines | None] = queue.Queue(WAITING)
         self.restart()
-        threading.Thread(target=self.read, args=(source, room), daemon=True).start()
-        waiting: list[tuple[Any, ...]] = []
-        ended, passed = False, None
-        while not stop.is_set() and not (ended and not waiting):
-            if waiting and not self.is_behind() and (len(self.runs) < MOST_RUNS * len(self.modes)
-                                                     or not self.crowded()):
-                lines, mark = waiting.pop(0)
-                self.take(lines)
-                if mark is not None:
-                    source.done(mark)
-                room.release()
-            event = self.next(not waiting)
+        threading.Thread(target=self.read, args=(source, arrived), daemon=True).start()
+        ended = False
+        while not stop.is_set() and not ended:
+            begun = time.monotonic()
+            if self.has_room():
+                ended = self.take_arrived(source, arrived)
+            self.serve()
             self.health.look(self.clock.time, len(self.heard))
-            if event and event[0] == "lines":
-                waiting.append(event[1:])
-            elif event and event[0] == "end":
-                ended = True
-                if event[1]:
-                    raise event[1]
-            elif event:
-                self.handle(event)
-            if self.listener and self.clock.time is not None and (event is None or self.clock.time != passed):
-                passed = self.clock.time                # once for many rows at the same time
-                self.listener.passed(passed)
+            if self.listener and self.clock.time is not None:
+                self.listener.passed(self.clock.time)
+            if self.has_room() and not arrived.empty():
+                continue
+            if any(run.is_busy for run in self.runs) or not arrived.empty():
+                self.wait()
+            else:
+                stop.wait(max(0, begun + PAUSE - time.monotonic()))
+        if self.failed:
+            raise self.failed
         source.stop()
         self.finish()
         return FAILED if self.faults else DONE
 
-    def is_behind(self) -> bool:
-        """Returns whether new lines must wait for the runs, so that a listener gets rows and points of about the same
-        time together."""
-        return self.listener is not None and any(run.behind for run in self.runs)
+    def has_room(self) -> bool:
+        """Returns whether new lines can be taken. With a listener they wait while the runs are behind, so that the
+        listener gets rows and points of about the same time together."""
+        is_behind = self.listener is not None and any(run.behind for run in self.runs)
+        return not is_behind and (len(self.runs) < MOST_RUNS * len(self.modes) or not self.crowded())
 
     def crowded(self) -> bool:
         """Returns whether many runs of closed windows have not ended; runs of open windows are no reason to wait."""
         return sum(run.limit is not None for run in self.runs) >= MOST_RUNS
 
-    def next(self, wait: bool) -> tuple[Any, ...] | None:
-        """Returns the next event, or None after a while without one."""
-        try:
-            return self.events.get(timeout=0.2 if wait else 0.001)
-        except queue.Empty:
-            return None
+    def take_arrived(self, source: Source, arrived: "queue.Queue[Lines | None]") -> bool:
+        """Takes the lines that have arrived; returns whether the stream has ended."""
+        lines: list[bytes] = []
+        mark, ended = None, False
+        while not ended and len(lines) < TOGETHER and not arrived.empty():
+            came = arrived.get()
+            if came is None:
+                ended = True
+            else:
+                lines, mark = lines + came[0], came[1]
+        if lines:
+            self.take(lines)
+        if mark is not None:
+            source.done(mark)
+        return ended
 
-    def read(self, source: Source, room: threading.Semaphore) -> None:
-        """Passes on the lines of the source."""
+    def wait(self) -> None:
+        """Waits until a run goes on, and no longer than PAUSE."""
+        pipes = select.poll()
+        for run in self.runs:
+            for pipe, events in run.waits():
+                pipes.register(pipe, events)
+        pipes.poll(1000 * PAUSE)
+
+    def read(self, source: Source, arrived: "queue.Queue[Lines | None]") -> None:
+        """Passes on the lines of the source, and None at its end."""
         try:
-            for lines, mark in source.lines():
-                room.acquire()
-                self.events.put(("lines", lines, mark))
-            self.events.put(("end", None))
+            for came in source.lines():
+                arrived.put(came)
         except (Fault, OSError) as error:
-            self.events.put(("end", error))
+            self.failed = error
+        arrived.put(None)
 
     def finish(self) -> None:
         """Ends all runs. If the stream continues later, writes only settled rows."""
@@ -605,9 +690,8 @@ class Follow:
                 if run.limit is None:
                     run.end_at(self.files.place(), self.now(), not self.given.whole)
         while self.runs:
-            event = self.next(True)
-            if event and event[0] in ("row", "ended"):
-                self.handle(event)
+            self.serve()
+            self.wait()
         if self.listener and self.given.whole:
             self.listener.ended()
         self.health.write(self.clock.time, len(self.heard))

@@ -44,7 +44,7 @@ def steps_of(text: str) -> tuple[int, int]:
 
 
 MISSING = "missing"              # the kind of a line that says that a window has no rows, or not all
-UNSURE = "unsure"                # the kind of a line that names a pair whose alarms a window may lack
+UNSURE = "unsure"                # the kind of a line that names a pair whose rows a window may lack
 
 
 class Sink(Protocol):
@@ -172,13 +172,13 @@ class Written:
             self.put({"mode": mode, "run": start, "row": MISSING, "kind": MISSING, "begins": iso(start),
                       "ends": iso(start + seconds), "why": why}, start)
 
-    def question(self, pair: tuple[int, int], start: int, bounds: tuple[int, int], why: str) -> None:
-        """Writes once that alarms of a pair, or of all pairs, may be missing in a window between two times."""
+    def question(self, pair: tuple[int, int], mode: str, start: int, bounds: tuple[int, int], why: str) -> None:
+        """Writes once that rows of a pair, of a vessel or of all may be missing in a window between two times."""
         self.load(start)
-        known, row = self.known.setdefault(("watch", start), set()), f"{UNSURE},{pair[0]},{pair[1]},{why}"
+        known, row = self.known.setdefault((mode, start), set()), f"{UNSURE},{pair[0]},{pair[1]},{why}"
         if row not in known:
             known.add(row)
-            self.put({"mode": "watch", "run": start, "row": row, "kind": UNSURE, "subject": pair[0] or None,
+            self.put({"mode": mode, "run": start, "row": row, "kind": UNSURE, "subject": pair[0] or None,
                       "other": pair[1] or None, "begins": iso(bounds[0]), "ends": iso(bounds[1]), "why": why}, start)
 
     def put(self, told: dict[str, Any], start: int) -> None:

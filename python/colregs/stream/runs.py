@@ -1,13 +1,15 @@
-"""A run of the program over a window of a stream: it reads the day files as they grow and passes on its rows as they
-arrive."""
+"""A run of the program over a window of a stream: it gets the lines of the day files as they grow, and returns its rows
+as they arrive."""
+import os
+import select
 import subprocess
-import threading
-from collections.abc import Callable, Collection
-from typing import Any
+import tempfile
+from collections.abc import Collection
 
 from colregs.stream.day_files import BLOCK, DayFiles, Mark
 
-PAUSE = 0.05                     # s between checks of a file that does not grow
+Rows = tuple[list[str], str | None]             # new rows, and after the end what the program wrote on standard error
+KINDS = "meeting,", "verdict,", "alarm,", "point,"
 
 
 class Window:
@@ -42,6 +44,19 @@ class WindowRun:
         self.cut, self.long = False, False
         self.behind = False                             # whether more than one block of lines waits
 
+    @property
+    def is_busy(self) -> bool:
+        """Returns whether this run has lines or rows that have waited since it last worked."""
+        return False
+
+    def work(self) -> Rows:
+        """Takes new lines without waiting; returns the rows that have arrived, and after the end why it ended."""
+        raise NotImplementedError
+
+    def waits(self) -> list[tuple[int, int]]:
+        """Returns the pipes on which this run waits, each with its events for `select.poll`."""
+        return []
+
     def key(self) -> tuple[int, str, frozenset[int] | None]:
         """Returns the key of this run: its window's start, its mode and its group."""
         return self.window.start, self.mode, self.group
@@ -65,57 +80,86 @@ class WindowRun:
 
 
 class StreamRun(WindowRun):
-    """The program in one mode over one window."""
+    """The program in one mode over one window. Its pipes never block, so that one thread serves all runs: with a thread
+    for each, a busy machine does little but switch between them."""
 
-    def __init__(self, words: list[str], window: Window, mode: str, group: frozenset[int] | None, files: DayFiles,
-                 rows: Callable[[tuple[Any, ...]], None]) -> None:
+    def __init__(self, words: list[str], window: Window, mode: str, group: frozenset[int] | None,
+                 files: DayFiles) -> None:
         super().__init__(window, mode, group)
+        self.said = tempfile.TemporaryFile()            # its standard error
         # in its own process group: a signal of the terminal ends the tool, which then ends its runs in order
         self.child: subprocess.Popen[bytes] = subprocess.Popen(words, stdin=subprocess.PIPE, stdout=subprocess.PIPE,
-                                                               stderr=subprocess.PIPE, process_group=0)
-        self.threads = [
-            threading.Thread(target=work, args=(files, rows), daemon=True) for work in (self.feed, self.read)
-        ]
-        for thread in self.threads:
-            thread.start()
+                                                               stderr=self.said, process_group=0)
+        assert self.child.stdin is not None and self.child.stdout is not None
+        self.stdin, self.stdout = self.child.stdin, self.child.stdout
+        for pipe in (self.stdin, self.stdout):
+            os.set_blocking(pipe.fileno(), False)
+        self.blocks = files.blocks(window.place, lambda: self.limit)
+        self.unsent, self.part = window.types, b""      # lines that the program has not taken, and the start of a row
+        self.has_more = False
 
-    def feed(self, files: DayFiles, _: object) -> None:
-        """Writes the lines of the day files to the program as they grow."""
-        waiting = threading.Event()
-        assert self.child.stdin is not None
+    @property
+    def is_busy(self) -> bool:
+        """Returns whether lines or rows wait."""
+        return self.behind or self.has_more or bool(self.unsent)
+
+    def waits(self) -> list[tuple[int, int]]:
+        """Returns the program's output, and its input if lines wait."""
+        found = [(self.stdout.fileno(), select.POLLIN)]
+        if self.behind or self.unsent:
+            found.append((self.stdin.fileno(), select.POLLOUT))
+        return found
+
+    def work(self) -> Rows:
+        """Writes new lines to the program, and returns its new rows."""
         try:
-            self.child.stdin.write(self.window.types)
-            for block in files.blocks(self.window.place, lambda: self.limit):
-                self.behind = len(block) >= BLOCK
-                if block:
-                    self.child.stdin.write(block)
-                    self.child.stdin.flush()
-                elif self.child.poll() is not None:
-                    return
-                else:
-                    waiting.wait(PAUSE)
-            self.child.stdin.close()
-        except (BrokenPipeError, ValueError, OSError):
-            pass                                        # the program has ended, which `read` reports
+            self.feed()
+        except BlockingIOError:
+            pass                                        # it still has lines to read
+        except BrokenPipeError:
+            self.unsent, self.behind = b"", False       # it has ended, which `read` reports
+            self.stdin.close()
+        return self.read()
 
-    def read(self, _: object, rows: Callable[[tuple[Any, ...]], None]) -> None:
-        """Passes on the program's rows, and then the end of the run."""
-        error: list[bytes] = []
-        stdout, stderr = self.child.stdout, self.child.stderr
-        assert stdout is not None and stderr is not None
-        listener = threading.Thread(target=lambda source: error.append(source.read()), args=(stderr,), daemon=True)
-        listener.start()
-        for line in stdout:
-            if not line.endswith(b"\n"):
-                break                                   # the program was killed while it wrote this row
-            if line.startswith((b"meeting,", b"verdict,", b"alarm,", b"point,")):
-                rows(("row", self, line.decode().rstrip("\n")))
-            elif line.startswith(b"lines,"):
-                _, outcome, count, _ = line.decode().split(",", 3)
+    def feed(self) -> None:
+        """Writes new lines of the day files to the program, as many as it takes at once."""
+        while not self.stdin.closed:
+            if not self.unsent:
+                block = next(self.blocks, None)
+                if block is None:
+                    self.stdin.close()
+                self.unsent, self.behind = block or b"", len(block or b"") >= BLOCK
+            if not self.unsent:
+                return
+            self.unsent = self.unsent[os.write(self.stdin.fileno(), self.unsent):]
+
+    def read(self) -> Rows:
+        """Returns the rows that have arrived, and after the end what the program wrote on standard error."""
+        try:
+            block = os.read(self.stdout.fileno(), BLOCK)
+        except BlockingIOError:
+            self.has_more = False
+            return [], None
+        self.has_more = len(block) == BLOCK
+        if not block and self.child.poll() is not None:
+            return [], self.end()
+        # of a program that was killed while it wrote a row, this row is left out
+        *lines, self.part = (self.part + block).split(b"\n")
+        rows = [line.decode("utf-8", "replace") for line in lines]
+        for row in rows:
+            if row.startswith("lines,"):
+                _, outcome, count, _ = row.split(",", 3)
                 self.counts[outcome] = int(count)
-        self.status, self.behind = self.child.wait(), False
-        listener.join()
-        rows(("ended", self, b"".join(error).decode("utf-8", "replace").strip()))
+        return [row for row in rows if row.startswith(KINDS)], None
+
+    def end(self) -> str:
+        """Ends a run whose program has ended; returns what it wrote on standard error."""
+        self.status, self.unsent, self.behind = self.child.returncode, b"", False
+        self.said.seek(0)
+        words = self.said.read().decode("utf-8", "replace").strip()
+        for file in (self.stdin, self.stdout, self.said):
+            file.close()
+        return words
 
     def stop(self) -> None:
         """Kills the program."""

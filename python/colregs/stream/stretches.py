@@ -299,9 +299,10 @@ class StretchSink:
         for line in lines:
             self.fleet.take_line(line, clock)
 
-    def point(self, row: str) -> None:
-        """Takes a row `point`."""
-        self.fleet.take_point(row)
+    def points(self, rows: list[str]) -> None:
+        """Takes rows of `points`."""
+        for row in rows:
+            self.fleet.take_point(row)
 
     def passed(self, clock: int) -> None:
         """Takes the time of the stream's clock."""

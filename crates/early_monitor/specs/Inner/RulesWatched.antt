@@ -51,11 +51,11 @@ early_at w k = get_or w.early.items k None
 
 -- ---- the state of the program for a trace
 
--- A rule has no program of its own, and its latest value is not No.
+-- If the rule has no program of its own, its latest value is not No.
 abbrev pub IsCalmRule : WatchedRules → TraceState → ℕ → Type 0
-IsCalmRule w values k = (early_at w k ≡ None) × (last_value w.program values k ≢ No)
+IsCalmRule w values k = early_at w k ≡ None → last_value w.program values k ≢ No
 
--- The same for all rules: a row that changes none of their values has no alarm.
+-- The same for all rules: a row that changes none of their values has only alarms of rules with their own programs.
 abbrev pub IsCalm : WatchedRules → TraceState → Type 0
 IsCalm w values = (k : ℕ) → k < length w.early.items → IsCalmRule w values k
 

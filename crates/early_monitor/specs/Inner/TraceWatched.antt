@@ -24,6 +24,7 @@ pub record IsReady (w : WatchedRules) (trace : WatchedTrace) : Type 0 where
   pub as_many : length trace.early.items ≡ length w.early.items
   pub early : (k : ℕ) → k < length w.early.items → FitsRule (steps_of trace) (early_at w k) (kept_at trace.early.items k)
   pub calm : trace.calm ≡ true → IsCalm w trace.values
+  pub plain : trace.plain ≡ true → (k : ℕ) → k < length w.early.items → early_at w k ≡ None
 
 -- Its model is the values of the atoms at the steps of a trace so far.
 pub record StandsFor (w : WatchedRules) (numbers : AuditNumbers) (trace : WatchedTrace) (known : Known) : Type 0 where

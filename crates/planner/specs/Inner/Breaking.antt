@@ -3,7 +3,7 @@ use Rattle.std.specs.Prelude.{ℕ, ◌≡◌, ◌≢◌, ◌+◌, ◌*◌, ◌<�
 use Rattle.mtl_formulas.specs.FormulaTree.{FormulaTree}
 use Rattle.mtl_formulas.specs.FormulaMeasures.{reach_of}
 use Rattle.mtl_formulas.specs.declared.verdict.Verdict.TheVariants.{No}
-use Rattle.mtl_monitor.specs.Following.{count_of, formula_at, past_of, Closes, Follows}
+use Rattle.mtl_monitor.specs.Following.{count_of, formula_at, last_value, past_of, Closes, Follows}
 use Rattle.mtl_formulas.specs.Traces.{Trace, value_in}
 use Rattle.mtl_monitor.specs.declared.program.Program.{Program}
 use Rattle.mtl_monitor.specs.declared.trace_state.TraceState.{TraceState}
@@ -32,6 +32,10 @@ pub record IsNewlyBrokenAt (formulas : List FormulaTree) (cut rows : Trace) (pas
   pub known : rule < length formulas
   pub at : IsBrokenAt rows (formula_at formulas rule) passed
   pub not_before : value_in cut (formula_at formulas rule) at.position ≢ No
+
+-- No formula's last value is No.
+abbrev pub IsCalm : Program → TraceState → Type 0
+IsCalm program values = (rule : ℕ) → rule < count_of program → last_value program values rule ≢ No
 
 -- what is kept of the cut trace for the row with this index after it
 abbrev pub flag_at : Already → ℕ → ℕ → Bool

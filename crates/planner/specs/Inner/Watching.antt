@@ -8,18 +8,19 @@ use Rattle.mtl_formulas.specs.Traces.{Trace}
 use Rattle.mtl_monitor.specs.declared.program.Program.{Program}
 use Rattle.plan_situations.specs.FailingPlans.{AreTraceRows, BeginsAt, BreaksARule}
 use Rattle.rule_program.specs.Lags.{IsNoLast}
-use Rattle.planner.specs.Inner.Breaking.{IsNewlyBrokenAt, Tells, formulas_of}
+use Rattle.planner.specs.Inner.Breaking.{IsCalm, IsNewlyBrokenAt, Tells, formulas_of}
 use Rattle.plan_situations.specs.Situations.{now_of, own_at, target_at, terms_of, IsSituation, IsTarget}
 use Rattle.plan_situations.specs.declared.situation.Situation.{Situation}
 use Rattle.plan_situations.specs.declared.situation.Target.{Target}
 use Rattle.planner.specs.declared.towards.Towards.{Towards}
 use Rattle.planner.specs.declared.watched.Watched.{Watched}
 
--- It continues by this program, and has the places that it takes.
+-- It continues by this program, and has the places that it takes. If it says that it is calm, so it is.
 pub record IsReady (program : Program) (watched : Watched) : Type 0 where
   pub fits : monitor.Fits program watched.values
   pub room : monitor.HasRoom program watched.values
   pub unended : monitor.past_of watched.values ≡ 0
+  pub calm : watched.calm ≡ true → IsCalm program watched.values
 
 -- It was fed at most this many rows.
 pub record IsEarly (at : ℕ) (watched : Watched) : Type 0 where
@@ -86,9 +87,9 @@ pub record IsCut (towards : Towards) (cut : Trace) : Type 0 where
   pub is_cut : IsCutAtNow towards.situation.now towards.target.now cut
   pub tells : Tells (formulas_of towards.situation.now) cut towards.already.now
 
--- Under a plan both are in contact at a tick, or are not, and this is their step from it on.
-pub record IsStepAt (situation : Situation) (plan : List ℕ) (target : Target) (at : ℕ) (in_contact : Bool) (seen : Option PairStep) : Type 0 where
-  pub contact : IsTrue in_contact ↔ IsContactAt (own_at situation plan) (target_at situation target) situation.detect.watch at
+-- Under a plan both are in contact at a tick, or are not, if her trace has not begun; and this is their step from it on.
+pub record IsStepAt (situation : Situation) (plan : List ℕ) (target : Target) (at : ℕ) (begun in_contact : Bool) (seen : Option PairStep) : Type 0 where
+  pub contact : begun ≡ false → (IsTrue in_contact ↔ IsContactAt (own_at situation plan) (target_at situation target) situation.detect.watch at)
   pub step : seen ≡ step_at (own_at situation plan) (target_at situation target) at
 
 -- She was followed from a tick to another under a plan. If nothing was newly broken, what is kept stands there again; otherwise a rule is broken by then.

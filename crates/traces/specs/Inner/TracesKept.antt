@@ -1,11 +1,18 @@
 -- What is kept of all traces, and how it grows.
-use Rattle.std.specs.Prelude.{ℕ, ◌≡◌, ◌≢◌, ◌+◌, ◌≤◌, ◌↔◌, List, [], ◌∷◌, ◌++◌, length}
+use Rattle.std.specs.Prelude.{ℕ, ◌≡◌, ◌≢◌, ◌+◌, ◌≤◌, ◌↔◌, ◌*◌, List, [], ◌∷◌, ◌++◌, length, Option, None, Some, pos, ◌≤ℤ◌}
 use Rattle.std.specs.List.{AllPairs, AllZip, Contains}
 use Rattle.meetings.specs.Standing as meetings
 use Rattle.meetings.specs.Traces.{AreInContact}
 use Rattle.meetings.specs.declared.pair.Pair.{Pair}
+use Rattle.encounters.specs.declared.pair_step.PairStep.{PairStep}
+use Rattle.mtl_formulas.specs.declared.atom.Atom.{Atom}
+use Rattle.fixed_geometry.specs.Plane.{norm2_of}
+use Rattle.mtl_formulas.specs.declared.glance.Glance.{Glance}
+use Rattle.mtl_formulas.specs.declared.glance.Glance.TheVariants.{Apart, Unseen}
+use Rattle.mtl_formulas.specs.declared.verdict.Verdict.{Verdict}
 use Rattle.traces.specs.Audited.{Begins, IsAudited, AuditNumbers, SeenVessels, Sighting, sighting_at, state_in, terms_of, trace_ranks}
-use Rattle.traces.specs.Known.{AreKnown, AreOpened, IsKnown, Known, pairs_of}
+use Rattle.traces.specs.Keeping.{IsApartRow}
+use Rattle.traces.specs.Known.{AreKnown, AreOpened, IsKnown, Known, pairs_of, watched}
 use Rattle.ranks.specs.declared.rank.Rank.{Rank}
 use Rattle.traces.specs.declared.all_traces.AllTraces.{AllTraces}
 use Rattle.traces.specs.declared.all_traces.TheConstants.{MOST_TRACES}
@@ -17,6 +24,17 @@ pub record Follows (numbers : AuditNumbers) (ticks : List Sighting) (trace : Fol
   pub pair : trace.pair ≡ known.pair
   pub start : trace.start ≡ known.start
   pub follows : meetings.FollowsRanked trace.follower (terms_of numbers) (trace_ranks ticks known.pair known.start) known.steps
+
+-- A glance that shows this of the step shows that the vessels stay apart, if they were: they are unseen, or more than `watch` apart.
+abbrev pub ShowsApart : ℕ → Option PairStep → Glance → Type 0
+ShowsApart watch None glance = glance ≡ Unseen
+ShowsApart watch (Some pair) glance = (glance ≡ Apart) × ¬ (norm2_of pair.step.p ≤ℤ pos (watch * watch))
+
+-- It follows its next step too: the vessels are apart there, as a glance shows.
+pub record FollowsApart (numbers : AuditNumbers) (ticks : List Sighting) (trace : FollowedTrace) (known : Known) (seen : Option PairStep) (glance : Glance) : Type 0 where
+  pub answers : Atom → Verdict
+  pub row : IsApartRow numbers (trace_ranks ticks known.pair known.start) known seen glance answers
+  pub follows : Follows numbers ticks trace (watched known seen answers)
 
 pub record Holds (kept : AllTraces) (numbers : AuditNumbers) (ticks : List Sighting) (knowns : List Known) : Type 0 where
   pub detect : kept.detect ≡ numbers.detect

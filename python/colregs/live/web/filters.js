@@ -56,7 +56,9 @@ export class Filters {
   }
 
   row(store, row) {
-    return (!this.fields.rule.value || row.rule === this.fields.rule.value) && this.hasName(row.subject_name, row.other_name, row.subject, row.other)
+    const { rule, kind } = this.fields, own = row.encounter;      // a row `meeting` has its kind
+    return (!rule.value || row.rule === rule.value) && (own ? !kind.value || own === kind.value : this.ofKind(store, row.subject, row.other))
+      && this.hasName(row.subject_name, row.other_name, row.subject, row.other)
       && this.inArea(this.placeOf(store, row.subject), this.placeOf(store, row.other));
   }
 

@@ -2,7 +2,7 @@
 import { Store } from "./store.js";
 import { byId, date, time } from "./words.js";
 
-const WAIT = 250, STEP = 10;        // ms after the last move of the slider; s between two moments
+const WAIT = 250, AGAIN = 1000, STEP = 10;     // ms after the last move of the slider, and after too many questions; s between two moments
 
 export class Past {
   constructor(live, changed) {
@@ -55,7 +55,8 @@ export class Past {
   async read(at) {
     try {
       const answer = await fetch(`/api/history?at=${at}`);
-      if (!answer.ok) throw new Error(answer.status === 429 ? "too many at once: wait a second" : (await answer.json()).fault);
+      if (answer.status === 429 && at === this.asked) { this.timer = setTimeout(() => this.read(at), AGAIN); return; }
+      if (!answer.ok) throw new Error((await answer.json()).fault);
       const snapshot = await answer.json();
       if (at !== this.asked) return;
       this.store = new Store();

@@ -25,7 +25,7 @@ loop-k-preserved c =
       fed = fed_step c.take.new.self.begun _ _ k c.take.ensures.fed c.take.ensures.unfed fed;
       since = c.take.ensures.since ∙ was.since;
       stands = c.take.ensures.stands s [] T k was.stands (record {
-        contact = (
+        contact = λ _. (
           λ t. same_contact s c.plan-plan.result [] 0 (λ step h. absurd (omega arith)) T s.detect.watch k within (c.are_in_contact-in_contact.ensures.0 t),
           λ h. c.are_in_contact-in_contact.ensures.1 (same_contact s [] c.plan-plan.result 0 (λ step h. absurd (omega arith)) T s.detect.watch k within h),
         );

@@ -38,7 +38,7 @@ rest_of_audit-requires-clause-rows c =
     let at = c.requires.at_end in
     let scenario = c.args.scenario.now in
     let rows = c.in_ok-end.ensures.rows (lines_of at.log) [] at.given at.is.stands (judged_parts c.args.judge.now scenario at.log at.given at.is) in
-    last_of_rules scenario.rules at.given c.in_ok-end.end.rows.items (rows_of_rules (audit_numbers scenario) _ _ rows)
+    last_of_rules scenario at.given c.in_ok-end.end.rows.items (rows_of_rules (audit_numbers scenario) _ _ rows)
 
 pub rest_of_audit-requires-clause-totals : goal.rest_of_audit-requires-clause-totals
 rest_of_audit-requires-clause-totals c =

@@ -1,4 +1,4 @@
-use Rattle.std.proofs.Common.{ℕ, List, [], append-nil, ◌∙◌, ◌++◌, ap, subst, sym, Err}
+use Rattle.std.proofs.Common.{ℕ, List, [], append-nil, ◌∙◌, ◌++◌, ap, subst, sym, Err, length}
 use Rattle.outside.proofs.ForCallers.{err_cause}
 use Rattle.early_monitor.specs.Alarms.{AreAlarms}
 use Rattle.log_lines.specs.LogLines.{lines_of}
@@ -32,7 +32,7 @@ write_alarms-requires c =
     let at = c.requires.at_end in
     let scenario = c.args.scenario.now in
     let early = c.in_ok-alarms.ensures.alarms (lines_of at.log) [] at.given at.is.stands (judged_parts c.args.judge.now scenario at.log at.given at.is) in
-    rw c.as_slice.ensures.value (last_alarms scenario.rules at.given c.in_ok-alarms.alarms.items (alarms_of_rules (audit_numbers scenario) _ _ early))
+    rw c.as_slice.ensures.value (last_alarms (length scenario.rules) at.given c.in_ok-alarms.alarms.items (alarms_of_rules (audit_numbers scenario) _ _ early))
 
 pub returns-clause-report : goal.returns-clause-report
 unfolding sightings_of

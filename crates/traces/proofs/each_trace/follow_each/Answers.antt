@@ -2,7 +2,7 @@ use Rattle.std.proofs.Common.{◌≡◌, ◌≢◌, ℕ, ◌+◌, ◌<◌, ◌�
 use Rattle.traces.specs.Standing.{traces_of}
 use Rattle.traces.specs.Window.{IsReadyFor}
 use Rattle.traces.proofs.Keeping.{ready_after}
-use Rattle.traces.proofs.UnderWay.{at_step, few_steps, gives_row, under_way_all, under_way_more, under_way_none}
+use Rattle.traces.proofs.UnderWay.{at_step, few_steps, under_way_all, under_way_more, under_way_none}
 use Rattle.traces.proofs.each_trace.follow_each.Goals as goal
 
 before_or_at : (k n : ℕ) → k < n + 1 → (k < n) ⊎ (k ≡ n)
@@ -30,37 +30,35 @@ loop-index-preserved g c =
     let old : List g.row.K-Kept.Denot = c.loop-index.kept in
     let i : ℕ = c.loop-index.index in
     let inv = c.loop-index.invariant in
-    let after : g.row.K-Kept.Denot = c.step.new.kept in
+    let after : g.row.K-Kept.Denot = c.follow_one.new.one in
+    let keeper = g.K.TraceKeeper.keeper c.follow_one.new.keeper in
     let count = length-set old i after in
     let many = inv.many in
     let test = c.loop-index-test.true in
     let within : i < length old = omega (arith, many, test) in
-    let found = c.next_step-next_step.ensures in
-    let taken = c.take_step-row.ensures in
     let was = inv.rest i c.index-kept-index.result (omega arith) within in
-    let stepped = c.in_ok-step.ensures in
+    let followed = c.follow_one.ensures in
+    let taken = c.in_ok-follow_one.ensures in
     let of_traces : i < traces_of c.loop-index.traces = omega (arith, within, many, inv.traces, c.requires.many) in
     record {
-      sound = taken.sound;
-      given = taken.given ∙ found.given ∙ inv.given;
-      last_tick = taken.last_tick ∙ found.last_tick ∙ inv.last_tick;
-      latest = taken.latest ∙ found.latest ∙ inv.latest;
-      traces = taken.as_many ∙ found.as_many ∙ inv.traces;
+      sound = followed.sound;
+      given = followed.given ∙ inv.given;
+      last_tick = followed.last_tick ∙ inv.last_tick;
+      latest = followed.latest ∙ inv.latest;
+      traces = followed.as_many ∙ inv.traces;
       many = count ∙ inv.many;
-      goes_on = stepped.goes_on.sound;
+      goes_on = taken.goes_on.sound;
       done = λ k d lt. elim (before_or_at k i lt) [
         | inl before ↦ (let ne : k ≢ i = omega (arith, before) in
-            rw get_or-set_other (ready_after (g.K.TraceKeeper.keeper c.loop-index.keeper) (g.K.TraceKeeper.keeper c.step.new.self) (c.args.traces.now.given + 1) (get_or old k d) stepped.goes_on (inv.done k d before)))
-        | inr at ↦ subst (λ (n : ℕ). IsReadyFor (g.K.TraceKeeper.keeper c.step.new.self) (c.args.traces.now.given + 1) (get_or (set old i after) n d)) (sym at)
-            (rw get_or-set_same (record { ready = stepped.ready; few = omega (arith, was.few, stepped.one_more) }))
+            rw get_or-set_other (ready_after (g.K.TraceKeeper.keeper c.loop-index.keeper) keeper (c.args.traces.now.given + 1) (get_or old k d) taken.goes_on (inv.done k d before)))
+        | inr at ↦ subst (λ (n : ℕ). IsReadyFor keeper (c.args.traces.now.given + 1) (get_or (set old i after) n d)) (sym at)
+            (rw get_or-set_same (record { ready = taken.ready; few = omega (arith, was.few, taken.one_more) }))
       ];
       rest = λ k d from lt. (let ne : k ≢ i = omega (arith, from) in let inside : k < length old = omega (arith, lt, count) in
-          rw get_or-set_other (ready_after (g.K.TraceKeeper.keeper c.loop-index.keeper) (g.K.TraceKeeper.keeper c.step.new.self) c.args.traces.now.given (get_or old k d) stepped.goes_on (inv.rest k d (omega (arith, from)) inside)));
+          rw get_or-set_other (ready_after (g.K.TraceKeeper.keeper c.loop-index.keeper) keeper c.args.traces.now.given (get_or old k d) taken.goes_on (inv.rest k d (omega (arith, from)) inside)));
       way = λ numbers ticks knowns given are stands at keeps.
-          under_way_more numbers ticks c.args.seen.now c.args.step knowns given (g.K.TraceKeeper.keeper c.loop-index.keeper) (g.K.TraceKeeper.keeper c.step.new.self)
-          c.loop-index.traces c.take_step-row.new.self old i _ c.index-kept-index.result after at of_traces stepped
-          (gives_row numbers ticks c.args.seen.now c.loop-index.traces c.next_step-next_step.new.self c.take_step-row.new.self i
-          c.next_step-next_step.result _ c.as_ref-pair_step.ensures.value c.state-was.ensures found.step found.stands taken.row taken.stands c.state-is.ensures)
+          under_way_more numbers ticks c.args.seen.now c.args.step knowns given (g.K.TraceKeeper.keeper c.loop-index.keeper) keeper
+          c.loop-index.traces c.follow_one.new.traces old i c.index-kept-index.result after at of_traces (taken.takes numbers ticks)
           (inv.way numbers ticks knowns given are stands at keeps);
     }
 

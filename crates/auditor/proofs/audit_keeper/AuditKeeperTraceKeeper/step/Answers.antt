@@ -1,4 +1,6 @@
 use Rattle.std.proofs.Common.{refl}
+use Rattle.meetings.specs.Answers.{answer_of}
+use Rattle.traces.specs.Keeping.{IsNextRow}
 use Rattle.auditor.proofs.UnderWay.{marked_more}
 use Rattle.auditor.proofs.audit_keeper.AuditKeeperTraceKeeper.step.Goals as goal
 
@@ -8,6 +10,7 @@ returns c = record {
   ready = c.step.ensures.ready;
   one_more = c.step.ensures.steps;
   stands = λ numbers ranks kept other done rest known seen given m at here is_at row.
-      marked_more c.args.self.now.program numbers m.is c.args.index c.first_track-first.result c.first_track-first.ensures.is c.args.step given c.args.self.now.queue c.step.new.queue c.args.next ranks kept other
+      marked_more c.args.self.now.program numbers m.is c.args.index c.first_track-first.result c.first_track-first.ensures.is c.args.step given c.args.self.now.queue c.step.new.queue (answer_of c.args.next.row.now)
+      (λ numbers ranks known seen. IsNextRow numbers ranks known seen c.args.next) ranks kept other
       c.args.trace.now c.step.new.self done rest known seen at here is_at row c.in_ok-step.ensures.stands m;
 }

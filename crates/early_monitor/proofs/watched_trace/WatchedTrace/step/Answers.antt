@@ -25,25 +25,28 @@ feed-changes-requires c = record {
   small = c.requires.few;
 }
 
--- Each rule is calm, so it keeps nothing.
-pub returns-then-not-changes-clause-ready : goal.returns-then-not-changes-clause-ready
-returns-then-not-changes-clause-ready c =
+-- No rule has a program of its own, so none has a state.
+pub returns-then-has_no_alarm-clause-ready : goal.returns-then-has_no_alarm-clause-ready
+returns-then-has_no_alarm-clause-ready c =
     let w = c.args.rules.now in
     let new = c.feed-changes.new.self in
     let ready = c.requires.ready in
-    let calm = ready.calm c.if-calm.true in
+    let none = c.has_no_alarm.ensures c.if-has_no_alarm.true in
+    let quiet = c.is_quiet-quiet.ensures none.0 in
+    let plain = ready.plain none.1 in
     record {
       fits = c.feed-changes.ensures.fits;
       unended = c.feed-changes.ensures.past;
       as_many = ready.as_many;
-      early = λ k lt. subst (λ (e : Option EarlyRule). FitsRule (fed_of new) e (kept_at c.args.self.now.early.items k)) (sym (calm k lt).0) tt;
-      calm = λ _. stays_calm w c.args.self.now.values new calm (c.if-not-changes.ensures.same refl);
+      early = λ k lt. subst (λ (e : Option EarlyRule). FitsRule (fed_of new) e (kept_at c.args.self.now.early.items k)) (sym (plain k lt)) tt;
+      calm = λ _. stays_calm w c.args.self.now.values new (ready.calm quiet.0) (c.feed-changes.ensures.same quiet.1);
+      plain = ready.plain;
     }
 
-pub returns-then-not-changes-clause-stands : goal.returns-then-not-changes-clause-stands
-returns-then-not-changes-clause-stands c = λ numbers known seen are s.
+pub returns-then-has_no_alarm-clause-stands : goal.returns-then-has_no_alarm-clause-stands
+returns-then-has_no_alarm-clause-stands c = λ numbers known seen are s.
     let w = c.args.rules.now in
-    let calm = c.requires.ready.calm c.if-calm.true in
+    let plain = c.requires.ready.plain (c.has_no_alarm.ensures c.if-has_no_alarm.true).1 in
     let all = known.trace ++ answer_of c.args.row.now ∷ [] in
     let many = are.early.as_many in
     record {
@@ -51,18 +54,21 @@ returns-then-not-changes-clause-stands c = λ numbers known seen are s.
       start = s.start;
       values = c.feed-changes.ensures.follows (plain_trees w.early.items numbers.rules) known.trace s.values;
       early = λ k lt.
-          subst (λ (e : Option EarlyRule). StandsForRule e (kept_at c.args.self.now.early.items k) (tree_of_rule numbers.rules k) all) (sym (calm k (omega (arith, lt, many))).0) tt;
+          subst (λ (e : Option EarlyRule). StandsForRule e (kept_at c.args.self.now.early.items k) (tree_of_rule numbers.rules k) all) (sym (plain k (omega (arith, lt, many)))) tt;
     }
 
-pub returns-then-not-changes-clause-adds : goal.returns-then-not-changes-clause-adds
-returns-then-not-changes-clause-adds c = λ numbers known seen are s.
+pub returns-then-has_no_alarm-clause-adds : goal.returns-then-has_no_alarm-clause-adds
+returns-then-has_no_alarm-clause-adds c = λ numbers known seen are s.
     let w = c.args.rules.now in
     let old = c.args.self.now.values in
     let new = c.feed-changes.new.self in
+    let ready = c.requires.ready in
     let now = watched known seen (answer_of c.args.row.now) in
-    let calm : IsCalm w new = stays_calm w old new (c.requires.ready.calm c.if-calm.true) (c.if-not-changes.ensures.same refl) in
+    let none = c.has_no_alarm.ensures c.if-has_no_alarm.true in
+    let quiet = c.is_quiet-quiet.ensures none.0 in
+    let calm : IsCalm w new = stays_calm w old new (ready.calm quiet.0) (c.feed-changes.ensures.same quiet.1) in
     adds_none (IsBreachOf numbers c.args.step now) c.args.alarms.now.keys
-    (no_breach w numbers are new now (c.feed-changes.ensures.follows (plain_trees w.early.items numbers.rules) known.trace s.values) calm c.args.step)
+    (no_breach w numbers are new now (c.feed-changes.ensures.follows (plain_trees w.early.items numbers.rules) known.trace s.values) calm (ready.plain none.1) c.args.step)
 
 pub take_row-requires : goal.take_row-requires
 take_row-requires c =
@@ -84,6 +90,9 @@ take_row-requires c =
       fits = subst (λ (s : Option EarlyState). FitsRule (fed_of c.feed-changes.new.self - 1) (early_at w i) s) (get_or_default old i None c.state-item.result within)
           (inv.fits_rest i (omega arith) rule);
       some = omega (arith, fed);
+      quiet = λ is.
+          let both = c.is_quiet-quiet.ensures is in
+          stays_calm w c.args.self.now.values c.feed-changes.new.self (c.requires.ready.calm both.0) (c.feed-changes.ensures.same both.1) i rule;
     }
 
 pub loop-rule-init : goal.loop-rule-init
@@ -196,6 +205,7 @@ returns-clause-ready c =
           subst (λ (states : List (Option EarlyState)). FitsRule (fed_of c.feed-changes.new.self) (early_at c.args.rules.now k) (kept_at states k)) (sym written)
           (inv.fits_done k (omega (arith, lt, all)));
       calm = λ calm k lt. inv.calm calm k (omega (arith, lt, all));
+      plain = c.requires.ready.plain;
     }
 
 pub returns-clause-stands : goal.returns-clause-stands

@@ -1,4 +1,5 @@
-use Rattle.std.proofs.Common.{◌≡◌, ◌++◌, ◌∷◌, [], max, arith}
+use Rattle.std.proofs.Common.{◌≡◌, ◌++◌, ◌∷◌, [], max, arith, ap, Bool}
+use Rattle.std.specs.Prelude.{◌&&◌}
 use Rattle.mtl_formulas.specs.FormulaTree.{tree_of}
 use Rattle.mtl_formulas.specs.FormulaMeasures.{reach_of}
 use Rattle.mtl_monitor.specs.Inner.Compiling.{compiled}
@@ -29,7 +30,7 @@ returns-in-Ok-clause-formulas c = λ formulas h.
     let made = c.in_ok-root.ensures.made in
     let roots : c.push.new.self.items ≡ old.roots.items ++ (compiled old.nodes.items t).operand ∷ [] = rw (← made.1) c.in-Ok.ensures.items in
     let reach : c.max.result ≡ max old.reach (reach_of t) = omega (arith, c.max.ensures, c.in_ok-root.ensures.late) in
-    IsProgramOf-grown old formulas t c.requires h _ (record { nodes = made.0; roots = roots; reach = reach; listed = record { all = rw c.deref.ensures.value at c.in_ok-list_atoms.ensures.listed; apart = rw c.deref-2.ensures.value at c.in_ok-list_atoms-2.ensures.listed } })
+    IsProgramOf-grown old formulas t c.requires h _ (record { nodes = made.0; roots = roots; reach = reach; idle = ap (λ (b : Bool). old.idle && b) c.is_idle-asks_none.ensures; listed = record { all = rw c.deref.ensures.value at c.in_ok-list_atoms.ensures.listed; apart = rw c.deref-2.ensures.value at c.in_ok-list_atoms-2.ensures.listed } })
 
 pub list_atoms-requires : goal.list_atoms-requires
 list_atoms-requires c =

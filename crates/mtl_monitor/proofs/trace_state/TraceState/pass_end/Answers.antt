@@ -9,7 +9,7 @@ returns-clause-goes_on c = λ formulas rows h.
     let read = c.read-marks in
     let e = read.ensures in
     Closes-walked p s c.pass.new.self formulas rows read.new.self.values.items read.result e.reads p.below h
-    (c.pass.ensures.fed ∙ e.fed) c.pass.ensures.passed (rw c.pass.ensures.glance e.told) e.answered (rw (e.states, e.moving, e.fed) at (c.pass.ensures.walked s.values.items))
+    (c.pass.ensures.fed ∙ e.fed) c.pass.ensures.passed (rw c.pass.ensures.glance e.read) (rw (e.states, e.moving, e.fed) at (c.pass.ensures.walked s.values.items))
 
 pub returns-clause-begins : goal.returns-clause-begins
 returns-clause-begins c = λ formulas rows h. returns-clause-goes_on c formulas rows (Closes-Follows c.args.program.now c.args.self.now formulas rows h)

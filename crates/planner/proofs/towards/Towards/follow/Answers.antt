@@ -29,7 +29,7 @@ returns-then-take_planned-clause-followed c =
     let from = c.requires.leg.from in
     let lt = c.loop-j-test.true in
     let step = c.take_planned.ensures.followed W at (omega arith) (record {
-      contact = c.is_contact_on-in_contact.ensures W c.requires.path.states;
+      contact = λ e. c.is_contact-in_contact.ensures (c.has_begun.ensures ∙ e);
       step = c.as_ref.ensures.value ∙ c.step_on-seen.ensures.value W c.requires.path.states;
     }) in
     told_by c.args.self.now W (reached s c.args.leg.now.index) (here + 1) (reached s (c.args.leg.now.index + 1)) c.args.watched.now c.take_planned.new.self c.take_planned.result
@@ -49,7 +49,7 @@ loop-j-preserved c =
     let one_fed = c.take_planned.ensures.fed in
     let one_since = c.take_planned.ensures.since in
     let step = c.take_planned.ensures.followed W at (omega arith) (record {
-      contact = c.is_contact_on-in_contact.ensures W c.requires.path.states;
+      contact = λ e. c.is_contact-in_contact.ensures (c.has_begun.ensures ∙ e);
       step = c.as_ref.ensures.value ∙ c.step_on-seen.ensures.value W c.requires.path.states;
     }) in
     record {

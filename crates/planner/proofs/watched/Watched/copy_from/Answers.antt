@@ -8,6 +8,7 @@ returns c = record {
     fits = c.copy_from.ensures.fits program ready.fits;
     room = c.copy_from.ensures.room program ready.room;
     unended = c.copy_from.ensures.past ∙ ready.unended;
+    calm = λ e. cc;
   };
   fed = c.copy_from.ensures.fed;
   since = refl;

@@ -1,4 +1,4 @@
-use Rattle.std.proofs.Common.{◌++◌, ◌≡◌, Err, ap, subst, sym, ◌∙◌}
+use Rattle.std.proofs.Common.{◌++◌, ◌≡◌, Err, ap, subst, sym, ◌∙◌, length}
 use Rattle.outside.proofs.ForCallers.{same_fault}
 use Rattle.traces.specs.declared.fault.TickFault.{TickFault as AuditFault}
 use Rattle.traces.specs.declared.fault.TickFault.TheVariants as audit_fault
@@ -32,7 +32,7 @@ write_stretches-requires c =
     let ready = c.requires.ready in
     let done = subst (λ (w : Work). IsDone w scenario ready.lines ready.works.given) c.in-Audit.is ready.works.done in
     let decided = c.in_ok-rows-in-Audit.ensures.decided ready.lines ready.more done.0.0 done.1 ready.works.judged in
-    rw c.as_slice.ensures.value (last_of_rules scenario.rules done.0.0 c.in_ok-rows-in-Audit.rows.items (rows_of_rules_decided scenario (ready.lines ++ ready.more) _ decided))
+    rw c.as_slice.ensures.value (last_of_rules scenario done.0.0 c.in_ok-rows-in-Audit.rows.items (rows_of_rules_decided scenario (ready.lines ++ ready.more) _ decided))
 
 pub returns-in_ok-write_line-in-Points-clause-goes_on : goal.returns-in_ok-write_line-in-Points-clause-goes_on
 returns-in_ok-write_line-in-Points-clause-goes_on c = λ front has.
@@ -67,7 +67,7 @@ write_alarms-requires c =
     let ready = c.requires.ready in
     let done = subst (λ (w : Work). IsDone w scenario ready.lines ready.works.given) c.in-Watch.is ready.works.done in
     let decided = c.in_ok-alarms-in-Watch.ensures.decided ready.lines ready.more done.0.0 done.1 ready.works.judged in
-    rw c.as_slice-in-Watch.ensures.value (last_alarms scenario.rules done.0.0 c.in_ok-alarms-in-Watch.alarms.items (alarms_of_rules_decided scenario (ready.lines ++ ready.more) _ decided))
+    rw c.as_slice-in-Watch.ensures.value (last_alarms (length scenario.rules) done.0.0 c.in_ok-alarms-in-Watch.alarms.items (alarms_of_rules_decided scenario (ready.lines ++ ready.more) _ decided))
 
 pub returns-in_ok-write_alarms-in-Watch-clause-goes_on : goal.returns-in_ok-write_alarms-in-Watch-clause-goes_on
 returns-in_ok-write_alarms-in-Watch-clause-goes_on c = λ front has.

@@ -1,5 +1,5 @@
 use Rattle.sessions.specs.Standing.{IsInUse}
-use Rattle.session_rows.proofs.pieces.feed_all.Given as goal
+use Rattle.run_rows.proofs.pieces.feed_all.Given as goal
 
 -- the session goes on
 abbrev pub invariant-loop-piece : goal.invariant-loop-piece

@@ -4,13 +4,12 @@ ghost use Rattle.scenario_values.specs.ValueRanges.{IsInRange};
 ghost use Rattle.tasks.specs.Modes.{needs_own};
 ghost use Rattle.sessions.specs.Standing.{IsInUse};
 
-use crate::compared::{is, is_true};
 use scenario::{Scenario, read};
 use scenario_rows::{HEAD_ON, SCENARIO};
 use sessions::{Ending, Mode, Session, SessionFault};
 use std::alloc::Global;
-use std::process::Abort;
 use std::test::Fail;
+use test_support::{is, is_true};
 
 const FIRST_TWO: &[u8] = b"verdict,369190000,477553000,r14a,broken,0,0
 verdict,477553000,369190000,r14a,broken,0,0
@@ -110,21 +109,15 @@ struct Settled {
 }
 
 /// Returns whether a mode gives these of the head-on log and their last lines, in pieces of this many bytes.
-fn are_given(
-    rt: &impl Abort,
-    alloc: Global,
-    mode: Mode,
-    count: usize,
-    rows: &[Settled],
-) -> Result<(), Fail>
+fn are_given(alloc: Global, mode: Mode, count: usize, rows: &[Settled]) -> Result<(), Fail>
     requires own { needs_own mode ≡ false }
     requires count { 1 ≤ count }
 {
     for row in rows {
         let (given, rest) = fed(alloc, mode, row.last, count)?;
-        is(rt, given.as_slice(), row.given);
-        is_true(rt, rest.as_slice().starts_with(row.begins));
-        is_true(rt, rest.as_slice().ends_with(row.ends));
+        is(given.as_slice(), row.given)?;
+        is_true(rest.as_slice().starts_with(row.begins))?;
+        is_true(rest.as_slice().ends_with(row.ends))?;
     }
     Ok(())
 }
@@ -154,7 +147,7 @@ static AUDITED: [Settled; 3] = [
 #[test]
 fn rows_are_given_once_no_later_line_can_change_them(rt: HostRuntime) -> Result<(), Fail> {
     for count in [1, 50, 4096] {
-        are_given(&rt, rt.alloc(), Mode::Audit, count, &AUDITED)?;
+        are_given(rt.alloc(), Mode::Audit, count, &AUDITED)?;
     }
     Ok(())
 }
@@ -186,8 +179,8 @@ static NOT_YET_AUDITED: [Settled; 1] = [Settled {
 #[test]
 fn an_alarm_is_given_once_the_step_that_decides_it_is_settled(rt: HostRuntime) -> Result<(), Fail> {
     for count in [1, 50, 4096] {
-        are_given(&rt, rt.alloc(), Mode::Watch, count, &WATCHED)?;
-        are_given(&rt, rt.alloc(), Mode::Audit, count, &NOT_YET_AUDITED)?;
+        are_given(rt.alloc(), Mode::Watch, count, &WATCHED)?;
+        are_given(rt.alloc(), Mode::Audit, count, &NOT_YET_AUDITED)?;
     }
     Ok(())
 }
@@ -202,7 +195,7 @@ static WITHOUT_ITS_FEED: [Settled; 1] = [Settled {
 
 #[test]
 fn a_line_without_its_line_feed_moves_no_clock(rt: HostRuntime) -> Result<(), Fail> {
-    are_given(&rt, rt.alloc(), Mode::Audit, 50, &WITHOUT_ITS_FEED)
+    are_given(rt.alloc(), Mode::Audit, 50, &WITHOUT_ITS_FEED)
 }
 
 /// What a session of points gives of one piece, how many bytes may still come then, and what it gives at the end.
@@ -244,19 +237,17 @@ fn a_piece_of_a_million_bytes(rt: HostRuntime) -> Result<(), Fail> {
     let Ok((given, _, ending)) = fed_at_once(rt.alloc(), "", log.as_slice())? else {
         return Err("nothing is refused".into());
     };
-    is(&rt, lines_in(given.as_slice()), 4);
+    is(lines_in(given.as_slice()), 4)?;
     let rest = ending.bytes.as_slice();
-    is_true(&rt, rest.starts_with(b"lines,empty,0,,,,\n"));
-    is_true(&rt, !ending.none);
-    Ok(())
+    is_true(rest.starts_with(b"lines,empty,0,,,,\n"))?;
+    is_true(!ending.none)
 }
 
 // The byte behind the limit ends a line, which is not judged.
 #[test]
 fn a_log_of_one_byte_too_many(rt: HostRuntime) -> Result<(), Fail> {
     let long = fed_at_once(rt.alloc(), "max_bytes = 47\n", REPORT)?;
-    is_true(&rt, matches!(long, Err(SessionFault::LogBytes)));
-    Ok(())
+    is_true(matches!(long, Err(SessionFault::LogBytes)))
 }
 
 #[test]
@@ -264,7 +255,6 @@ fn a_log_of_as_many_bytes_as_may_come(rt: HostRuntime) -> Result<(), Fail> {
     let Ok((given, room, _)) = fed_at_once(rt.alloc(), "max_bytes = 48\n", REPORT)? else {
         return Err("nothing is refused".into());
     };
-    is(&rt, given.as_slice(), POINT);
-    is(&rt, room, 0);
-    Ok(())
+    is(given.as_slice(), POINT)?;
+    is(room, 0)
 }

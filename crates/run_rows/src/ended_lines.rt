@@ -1,13 +1,12 @@
 //! Lines that are judged as they end.
 ghost use Rattle.std.specs.Prelude.{◌<◌};
 
-use crate::compared::{is, is_true};
 use log_lines::{StreamedLines, ToldStatic};
 use scenario::read;
 use scenario_rows::SCENARIO;
 use std::alloc::Global;
-use std::process::Abort;
 use std::test::Fail;
+use test_support::{is, is_true};
 use tracks::{BookFault, Keeping};
 
 /// Takes bytes one at a time.
@@ -31,17 +30,11 @@ fn no_lines(alloc: Global) -> Result<StreamedLines, Fail> {
 }
 
 /// Returns whether one line has come to the outcome at this index, once these bytes are taken.
-fn has_one(
-    rt: &impl Abort,
-    lines: &mut StreamedLines,
-    bytes: &[u8],
-    place: usize,
-) -> Result<(), BookFault>
+fn has_one(lines: &mut StreamedLines, bytes: &[u8], place: usize) -> Result<(), Fail>
     requires { place < 21 }
 {
     take_all(lines, bytes)?;
-    is(rt, lines.judge().counts()[place], 1);
-    Ok(())
+    is(lines.judge().counts()[place], 1)
 }
 
 /// A line that is a point, and the beginning of one that is no sentence of a kind that is read.
@@ -50,9 +43,9 @@ const ONE_AND_A_PART: &[u8] = b"!AIVDM,1,1,,A,15P5TL0P2l00001wwHt000000000,0*5C\
 #[test]
 fn a_line_is_judged_as_it_ends(rt: HostRuntime) -> Result<(), Fail> {
     let mut lines = no_lines(rt.alloc())?;
-    has_one(&rt, &mut lines, ONE_AND_A_PART, 20)?;
-    is_true(&rt, lines.is_open());
-    Ok(has_one(&rt, &mut lines, b"\n", 3)?)
+    has_one(&mut lines, ONE_AND_A_PART, 20)?;
+    is_true(lines.is_open())?;
+    has_one(&mut lines, b"\n", 3)
 }
 
 /// When they come.
@@ -88,14 +81,10 @@ static STATIC_REPORTS: [(&[u8], Option<ToldStatic>); 4] = [
 ];
 
 /// Returns whether these lines have the outcomes that stand beside them.
-fn tell(
-    rt: &impl Abort,
-    lines: &mut StreamedLines,
-    rows: &[(&[u8], Option<ToldStatic>)],
-) -> Result<(), BookFault> {
+fn tell(lines: &mut StreamedLines, rows: &[(&[u8], Option<ToldStatic>)]) -> Result<(), Fail> {
     for (line, expected) in rows {
         take_all(lines, line)?;
-        is(rt, lines.judge().told(), *expected);
+        is(lines.judge().told(), *expected)?;
     }
     Ok(())
 }
@@ -103,5 +92,5 @@ fn tell(
 #[test]
 fn static_reports_are_told(rt: HostRuntime) -> Result<(), Fail> {
     let mut lines = no_lines(rt.alloc())?;
-    Ok(tell(&rt, &mut lines, &STATIC_REPORTS)?)
+    tell(&mut lines, &STATIC_REPORTS)
 }

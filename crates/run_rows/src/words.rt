@@ -1,13 +1,13 @@
 //! Words that are accepted and words that are not, as a user writes them.
-use crate::compared::{is, is_true};
 use command_line::{
     InfoRequest, Request, WindowOptions, WordsFault, info_request, info_text, request_of,
 };
 use out_of_memory::Memory;
 use outside::Word;
 use std::alloc::{AllocError, Global};
-use std::process::Abort;
+use std::test::Fail;
 use tasks::Task;
+use test_support::{is, is_true};
 
 fn words(alloc: Global, texts: &[&str]) -> Result<Vec<Word>, Memory> {
     let mut words = Vec::new(alloc);
@@ -45,57 +45,59 @@ const OWN: Window = (None, None);
 type Asked = (&'static [&'static str], Wanted, &'static str, Window);
 
 /// Whether the task is this.
-fn is_task(rt: &impl Abort, task: &Task, wanted: Wanted) {
+fn is_task(task: &Task, wanted: Wanted) -> Result<(), Fail> {
     match task {
-        Task::Points => is_true(rt, wanted == Wanted::Points),
-        Task::Audit => is_true(rt, wanted == Wanted::Audit),
-        Task::Plan { why } => is_true(rt, wanted == Wanted::Plan(*why)),
-        Task::Drill { seed } => is_true(rt, wanted == Wanted::Drill(*seed)),
+        Task::Points => is_true(wanted == Wanted::Points),
+        Task::Audit => is_true(wanted == Wanted::Audit),
+        Task::Plan { why } => is_true(wanted == Wanted::Plan(*why)),
+        Task::Drill { seed } => is_true(wanted == Wanted::Drill(*seed)),
         Task::Recheck { rows } => match wanted {
-            Wanted::Recheck(text) => is(rt, rows.text(), text),
-            _ => is_true(rt, false),
+            Wanted::Recheck(text) => is(rows.text(), text),
+            _ => is_true(false),
         },
-        Task::Watch => is_true(rt, wanted == Wanted::Watch),
+        Task::Watch => is_true(wanted == Wanted::Watch),
     }
 }
 
 /// Whether the options of the window are these.
-fn is_window(rt: &impl Abort, options: WindowOptions, wanted: Window) {
-    is(rt, options.start, wanted.0);
-    is(rt, options.ticks, wanted.1);
+fn is_window(options: WindowOptions, wanted: Window) -> Result<(), Fail> {
+    is(options.start, wanted.0)?;
+    is(options.ticks, wanted.1)
 }
 
 /// Whether the request is this.
-fn is_request(rt: &impl Abort, request: &Request, row: &Asked) {
+fn is_request(request: &Request, row: &Asked) -> Result<(), Fail> {
     let (_, wanted, name, window) = row;
     match request {
         Request::Migration(found) => {
-            is_true(rt, *wanted == Wanted::Migration);
-            is(rt, found.text(), *name);
+            is_true(*wanted == Wanted::Migration)?;
+            is(found.text(), *name)
         }
         Request::Report(report) => {
-            is_task(rt, &report.task, *wanted);
-            is(rt, report.name.text(), *name);
-            is_window(rt, report.window, *window);
+            is_task(&report.task, *wanted)?;
+            is(report.name.text(), *name)?;
+            is_window(report.window, *window)
         }
     }
 }
 
 /// Whether the arguments of each row ask for what stands in it.
-fn are_asked(rt: &impl Abort, alloc: Global, rows: &[Asked]) {
+fn are_asked(alloc: Global, rows: &[Asked]) -> Result<(), Fail> {
     for row in rows {
         match asked(alloc, row.0) {
-            Ok(request) => is_request(rt, &request, row),
-            Err(_) => is(rt, (row.2, false), (row.2, true)),
+            Ok(request) => is_request(&request, row)?,
+            Err(_) => is((row.2, false), (row.2, true))?,
         }
     }
+    Ok(())
 }
 
 /// Whether the words of each row ask for nothing.
-fn are_usage(rt: &impl Abort, alloc: Global, rows: &[&'static [&'static str]]) {
+fn are_usage(alloc: Global, rows: &[&'static [&'static str]]) -> Result<(), Fail> {
     for texts in rows {
-        is_true(rt, matches!(asked(alloc, texts), Err(WordsFault::Usage)));
+        is_true(matches!(asked(alloc, texts), Err(WordsFault::Usage)))?;
     }
+    Ok(())
 }
 
 #[rattlefmt::skip]
@@ -111,8 +113,8 @@ static OF_EVERY_MODE: [Asked; 8] = [
 ];
 
 #[test]
-fn two_words_of_every_mode(rt: HostRuntime) {
-    are_asked(&rt, rt.alloc(), &OF_EVERY_MODE);
+fn two_words_of_every_mode(rt: HostRuntime) -> Result<(), Fail> {
+    are_asked(rt.alloc(), &OF_EVERY_MODE)
 }
 
 const FOUR: Window = (None, Some(4));
@@ -140,8 +142,8 @@ static WITH_OPTIONS: [Asked; 16] = [
 ];
 
 #[test]
-fn options_stand_anywhere(rt: HostRuntime) {
-    are_asked(&rt, rt.alloc(), &WITH_OPTIONS);
+fn options_stand_anywhere(rt: HostRuntime) -> Result<(), Fail> {
+    are_asked(rt.alloc(), &WITH_OPTIONS)
 }
 
 #[rattlefmt::skip]
@@ -160,8 +162,8 @@ static NO_NUMBERS: [&[&str]; 11] = [
 ];
 
 #[test]
-fn numbers_out_of_form_or_range(rt: HostRuntime) {
-    are_usage(&rt, rt.alloc(), &NO_NUMBERS);
+fn numbers_out_of_form_or_range(rt: HostRuntime) -> Result<(), Fail> {
+    are_usage(rt.alloc(), &NO_NUMBERS)
 }
 
 #[rattlefmt::skip]
@@ -192,13 +194,13 @@ static NO_FLAGS_OR_TEXTS: [&[&str]; 8] = [
 ];
 
 #[test]
-fn flags_and_texts_out_of_form(rt: HostRuntime) {
-    are_usage(&rt, rt.alloc(), &NO_FLAGS_OR_TEXTS);
+fn flags_and_texts_out_of_form(rt: HostRuntime) -> Result<(), Fail> {
+    are_usage(rt.alloc(), &NO_FLAGS_OR_TEXTS)
 }
 
 #[test]
-fn words_that_are_no_command_line(rt: HostRuntime) {
-    are_usage(&rt, rt.alloc(), &NO_COMMAND_LINES);
+fn words_that_are_no_command_line(rt: HostRuntime) -> Result<(), Fail> {
+    are_usage(rt.alloc(), &NO_COMMAND_LINES)
 }
 
 fn told(alloc: Global, texts: &[&str]) -> Result<Option<InfoRequest>, Memory> {
@@ -218,9 +220,9 @@ static TOLD: [(&[&str], Option<InfoRequest>); 7] = [
 ];
 
 #[test]
-fn a_single_word_is_told(rt: HostRuntime) -> Result<(), Memory> {
+fn a_single_word_is_told(rt: HostRuntime) -> Result<(), Fail> {
     for (texts, expected) in &TOLD {
-        is(&rt, told(rt.alloc(), texts)?, *expected);
+        is(told(rt.alloc(), texts)?, *expected)?;
     }
     Ok(())
 }
@@ -251,12 +253,10 @@ static PARTS: [(InfoRequest, &str); 13] = [
 ];
 
 #[test]
-fn help_names_modes_options_statuses_and_an_example(rt: HostRuntime) {
+fn help_names_modes_options_statuses_and_an_example(rt: HostRuntime) -> Result<(), Fail> {
     for (word, part) in &PARTS {
-        is(
-            &rt,
-            (*part, holds(&info_text(rt.alloc(), *word), part)),
-            (*part, true),
-        );
+        let found = holds(&info_text(rt.alloc(), *word), part);
+        is((*part, found), (*part, true))?;
     }
+    Ok(())
 }
