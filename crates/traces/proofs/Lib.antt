@@ -17,3 +17,4 @@ mod Keeping
 mod UnderWay
 mod ByRanks
 mod StayingApart
+mod Drifting

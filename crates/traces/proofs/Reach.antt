@@ -5,7 +5,8 @@ use Rattle.std.proofs.lemmas.List.{get_or-drop, get_or_default, length-drop}
 use Rattle.std.proofs.lemmas.List.Sorted.{ranks_by, sorted_far}
 use Rattle.std.proofs.lemmas.Cmp.{int_cmp_total}
 use Rattle.std.proofs.lemmas.Nat.{mul-lt}
-use Rattle.std.specs.Prelude.{IsTrue, unsigned_abs, int_lt, nat_lt}
+use Rattle.std.proofs.Math.Nat.{max-le}
+use Rattle.std.specs.Prelude.{IsTrue, unsigned_abs, int_lt}
 use Rattle.std.specs.declared.cmp.Ordering.{Ordering}
 use Rattle.std.specs.declared.cmp.Ordering.TheVariants.{Less, Equal, Greater}
 use Rattle.std.specs.List.Sorted.{IsSortedByKey}
@@ -17,6 +18,7 @@ use Rattle.meetings.specs.Traces.{IsContact}
 use Rattle.meetings.specs.declared.pair.Pair.{Pair}
 use Rattle.motion.specs.declared.leg.TickState.{TickState}
 use Rattle.traces.specs.Audited.{SeenVessels}
+use Rattle.traces.specs.Inner.Distances.{component_distance_of}
 use Rattle.traces.specs.Inner.Pairing.{AreWestToEast, HasPairWith, MakePair}
 use Rattle.traces.proofs.FoundPairs.{joins_one}
 
@@ -84,17 +86,9 @@ none_in_reach watch v others k d up lt untrue pair h =
 
 -- ---- too far in one component
 
-less : (a b : ℕ) → nat_lt a b ≡ true → a < b
-less a b test = grind arith
-
-pub far_east : (watch far : ℕ) (a b : Point) → nat_lt watch far ≡ true → far ≡ unsigned_abs (b.x -ℤ a.x) → ¬ (norm2_of (displacement a b) ≤ℤ pos (watch * watch))
-far_east watch far a b test is h =
-    let over = less watch far test in
-    let near = within (b.x -ℤ a.x) (b.y -ℤ a.y) watch h in
-    omega (arith, over, near, is)
-
-pub far_north : (watch far : ℕ) (a b : Point) → nat_lt watch far ≡ true → far ≡ unsigned_abs (b.y -ℤ a.y) → ¬ (norm2_of (displacement a b) ≤ℤ pos (watch * watch))
-far_north watch far a b test is h =
-    let over = less watch far test in
-    let near = within (b.y -ℤ a.y) (b.x -ℤ a.x) watch (omega (arith, ints, h)) in
-    omega (arith, over, near, is)
+pub far_apart : (watch : ℕ) (a b : Point) → watch < component_distance_of a b → ¬ (norm2_of (displacement a b) ≤ℤ pos (watch * watch))
+far_apart watch a b over h =
+    let east = within (b.x -ℤ a.x) (b.y -ℤ a.y) watch h in
+    let north = within (b.y -ℤ a.y) (b.x -ℤ a.x) watch (omega (arith, ints, h)) in
+    let near : component_distance_of a b ≤ watch = max-le east north in
+    omega (arith, over, near)

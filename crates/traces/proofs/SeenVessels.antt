@@ -46,10 +46,10 @@ in_order seen h i j d le within =
 
 -- ---- one that is not seen
 
-state-here : (m : ℕ) (v : ℕ × TickState) (seen : SeenVessels) → v.0 ≡ m → state_in m (v ∷ seen) ≡ Some v.1
+pub state-here : (m : ℕ) (v : ℕ × TickState) (seen : SeenVessels) → v.0 ≡ m → state_in m (v ∷ seen) ≡ Some v.1
 state-here m v seen e = let first : nat_eq v.0 m ≡ true = grind (arith, nat_tests) in rw first refl
 
-state-later : (m : ℕ) (v : ℕ × TickState) (seen : SeenVessels) → v.0 ≢ m → state_in m (v ∷ seen) ≡ state_in m seen
+pub state-later : (m : ℕ) (v : ℕ × TickState) (seen : SeenVessels) → v.0 ≢ m → state_in m (v ∷ seen) ≡ state_in m seen
 state-later m v seen ne = let first : nat_eq v.0 m ≡ false = grind (arith, nat_tests) in rw first refl
 
 pub absent : (m : ℕ) (seen : SeenVessels) → All (λ (vessel : ℕ × TickState). vessel.0 ≢ m) seen → state_in m seen ≡ None
@@ -105,7 +105,7 @@ present m seen v h found e = present_at m seen found.0 v (rising seen h) found.1
 one_later : (u v : ℕ × TickState) (seen : SeenVessels) → Contains seen v → Contains (u ∷ seen) v
 one_later u v seen found = (suc found.0, let lt = found.1 in omega arith, found.2)
 
-same_or_other : (a b : ℕ) → (a ≡ b) ⊎ (a ≢ b)
+pub same_or_other : (a b : ℕ) → (a ≡ b) ⊎ (a ≢ b)
 same_or_other a b = grind arith
 
 pub seen_in : (m : ℕ) (seen : SeenVessels) (state : TickState) → state_in m seen ≡ Some state → Contains seen (m, state)

@@ -1,3 +1,4 @@
 pub mod Pairing
 pub mod TracesKept
 pub mod Places
+pub mod Distances

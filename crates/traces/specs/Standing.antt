@@ -1,11 +1,12 @@
 -- What the traces of a window stand for: their numbers, the vessels seen at the ticks that were given, and what is known of each.
-use Rattle.std.specs.Prelude.{ℕ, ◌≡◌, ◌+◌, ◌≤◌, List, ◌∷◌, ◌++◌, length, Option}
+use Rattle.std.specs.Prelude.{ℕ, ◌≡◌, ◌+◌, ◌*◌, ◌^◌, ◌≤◌, List, ◌∷◌, ◌++◌, length, All, Option}
 use Rattle.encounters.specs.Risk.{IsDetect}
 use Rattle.encounters.specs.declared.pair_step.PairStep.{PairStep}
 use Rattle.mtl_formulas.specs.declared.atom.Atom.{Atom}
 use Rattle.mtl_formulas.specs.declared.glance.Glance.{Glance}
 use Rattle.mtl_formulas.specs.declared.verdict.Verdict.{Verdict}
 use Rattle.traces.specs.Audited.{AreAscending, ArePlaced, AuditNumbers, SeenVessels, Sighting, last_sighting, trace_ranks}
+use Rattle.traces.specs.Inner.Distances.{IsFarUntil}
 use Rattle.traces.specs.Inner.TracesKept.{Holds}
 use Rattle.traces.specs.Keeping.{IsApartRow}
 use Rattle.traces.specs.Known.{AreKnown, AreOpened, Known, watched}
@@ -42,6 +43,8 @@ pub record IsSound (kept : AllTraces) : Type 0 where
   pub ascending : AreAscending kept.latest.items
   pub placed : ArePlaced kept.latest.items
   pub few : length kept.traces.items ≤ MOST_TRACES
+  pub drift : kept.drift ≤ kept.given * 2 ^ 36
+  pub far : All (IsFarUntil kept.detect.watch kept.drift kept.latest.items) kept.traces.items
 
 -- ---- what they stand for
 

@@ -1,5 +1,5 @@
 //! All traces of a window, tick by tick.
-ghost use Rattle.std.specs.Prelude.{ℕ, ◌≡◌, ◌+◌, ◌<◌, ◌≤◌, ◌++◌, ◌∷◌, ◌^◌, [], List, length, Err, IfOk, IfSome, OnOk};
+ghost use Rattle.std.specs.Prelude.{ℕ, ◌≡◌, ◌+◌, ◌<◌, ◌≤◌, ◌++◌, ◌∷◌, ◌^◌, [], List, length, true, Err, IfOk, IfSome, OnOk};
 ghost use Rattle.std.specs.List.{AllZip, Contains};
 ghost use Rattle.std.specs.Option.{option_copied};
 ghost use Rattle.encounters.specs.Directions.{HaveDirections};
@@ -10,6 +10,7 @@ ghost use Rattle.meetings.specs.Atoms.{IsRankedRow};
 ghost use Rattle.meetings.specs.declared.pair.Pair.{Pair};
 ghost use Rattle.ranks.specs.declared.rank.Rank.{Rank};
 ghost use Rattle.traces.specs.Audited.{AreAscending, ArePlaced, AuditNumbers, MoveLittle, SeenVessels, Sighting, step_of, terms_of, trace_ranks};
+ghost use Rattle.traces.specs.Inner.Distances.{SeeTheSame};
 ghost use Rattle.traces.specs.Inner.TracesKept.{AreBegun, AreKnownOn, AreTooMany, HaveBegunNow, Holds, IsBeginning, IsNextTick, IsTaken, MayBegin, MayTake};
 ghost use Rattle.traces.specs.Known.{AreKnown, IsFollowed, IsUpTo, Known, opened, pairs_of, watched};
 ghost use Rattle.traces.specs.Standing.{HaveBegun, IsSound, StandsApart, StandsFor, given_of, last_tick_of, latest_vessels, traces_of};
@@ -17,6 +18,7 @@ ghost use Rattle.traces.specs.ManyTraces.{HaveMoreThan};
 ghost use Rattle.traces.specs.declared.fault.TickFault.TheVariants.{TooManyPairs};
 
 use crate::contact_pairs::contacts;
+use crate::drift::{drift_between, see_the_same};
 use crate::fault::TickFault;
 use crate::followed_trace::FollowedTrace;
 use crate::known_pairs::{add, is_among, is_chosen};
@@ -49,6 +51,9 @@ pub struct AllTraces {
     ranks: Vec<Rank>,
     /// How many ticks were given.
     given: u32,
+    /// The sum of the drifts from each tick to the next. While two vessels are seen, their distance in a component shrinks
+    /// by no more than this grows.
+    drift: u64,
     traces: Vec<FollowedTrace>,
     pairs: BTreeSet<Pair>,
 }
@@ -85,6 +90,7 @@ impl AllTraces {
             latest: Vec::new(alloc),
             ranks: Vec::new(alloc),
             given: 0,
+            drift: 0,
             traces: Vec::new(alloc),
             pairs: BTreeSet::new(alloc),
         })
@@ -109,6 +115,13 @@ impl AllTraces {
         ensures { result ≡ last_tick_of self.now }
     {
         self.last_tick
+    }
+
+    /// Returns whether the vessels seen now are the same as at the latest tick.
+    pub(crate) fn sees_the_same(&self, seen: &[(u32, TickState)]) -> bool
+        ensures { result ≡ true → SeeTheSame (latest_vessels self.now) seen.now }
+    {
+        see_the_same(&self.latest, seen)
     }
 
     /// Returns the pair of the trace with this index.
@@ -150,11 +163,13 @@ impl AllTraces {
     }
 
     /// Returns what a glance at the next step of the trace with this index shows, if the places of its vessels decide it.
+    /// If `same` is true, the vessels seen are the same as at the latest tick.
     #[inline(always)]
-    pub fn glance(&mut self, index: usize, seen: &[(u32, TickState)]) -> Option<Glance>
+    pub fn glance(&mut self, index: usize, seen: &[(u32, TickState)], same: bool) -> Option<Glance>
         requires sound { IsSound self.old }
         requires within { index < traces_of self.old }
         requires ascending { AreAscending seen.now }
+        requires same { same ≡ true → SeeTheSame (latest_vessels self.old) seen.now }
         ensures sound { IsSound self.new }
         ensures given { given_of self.new ≡ given_of self.old }
         ensures last_tick { last_tick_of self.new ≡ last_tick_of self.old }
@@ -172,7 +187,7 @@ impl AllTraces {
             → StandsFor self.old numbers ticks (front ++ known ∷ back) → index ≡ length front
             → StandsFor self.new numbers ticks (front ++ known ∷ back) }
     {
-        self.traces[index].glance(&self.latest, seen, self.detect.watch)
+        self.traces[index].glance(&self.latest, seen, same, self.detect.watch, self.drift)
     }
 
     /// Takes the next step of the trace with this index, and returns its row, by the ranks at the tick at which the
@@ -252,6 +267,7 @@ impl AllTraces {
             (ticks ++ record { vessels = seen.now; ranks = ranks.now } ∷ []) → ⊥) }
     {
         self.begin(seen)?;
+        self.drift += drift_between(&self.latest, seen);
         replace(&mut self.latest, seen)?;
         replace(&mut self.ranks, ranks)?;
         self.given += 1;

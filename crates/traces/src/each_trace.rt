@@ -2,6 +2,7 @@
 ghost use Rattle.std.specs.Prelude.{ℕ, ◌≡◌, ◌≢◌, ◌+◌, ◌-◌, ◌<◌, ◌≤◌, ◌++◌, ◌∷◌, ◌^◌, [], List, length, All, OnOk, false, true};
 ghost use Rattle.std.specs.List.{AllPairs, Contains};
 ghost use Rattle.traces.specs.Audited.{AreAscending, ArePlaced, AuditNumbers, MoveLittle, Sighting};
+ghost use Rattle.traces.specs.Inner.Distances.{SeeTheSame};
 ghost use Rattle.traces.specs.Keeping.{GoesOn, IsAtStep};
 ghost use Rattle.traces.specs.Known.{AreKnown, AreOpened, IsUpTo, Known, opened, pairs_of};
 ghost use Rattle.traces.specs.Standing.{IsSound, StandsFor, given_of, last_tick_of, latest_vessels, traces_of};
@@ -16,19 +17,21 @@ use motion::TickState;
 use out_of_memory::Memory;
 
 /// Takes the next step of the trace with this index without its row, if the vessels stay apart and the keeper needs no
-/// more. Otherwise the step is not taken.
+/// more. Otherwise the step is not taken. If `same` is true, the vessels seen are the same as at the latest tick.
 #[inline(always)]
 fn rests<K: TraceKeeper>(
     traces: &mut AllTraces,
     one: &mut K::Kept,
     keeper: &K,
     seen: &[(u32, TickState)],
+    same: bool,
     index: usize,
     step: u32,
 ) -> bool
     requires sound { IsSound traces.old }
     requires within { index < traces_of traces.old }
     requires ascending { AreAscending seen.now }
+    requires same { same ≡ true → SeeTheSame (latest_vessels traces.old) seen.now }
     requires goes_on { (K.keeper keeper.now).Sound }
     requires ready { (K.keeper keeper.now).Ready one.old }
     requires few { (K.keeper keeper.now).steps one.old < 2 ^ 31 }
@@ -52,20 +55,22 @@ fn rests<K: TraceKeeper>(
         → TakesStep (K.keeper keeper.now) (K.keeper keeper.now) numbers ticks seen.now step
         traces.new index one.old one.new front known back }
 {
-    match traces.glance(index, seen) {
+    match traces.glance(index, seen, same) {
         None => false,
         Some(glance) => keeper.rest(index, one, glance, step),
     }
 }
 
 /// Takes the next step of the trace with this index: it has the number `step`, and is to the tick at which these vessels
-/// are seen. Passes its row to the keeper, unless it can do without.
+/// are seen. Passes its row to the keeper, unless it can do without. If `same` is true, the vessels seen are the same as
+/// at the latest tick.
 #[inline(always)]
 fn follow_one<K: TraceKeeper>(
     traces: &mut AllTraces,
     one: &mut K::Kept,
     keeper: &mut K,
     seen: &[(u32, TickState)],
+    same: bool,
     index: usize,
     step: u32,
 ) -> Result<(), Memory>
@@ -74,6 +79,7 @@ fn follow_one<K: TraceKeeper>(
     requires ascending { AreAscending seen.now }
     requires placed { ArePlaced seen.now }
     requires moves { MoveLittle (latest_vessels traces.old) seen.now }
+    requires same { same ≡ true → SeeTheSame (latest_vessels traces.old) seen.now }
     requires goes_on { (K.keeper keeper.old).Sound }
     requires ready { (K.keeper keeper.old).Ready one.old }
     requires few { (K.keeper keeper.old).steps one.old < 2 ^ 31 }
@@ -94,7 +100,7 @@ fn follow_one<K: TraceKeeper>(
         → TakesStep (K.keeper keeper.old) (K.keeper keeper.new) numbers ticks seen.now step
         traces.new index one.old one.new front known back) }
 {
-    if rests(traces, one, keeper, seen, index, step) {
+    if rests(traces, one, keeper, seen, same, index, step) {
         return Ok(());
     }
     let was = traces.state(index);
@@ -144,8 +150,9 @@ pub(crate) fn follow_each<K: TraceKeeper>(
         → AreStepped (K.keeper keeper.new) numbers ticks seen.now step traces.new kept.new knowns
         given) }
 {
+    let same = traces.sees_the_same(seen);
     for (index, one) in kept.iter_mut().enumerate() {
-        follow_one(traces, one, keeper, seen, index, step)?;
+        follow_one(traces, one, keeper, seen, same, index, step)?;
     }
     Ok(())
 }

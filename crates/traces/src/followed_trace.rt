@@ -1,23 +1,21 @@
 //! One trace: its next step, and the values of the atoms at it.
-ghost use Rattle.std.specs.Prelude.{◌≡◌, ◌<◌, ◌≤◌, ◌^◌, ◌++◌, ◌∷◌, [], List, length, IfSome, pos, ◌*◌, ◌≤ℤ◌, true};
+ghost use Rattle.std.specs.Prelude.{ℕ, ◌≡◌, ◌<◌, ◌≤◌, ◌^◌, ◌++◌, ◌∷◌, [], List, length, IfSome, true};
 ghost use Rattle.std.specs.Option.{option_copied};
-ghost use Rattle.fixed_geometry.specs.Plane.{norm2_of};
-ghost use Rattle.fixed_geometry.specs.Sizes.{IsBelow};
-ghost use Rattle.motion.specs.Displacement.{displacement};
 ghost use Rattle.encounters.specs.Directions.{HaveDirections};
 ghost use Rattle.encounters.specs.Risk.{IsDetect};
 ghost use Rattle.encounters.specs.Standing.{IsStateAfter};
 ghost use Rattle.meetings.specs.Answers.{answer_of};
 ghost use Rattle.meetings.specs.Atoms.{IsRankedRow};
 ghost use Rattle.meetings.specs.Traces.{IsPlaced, step_between};
-ghost use Rattle.traces.specs.Audited.{AreAscending, ArePlaced, AuditNumbers, MoveLittle, Sighting, by_rank_in, step_of, terms_of, trace_ranks};
+ghost use Rattle.traces.specs.Audited.{AreAscending, ArePlaced, AuditNumbers, MoveLittle, SeenVessels, Sighting, by_rank_in, step_of, terms_of, trace_ranks};
+ghost use Rattle.traces.specs.Inner.Distances.{AreFarUntil, IsFarUntil, SeeTheSame};
 ghost use Rattle.traces.specs.Inner.TracesKept.{Follows, FollowsApart, IsTakenFrom, ShowsApart};
 ghost use Rattle.traces.specs.Known.{Known, opened, watched};
 
+use crate::drift::component_distance;
 use crate::pair_ranks::by_rank;
 use crate::sightings::{rank_near, state_near};
 use encounters::{Act, Detect, EngagementState, PairStep};
-use fixed_geometry::Point;
 use meetings::{AtomRow, BOTH_POWER_DRIVEN, ByRank, Follower, Pair, step_between};
 use motion::TickState;
 use mtl_formulas::Glance;
@@ -31,6 +29,8 @@ pub(crate) struct FollowedTrace {
     /// search depends on them.
     subject_place: usize,
     other_place: usize,
+    /// While the sum of the drifts so far is below this, both vessels are seen and farther apart than `watch`.
+    far_until: u64,
     start: u32,
     follower: Follower,
 }
@@ -57,19 +57,9 @@ fn by_rank_near(
     )
 }
 
-/// Returns whether two points are more than `watch` apart in one of their components.
-#[inline(always)]
-fn are_far(a: &Point, b: &Point, watch: u64) -> bool
-    requires a { IsBelow (2 ^ 33) a.now }
-    requires b { IsBelow (2 ^ 33) b.now }
-    requires watch { watch ≤ 1000000000 }
-    ensures { result ≡ true → ¬ (norm2_of (displacement a.now b.now) ≤ℤ pos (watch * watch)) }
-{
-    watch < (b.x - a.x).unsigned_abs() || watch < (b.y - a.y).unsigned_abs()
-}
-
 /// Returns what a glance at a step shows of two vessels that were apart, if their places decide it: at its two ticks the
-/// one has the states `a0` and `a1`, and the other `b0` and `b1`.
+/// one has the states `a0` and `a1`, and the other `b0` and `b1`. If they are farther apart, it stores the drift up to
+/// which they surely stay so.
 #[inline(always)]
 fn glance_between(
     a0: Option<&TickState>,
@@ -77,21 +67,28 @@ fn glance_between(
     a1: Option<&TickState>,
     b1: Option<&TickState>,
     watch: u64,
+    drift: u64,
+    far_until: &mut u64,
 ) -> Option<Glance>
     requires a0 { IsPlaced (option_copied a0) }
     requires b0 { IsPlaced (option_copied b0) }
     requires watch { watch ≤ 1000000000 }
-    ensures { IfSome result
+    requires drift { drift ≤ 2 ^ 60 }
+    requires far { AreFarUntil watch drift far_until.old (option_copied a0) (option_copied b0) }
+    ensures far { AreFarUntil watch drift far_until.new
+        (option_copied a0.entry) (option_copied b0.entry) }
+    ensures shows { IfSome result
         (ShowsApart watch (step_between (option_copied a0.entry) (option_copied b0.entry)
         (option_copied a1.entry) (option_copied b1.entry))) }
 {
     match (a0, b0, a1, b1) {
         (Some(a), Some(b), Some(_), Some(_)) => {
-            if are_far(&a.point, &b.point, watch) {
-                Some(Glance::Apart)
-            } else {
-                None
+            let distance = component_distance(&a.point, &b.point);
+            if distance <= watch {
+                return None;
             }
+            *far_until = drift + (distance - watch);
+            Some(Glance::Apart)
         }
         _ => Some(Glance::Unseen),
     }
@@ -101,14 +98,16 @@ impl FollowedTrace {
     /// Returns the trace of a pair that begins at a step, before its first step.
     pub(crate) fn new(pair: Pair, start: u32, detect: Detect, act: Act, tick: u32) -> FollowedTrace
         requires detect { IsDetect detect }
-        ensures { (numbers : AuditNumbers) (ticks : List Sighting) → numbers.detect ≡ detect
-            → numbers.act ≡ act → numbers.tick ≡ tick
+        ensures follows { (numbers : AuditNumbers) (ticks : List Sighting)
+            → numbers.detect ≡ detect → numbers.act ≡ act → numbers.tick ≡ tick
             → Follows numbers ticks result (opened pair start) }
+        ensures far { (watch drift : ℕ) (at : SeenVessels) → IsFarUntil watch drift at result }
     {
         FollowedTrace {
             pair,
             subject_place: 0,
             other_place: 0,
+            far_until: 0,
             start,
             follower: Follower::new(detect, act, tick),
         }
@@ -131,6 +130,8 @@ impl FollowedTrace {
             → Follows numbers ticks self.old known
             → result ≡ step_of known.pair before.now seen.now }
         ensures directions { IfSome result HaveDirections }
+        ensures far { (watch drift : ℕ) (at : SeenVessels) → IsFarUntil watch drift at self.old
+            → IsFarUntil watch drift at self.new }
         ensures follows { (numbers : AuditNumbers) (ticks : List Sighting) (known : Known)
             → Follows numbers ticks self.old known → Follows numbers ticks self.new known }
     {
@@ -146,18 +147,25 @@ impl FollowedTrace {
     }
 
     /// Returns what a glance at its next step shows, if the places of its vessels decide it: they were apart, and are
-    /// unseen or farther apart than `watch`.
+    /// unseen or farther apart than `watch`. If `same` is true, the same vessels are seen at both ticks; then the glance
+    /// looks up no vessel while `drift`, the sum of the drifts so far, is below `far_until`.
     #[inline(always)]
     pub(crate) fn glance(
         &mut self,
         before: &[(u32, TickState)],
         seen: &[(u32, TickState)],
+        same: bool,
         watch: u64,
+        drift: u64,
     ) -> Option<Glance>
         requires before_ascending { AreAscending before.now }
         requires before_placed { ArePlaced before.now }
         requires ascending { AreAscending seen.now }
+        requires same { same ≡ true → SeeTheSame before.now seen.now }
         requires watch { watch ≤ 1000000000 }
+        requires drift { drift ≤ 2 ^ 60 }
+        requires far { IsFarUntil watch drift before.now self.old }
+        ensures far { IsFarUntil watch drift before.now self.new }
         ensures rests { IfSome result
             (λ glance. (numbers : AuditNumbers) (ticks : List Sighting) (known : Known)
             → Follows numbers ticks self.old known → watch ≡ numbers.detect.watch
@@ -170,12 +178,15 @@ impl FollowedTrace {
         let EngagementState::Apart = self.follower.state() else {
             return None;
         };
+        if same && drift < self.far_until {
+            return Some(Glance::Apart);
+        }
         let Pair { subject, other } = self.pair;
         let a0 = state_near(before, subject, &mut self.subject_place);
         let b0 = state_near(before, other, &mut self.other_place);
         let a1 = state_near(seen, subject, &mut self.subject_place);
         let b1 = state_near(seen, other, &mut self.other_place);
-        glance_between(a0, b0, a1, b1, watch)
+        glance_between(a0, b0, a1, b1, watch, drift, &mut self.far_until)
     }
 
     /// Takes this step from the tick at which these vessels are seen with their ranks; returns its row. It looks up
@@ -189,6 +200,8 @@ impl FollowedTrace {
     ) -> AtomRow
         requires directions { IfSome (option_copied step) HaveDirections }
         requires ascending { AreAscending seen.now }
+        ensures far { (watch drift : ℕ) (at : SeenVessels) → IsFarUntil watch drift at self.old
+            → IsFarUntil watch drift at self.new }
         ensures row { (numbers : AuditNumbers) (ticks : List Sighting) (known : Known)
             → Follows numbers ticks self.old known → length known.steps < 2 ^ 31
             → IsTakenFrom ticks known seen.now ranks.now

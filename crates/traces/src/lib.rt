@@ -13,6 +13,7 @@
 
 mod all_traces;
 mod contact_pairs;
+mod drift;
 mod each_trace;
 mod fault;
 mod followed_trace;

@@ -1,4 +1,4 @@
-use Rattle.std.proofs.Common.{◌≡◌, ℕ, List, ◌∷◌, ◌++◌, refl, sym, ap, ap₂, ◌∙◌}
+use Rattle.std.proofs.Common.{◌≡◌, ℕ, List, ◌∷◌, ◌++◌, length-set, refl, sym, ap, ap₂, ◌∙◌, arith}
 use Rattle.std.specs.Option.{option_copied}
 use Rattle.meetings.specs.Answers.{answer_of}
 use Rattle.ranks.specs.declared.rank.Rank.{Rank}
@@ -7,6 +7,7 @@ use Rattle.traces.specs.Inner.TracesKept.{IsTakenFrom}
 use Rattle.traces.specs.Known.{IsUpTo, Known, watched}
 use Rattle.traces.specs.Standing.{StandsFor}
 use Rattle.traces.specs.declared.all_traces.AllTraces.{AllTraces}
+use Rattle.traces.proofs.Drifting.{far_at, far_set}
 use Rattle.traces.proofs.Growing.{follows_at, trace_changed}
 use Rattle.traces.proofs.all_traces.AllTraces.take_step.Goals as goal
 
@@ -19,6 +20,25 @@ taken_from : (kept : AllTraces) (numbers : AuditNumbers) (ticks : List Sighting)
 taken_from kept numbers ticks known knowns vessels ranks s up seen told =
     ap (λ (k : ℕ). sighting_at ticks k) up ∙ sym s.latest
     ∙ ap₂ (λ (vs : SeenVessels) (rs : List Rank). sighting_of vs rs) (sym seen) (sym told)
+
+pub returns-clause-sound : goal.returns-clause-sound
+returns-clause-sound c =
+    let kept = c.args.self.now in
+    let sound = c.requires.sound in
+    let count = length-set kept.traces.items c.args.index c.take_step.new.self in
+    record {
+      detect = sound.detect;
+      window = sound.window;
+      given = sound.given;
+      ascending = sound.ascending;
+      placed = sound.placed;
+      few = omega (arith, count, sound.few);
+      drift = sound.drift;
+      far = far_set kept.detect.watch kept.drift kept.latest.items c.deref.result.now kept.traces.items c.args.index c.deref.ensures.value sound.far
+          c.take_step.new.self (c.take_step.ensures.far kept.detect.watch kept.drift c.deref.result.now
+          (far_at kept.detect.watch kept.drift kept.latest.items c.deref.result.now kept.traces.items c.args.index c.deref.ensures.value sound.far
+          c.index_mut.result.now c.index_mut.ensures.value c.requires.within));
+    }
 
 pub returns-clause-row : goal.returns-clause-row
 returns-clause-row c = λ numbers ticks front known back s at short up.

@@ -1,9 +1,12 @@
-use Rattle.std.proofs.Common.{◌≡◌, ◌++◌, ◌∷◌, [], length-append, List, Err, sym, ap, ap₂, ◌∙◌, arith}
+use Rattle.std.proofs.Common.{◌≡◌, ◌+◌, ◌++◌, ◌∷◌, [], length-append, List, Err, sym, ap, ap₂, subst, ◌∙◌, arith}
+use Rattle.std.specs.Prelude.{All}
 use Rattle.outside.proofs.ForCallers.{same_fault}
 use Rattle.ranks.specs.declared.rank.Rank.{Rank}
-use Rattle.traces.specs.Audited.{SeenVessels, Sighting}
+use Rattle.traces.specs.Audited.{AreAscending, ArePlaced, SeenVessels, Sighting}
+use Rattle.traces.specs.Inner.Distances.{IsDrift, IsFarUntil}
 use Rattle.traces.specs.declared.fault.TickFault.{TickFault}
 use Rattle.traces.specs.declared.fault.TickFault.TheVariants.{TooManyPairs}
+use Rattle.traces.proofs.Drifting.{all_far_after}
 use Rattle.traces.proofs.NextTick.{holds_on, known_count_of, known_on, next_tick, no_more}
 use Rattle.traces.proofs.Ticks.{last_is}
 use Rattle.traces.proofs.all_traces.AllTraces.tick.Goals as goal
@@ -17,6 +20,26 @@ returns-in_err-begin-clause-many c = λ fault numbers ticks knowns after are z s
     let err : c.begin.result ≡ Err TooManyPairs = c.in_err-begin.was ∙ ap (λ (e : TickFault). Err e) (sym same) in
     c.begin.ensures.many err numbers ticks c.args.ranks.now after (next_tick numbers ticks c.args.self.now after s) (known_on numbers ticks (record { vessels = c.args.seen.now; ranks = c.args.ranks.now }) knowns after are z)
     (holds_on numbers ticks (record { vessels = c.args.seen.now; ranks = c.args.ranks.now }) c.args.self.now after (known_on numbers ticks (record { vessels = c.args.seen.now; ranks = c.args.ranks.now }) knowns after are z) s.holds)
+
+pub returns-clause-sound : goal.returns-clause-sound
+returns-clause-sound c =
+    let begun = c.begin.new.self in
+    let sound = c.in_ok-begin.ensures.sound in
+    let same = c.in_ok-begin.ensures.same in
+    let seen : c.replace.new.latest.items ≡ c.args.seen.now = c.in_ok-replace.ensures in
+    let moves : IsDrift c.drift_between.result begun.latest.items c.args.seen.now =
+    subst (λ (before : SeenVessels). IsDrift c.drift_between.result before c.args.seen.now) c.deref.ensures.value c.drift_between.ensures.drift in
+    record {
+      detect = sound.detect;
+      window = sound.window;
+      given = omega (arith, same.given, same.last_tick, c.requires.more);
+      ascending = subst AreAscending (sym seen) c.requires.ascending;
+      placed = subst ArePlaced (sym seen) c.requires.placed;
+      few = sound.few;
+      drift = omega (arith, sound.drift, c.drift_between.ensures.most);
+      far = subst (λ (vessels : SeenVessels). All (IsFarUntil begun.detect.watch (begun.drift + c.drift_between.result) vessels) begun.traces.items) (sym seen)
+          (all_far_after begun.detect.watch begun.drift c.drift_between.result begun.latest.items c.args.seen.now begun.traces.items moves sound.far);
+    }
 
 pub returns-clause-stands : goal.returns-clause-stands
 returns-clause-stands c = λ numbers ticks knowns after are z s.
