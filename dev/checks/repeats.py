@@ -1,7 +1,7 @@
 """Repeats: no run of 12 lines or more stands twice in the code of the crates, and few do in their proofs.
 
-`python3 -m dev.checks.repeats` prints each run. Blank lines, comments, imports and the lines of a text do not count,
-and a clause of a contract counts as one line, however it is broken.
+`python3 -m dev.checks.repeats` prints each run. Blank lines, comments, imports, lists of modules and the lines of a text
+do not count, and a clause of a contract counts as one line, however it is broken.
 """
 from __future__ import annotations
 
@@ -19,7 +19,7 @@ from dev.repository import TOP, path_of, read_if_there
 NEEDS_PROGRAM = False
 LENGTH = 12     # how many equal lines make a run
 MOST_IN_PROOFS = 31
-IGNORED = ("//", "--", "use ", "pub use ", "ghost use ", "mod ", "pub mod ")
+IGNORED = ("//", "--", "use ", "pub use ", "ghost use ", "mod ", "pub mod ", "#[cfg(test)]")
 
 Line = tuple[int, str]      # its number in the file, and what counts of it
 

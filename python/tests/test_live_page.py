@@ -263,7 +263,7 @@ class Pages(WithHarbour):
         self.value(f'document.getElementById("slider").value = {moment}; '
                    'document.getElementById("slider").dispatchEvent(new Event("input"))')
         self.shows('document.getElementById("past-words").textContent.includes("settled rows")')
-        return self.value('document.querySelectorAll("#list-encounters li").length') == count
+        return bool(self.value('document.querySelectorAll("#list-encounters li").length') == count)
 
     def test_keys_filters_and_earlier_moments(self) -> None:
         server = self.live("--log", "log")
