@@ -130,9 +130,8 @@ def taken(span: Span, pieces: Iterable[bytes], until: int | None) -> Span:
 
 def take_block(span: Span, lines: bytes, until: int | None) -> None:
     """Takes whole lines as a block."""
-    tags = tags_of(lines)
-    begins = bool(tags) and lines.startswith(tags[0]) and stamp_of_block(tags[0]) is not None
-    add_block(span.blocks, Block(len(lines), begins, *span.take(tags, until)))
+    begins = stamp_of(lines.partition(b"\n")[0]) is not None
+    add_block(span.blocks, Block(len(lines), begins, *span.take(tags_of(lines), until)))
 
 
 def tags_of(lines: bytes) -> list[bytes]:
