@@ -1,7 +1,7 @@
 """Repeats: no run of 12 lines or more stands twice in the code of the crates, and few do in their proofs.
 
-`python3 -m dev.checks.repeats` prints each run. Blank lines, comments, imports, lists of modules and the lines of a text
-do not count, and a clause of a contract counts as one line, however it is broken.
+`python3 -m dev.checks.repeats` prints each run. Blank lines, comments, imports, lists of modules and the lines of a
+text do not count, and a clause of a contract counts as one line, however it is broken.
 """
 from __future__ import annotations
 

@@ -329,7 +329,7 @@ class Results:
         points = self.run("points", job, log)
         pieces = (points[k:k + ROWS] for k in range(0, len(points), ROWS))
         return log, b"".join(
-            seen.rows_to_keep(pieces, [(first, last) for first, last in job.heads], self.of.slack))
+            seen.rows_to_keep(pieces, job.checks(), self.of.slack))
 
 
 def write_cut(files: list[str], cut: cutter.Cut, folder: str, target: str, words: str,

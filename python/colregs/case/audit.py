@@ -4,7 +4,6 @@
 Unless all pairs are asked for, those of two vessels that both lie still through the whole window are left out, and
 counted.
 """
-import concurrent.futures
 import json
 import os
 import tempfile
@@ -183,13 +182,12 @@ def windows(place: Place, case: Case, index: str) -> list[dict[str, Any]]:
 def run(jobs: list[Job], kept: Kept, place: Place) -> None:
     """Runs the shares, several at a time, and shows how many are done; a Fault says why one failed."""
     bar = Bar("case: auditing by shares", len(jobs))
-    with concurrent.futures.ThreadPoolExecutor(place.jobs) as pool:
-        pending = [pool.submit(runs.run_one, job, kept, place.program) for job in jobs]
-        try:
-            for done in concurrent.futures.as_completed(pending):
-                done.result()
-                bar.step()
-        except OSError as error:
-            raise Fault(f"{error.filename or kept.folder}: {reason(error)}") from None
-        finally:
-            pool.shutdown(cancel_futures=True)
+
+    def take(done: runs.Done) -> None:
+        done.result()
+        bar.step()
+
+    try:
+        runs.run_each(jobs, kept, place.program, place.jobs, take)
+    except OSError as error:
+        raise Fault(f"{error.filename or kept.folder}: {reason(error)}") from None

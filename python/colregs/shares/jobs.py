@@ -18,8 +18,8 @@ from colregs.shares.reads import COPY, LINES, SEEK, SKIP
 
 KEYS = {
     "files": list, "scenario": str, "start": int, "ticks": int, "subjects": list, "tile": list, "margin": int,
-    "vessels": list, "sums": list, "whole": list, "before": list, "heads": list, "types": dict, "unsure": list,
-    "reads": list
+    "vessels": list, "sums": list, "whole": list, "before": list, "heads": list, "tails": list, "types": dict,
+    "unsure": list, "reads": list
 }
 NEEDED = ("files", "scenario", "start", "ticks")
 CHECKSUM = b"sum,"                  # start of the last line of a result: the SHA-256 of all lines before it
@@ -45,9 +45,10 @@ class Job:
     audit.
 
     `sums` are the SHA-256 of the files. `whole` has the first and the last second of the whole audit's window of lines.
-    `before` has the last stamp before the files and the greatest that counts. A run stores the accepted reports in the
-    spans of time `heads` for the join. `types` are ship types that were reported earlier, and `unsure` the vessels
-    whose type is uncertain. `reads` says what to do with the bytes of each file.
+    `before` has the last stamp before the files and the greatest that counts. For the join, a run stores the accepted
+    reports in the spans of time `heads`, about the starts of windows, and `tails`, about their ends. `types` are ship
+    types that were reported earlier, and `unsure` the vessels whose type is uncertain. `reads` says what to do with the
+    bytes of each file.
     """
 
     files: list[str]
@@ -62,6 +63,7 @@ class Job:
     whole: list[int] | None = None
     before: list[int | None] = field(default_factory=lambda: [None, None])
     heads: list[list[int]] = field(default_factory=list)
+    tails: list[list[int]] = field(default_factory=list)
     types: dict[str, int] = field(default_factory=dict)
     unsure: list[int] = field(default_factory=list)
     reads: Reads | None = None
@@ -93,7 +95,8 @@ class Job:
                              ("unsure", self.unsure)):
             yield name, are_numbers(values or [])
         yield "before", are_numbers([value for value in self.before if value is not None])
-        yield "heads", all(isinstance(head, list) and len(head) == 2 and are_numbers(head) for head in self.heads)
+        for name, spans in (("heads", self.heads), ("tails", self.tails)):
+            yield name, all(isinstance(span, list) and len(span) == 2 and are_numbers(span) for span in spans)
         yield "types", all(mmsi.isdecimal() for mmsi in self.types) and are_numbers(self.types.values())
         yield "reads", all(are_reads(of_file) for of_file in self.reads or [])
         yield "tile", all(edge is None or isinstance(edge, (int, float)) for edge in self.tile or [])
@@ -101,6 +104,10 @@ class Job:
     def options(self) -> list[str]:
         """Returns the program's options for the window of the job."""
         return [f"--start={self.start}", f"--ticks={self.ticks}"]
+
+    def checks(self) -> list[tuple[int, int]]:
+        """Returns the spans of time whose accepted reports the join compares."""
+        return [(first, last) for first, last in [*self.heads, *self.tails]]
 
     def window(self) -> tuple[int, int]:
         """Returns the start of the window in seconds, and its ticks."""
@@ -246,7 +253,7 @@ class Kept:
         cut = job.cut(scenario)
         inputs = {
             "files": self.file_sums(job), "scenario": scenario.with_subjects(job.subjects), "options": job.options(),
-            "cut": cut.text() if cut else None, "heads": job.heads,
+            "cut": cut.text() if cut else None, "checks": job.checks(),
             "program": [self.sum(name) for name in self.programs]
         }
         return hashlib.sha256(json.dumps(inputs, sort_keys=True).encode()).hexdigest()

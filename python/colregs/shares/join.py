@@ -140,11 +140,15 @@ def window_of(start: int, ticks: int, base: int, last: int, job: Job, rows: Rows
     first = (start - base) // scenario.tick
     end = first + ticks
     head = next((head[1] for head in job.heads if head[0] == start - scenario.gap), None)
-    if first and head is None:
-        raise Fault(f"{job.words()} has no `heads`, which the join needs to compare windows: make the list with `plan`")
+    tail = next((tail[0] for tail in job.tails if tail[1] == start + ticks * scenario.tick + scenario.gap), None)
+    for name, span, is_needed in (("heads", head, first > 0), ("tails", tail, end < last)):
+        if is_needed and span is None:
+            raise Fault(f"{job.words()} has no `{name}`, which the join needs to compare windows: make the list with "
+                        "`plan`")
     for row in rows.stretches:
         row.first, row.last = row.first + first, row.last + first
-    return Window(start, first, end, end if end >= last else first + scenario.settled(ticks), head or start, rows)
+    return Window(start, first, end, end if end >= last else first + scenario.settled(ticks), head or start,
+                  tail or start, rows)
 
 
 def written(rows: list[Stretch], summary: Summary) -> Iterator[str]:

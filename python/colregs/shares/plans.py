@@ -104,6 +104,11 @@ class Plan:
         first = self.lines(begin, 0)[0]
         return [first, first + 2 * max(self.scenario.gap, STRADDLE) + HEAD]
 
+    def tail(self, begin: int, length: int) -> list[int]:
+        """Returns the span of time about a window's last steps, which are not settled, for which accepted reports are
+        stored."""
+        return [self.lines(begin + self.scenario.settled(length), 0)[0], self.lines(begin, length)[1]]
+
     def files(self, begin: int, length: int) -> tuple[int, int]:
         """Returns the index of the first file that the window needs, and of the one after the last."""
         first, last = self.lines(begin, length)
@@ -136,6 +141,9 @@ class Plan:
             told["reads"] = self.reads(begin, length)
             told["heads"] = [
                 self.head(one) for k, (one, _) in enumerate(self.windows) if k and begin <= one < begin + length
+            ]
+            told["tails"] = [
+                self.tail(*one) for one in self.windows[:-1] if begin < sum(one) <= begin + length
             ]
         return told
 

@@ -10,7 +10,7 @@ import socket
 import subprocess
 import tempfile
 import time
-from collections.abc import Iterator
+from collections.abc import Callable, Iterator
 from contextlib import contextmanager
 from dataclasses import dataclass
 
@@ -27,6 +27,8 @@ from colregs.shares.results import by_tiles, merged, of_vessels, rows_of, text_o
 
 FIRST_GROUP = 64        # subjects of the first groups into which a share with too many pairs is split
 STALE = 24 * 3600       # s: if the folder of a run on another machine did not change for so long, that run is dead
+WAKE = 1.0              # s after which a wait looks for signals
+Done = concurrent.futures.Future[bool]
 
 
 @dataclass
@@ -144,7 +146,7 @@ def seen(room: Room, source: str) -> bytes:
     scenario = room.kept.scenario(room.job)
     if not room.job.is_part(scenario):
         return b""
-    words = shlex.join(module("shares.seen", json.dumps([room.job.heads, scenario.slack])))
+    words = shlex.join(module("shares.seen", json.dumps([room.job.checks(), scenario.slack])))
     command = shlex.join([room.program, "points", room.path("scenario.toml"), *room.job.options()])
     done = CHILDREN.run(["bash", "-c", f"set -o pipefail; {source} | {command} | {words}"], stdin=subprocess.DEVNULL,
                         stdout=subprocess.PIPE, stderr=subprocess.PIPE)
@@ -212,21 +214,34 @@ def is_dead(name: str, path: str) -> bool:
 
 
 def run_all(jobs: list[Job], kept: Kept, program: str, processes: int) -> tuple[int, list[str]]:
-    """Runs the jobs without a result, `processes` at a time. Returns the number that ran, and why others failed. If the
-    user interrupts it, it kills its children."""
+    """Runs the jobs without a result, `processes` at a time. Returns the number that ran, and why others failed."""
     clear(kept.folder)
     faults, ran = [], 0
+
+    def take(done: Done) -> None:
+        nonlocal ran
+        try:
+            ran += done.result()
+        except Fault as fault:
+            faults.append(str(fault))
+
+    run_each(jobs, kept, program, processes, take)
+    return ran, faults
+
+
+def run_each(jobs: list[Job], kept: Kept, program: str, processes: int, take: Callable[[Done], None]) -> None:
+    """Runs the jobs without a result, `processes` at a time, and gives each that is done to `take`. If that raises, or
+    the user interrupts it, it kills its children."""
     pool = concurrent.futures.ThreadPoolExecutor(processes)
     try:
         for done in [pool.submit(run_one, job, kept, program) for job in jobs]:
-            try:
-                ran += done.result()
-            except Fault as fault:
-                faults.append(str(fault))
+            # a signal may come to another thread of the process, and is handled once this one wakes
+            while not concurrent.futures.wait([done], WAKE).done:
+                pass
+            take(done)
     except BaseException:
         pool.shutdown(wait=False, cancel_futures=True)
         CHILDREN.kill()
         raise
     finally:
         pool.shutdown()
-    return ran, faults

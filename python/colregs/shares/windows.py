@@ -14,13 +14,14 @@ from colregs.model.formulas import YES, Sight, sight_of
 from colregs.model.scenario import Scenario
 from colregs.shares.heads import STRADDLE, agreed_from
 from colregs.shares.partings import parted
-from colregs.shares.results import Pair, Rows, Stretch, in_order
+from colregs.shares.results import Check, Pair, Rows, Stretch, in_order
 
 CUT, DOUBT = "cut", "doubt"
 ALWAYS = -1                                             # the sync of a pair that agrees from a window's start
 OF_A_RULE = Sight(0, 0, frozenset((YES,)), True)        # a rule of the program looks back only within its meeting
 LONG = "its meeting began before the window that reports it, and no window has the whole meeting"
 LATE = "its formula looks back to a time before the window knows its meeting or the two vessels"
+LEAST = "two windows accept different reports of one of the two at a step that may be that of their least distance"
 OTHER = "the window and the one before accept different reports of hers; two vessels may share the MMSI"
 
 
@@ -42,8 +43,9 @@ class Window:
     """A window: its start in seconds, its steps counted from the first window's start, and its rows by pairs.
 
     `settled` is the last step whose rows neither the window's end nor a later line can change. `head` is the last
-    second of the reports that the join compares with the window before. `syncs` has the vessels that do not agree from
-    the start; None means never.
+    second of the reports that the join compares with the window before, and `tail` the first of those that it compares
+    with the window after. `syncs` has the vessels that do not agree from the start; None means never. Of the vessels
+    `others` it accepts other reports about its start than the window before, and of `others_late` about that one's end.
     """
 
     start: int
@@ -51,8 +53,11 @@ class Window:
     end: int
     settled: int
     head: int
+    tail: int
     rows: Rows
     syncs: dict[int, int | None] = field(default_factory=dict)
+    others: set[int] = field(default_factory=set)
+    others_late: set[int] = field(default_factory=set)
     fresh: set[int] = field(default_factory=set)
     pair_syncs: dict[Pair, int | None] = field(default_factory=dict)
     of_pair: dict[Pair, list[Stretch]] = field(default_factory=dict)
@@ -117,13 +122,16 @@ class Joining:
         if base > before.settled:
             raise Fault(f"the windows from {before.start} and {window.start} overlap too little: plan an overlap "
                         f"longer by {(base - before.settled) * tick} s")
-        begin, end = window.start - gap, min(window.head, before.start + (before.end - before.first) * tick + gap)
+        last = before.start + (before.end - before.first) * tick + gap      # of the lines of the window before
+        begin, end = window.start - gap, min(window.head, last)
         lost = {mmsi for mmsi, sync in before.syncs.items() if sync is None}
         for mmsi in set(before.rows.checks) | set(window.rows.checks) | lost:
-            checks = [[check
-                       for check in part.rows.checks.get(mmsi, [])
-                       if begin <= check[0] <= end]
-                      for part in (before, window)]
+            found = [part.rows.checks.get(mmsi, []) for part in (before, window)]
+            checks = [within(part, begin, end) for part in found]
+            if checks[0] != checks[1]:
+                window.others.add(mmsi)
+            if within(found[0], before.tail, last) != within(found[1], before.tail, last):
+                window.others_late.add(mmsi)
             at = agreed_from(checks[0], checks[1], begin, end, gap, mmsi in lost)
             step = None if at is None else window.first + -(-(at - window.start) // tick)
             if step is None or step > base:
@@ -178,9 +186,9 @@ class Joining:
             self.doubt(window, border + 1, window.end if sync is None else sync, pair, CUT, LONG)
         self.doubt_edge(window, pair, rows, border)
         crossing = {row.track: row for row in rows if row.first <= border + 1 <= row.last}
-        made = [self.over_border(old, crossing.pop(old.track, None), border, sync) for old in pending]
+        made = [self.over_border(window, old, crossing.pop(old.track, None), border) for old in pending]
         rest = [*crossing.values(), *(row for row in rows if row.first > border + 1)]
-        return made + [self.judged(window, row, rows, sync) for row in rest]
+        return made + [self.judged(window, row) for row in rest]
 
     def doubt_edge(self, window: Window, pair: Pair, rows: list[Stretch], border: int) -> None:
         """Doubts the first rows of a pair in a window if a formula may look back to before the pair's trace there: rows
@@ -232,33 +240,64 @@ class Joining:
         row.mark = row.mark or mark
         return row
 
-    def judged(self, window: Window, row: Stretch, rows: list[Stretch], sync: int | None) -> Stretch:
+    def judged(self, window: Window, row: Stretch) -> Stretch:
         """Marks a row of a window unless the window certainly agrees with the whole about it."""
-        sight, back = self.sight(row), self.back(row)
+        sync = window.pair_syncs[row.pair]
         if sync is None or row.first <= sync:
             return self.mark(row, CUT)
-        if sight.values != {YES}:
+        if self.sight(row).values != {YES}:
             return self.mark(row, DOUBT)
-        if row.first <= sync + back or not sight.no_edge and row.first <= min(known.first for known in rows) + back:
+        if not self.sees_back(window, row, row.first):
             self.doubt(window, row.first, row.last + 1, row.pair, CUT, LATE)
             return self.mark(row, CUT)
         return row
 
-    def over_border(self, old: Stretch, new: Stretch | None, border: int, sync: int | None) -> Stretch:
+    def sees_back(self, window: Window, row: Stretch, step: int) -> bool:
+        """Returns whether a window knows all that a row's formula looks back to at a step: what is later than its
+        `sync`, and, of some formulas, what is later than its first row of the pair."""
+        sync, sight, back = window.pair_syncs[row.pair], self.sight(row), self.back(row)
+        rows = window.of_pair.get(row.pair, [])
+        known = sight.no_edge or bool(rows) and step > min(known.first for known in rows) + back
+        return sync is not None and step > sync + back and known
+
+    def over_border(self, window: Window, old: Stretch, new: Stretch | None, border: int) -> Stretch:
         """Returns the joined row of a stretch that continues over the settled step of the window before; `new` is this
         window's part of it.
 
         If both windows have a meeting at that step, it is the same meeting, whenever it began, with the same end.
         """
-        known = sync is not None and sync + self.back(old) <= border and self.sight(old).values == {YES}
+        known = self.sight(old).values == {YES} and self.sees_back(window, old, border + 1)
         if new is None:
             return old.spanning(old.first, border) if known and not old.is_meeting else self.mark(old, CUT)
         row = old.spanning(old.first, new.last)
         row.moored = old.moored and new.moored
-        if row.is_meeting:
-            row.least = str(min(int(old.least), int(new.least)))
-            return row
-        return row if known else self.mark(row, CUT)
+        if not row.is_meeting:
+            return row if known else self.mark(row, CUT)
+        row.least = str(min(int(old.least), int(new.least)))
+        if self.has_least(window, old, new):
+            row.least = new.least
+        elif not self.had_least(window, old, new):
+            self.doubt(window, row.first, row.last + 1, row.pair, DOUBT, LEAST)
+            self.mark(row, DOUBT)
+        return row
+
+    def has_least(self, window: Window, old: Stretch, new: Stretch) -> bool:
+        """Returns whether the least distance of a meeting over a border is certainly that of a window's part: it sees
+        rightly all its steps, and has all steps of the meeting or is as near as the window before was."""
+        return self.agrees_within(window, new) and (new.first <= old.first or int(new.least) <= int(old.least))
+
+    def had_least(self, window: Window, old: Stretch, new: Stretch) -> bool:
+        """Returns whether the least distance of a meeting over a border is certainly the lesser one of both parts: the
+        window before sees rightly also its steps that were not settled, and this window all, or is not nearer."""
+        return window.others_late.isdisjoint(old.pair) and (self.agrees_within(window, new)
+                                                            or int(old.least) <= int(new.least))
+
+    def agrees_within(self, window: Window, row: Stretch) -> bool:
+        """Returns whether a window sees both vessels as the whole does at each step of a row."""
+        if window.others.isdisjoint(row.pair):
+            return True
+        steps = [window.syncs.get(mmsi, window.first + self.warm) for mmsi in row.pair]
+        return all(step is not None and row.first >= step for step in steps)
 
     def contradict(self, before: Window, window: Window, pair: Pair, pending: list[Stretch]) -> bool:
         """Returns whether two windows that should agree about a pair have different rows; if so, notes a doubt."""
@@ -295,3 +334,8 @@ class Joining:
         settled step."""
         end = (str(row.last), row.least) if row.last <= border else ("..",)
         return (*row.track, str(row.first), *end)
+
+
+def within(checks: list[Check], first: int, last: int) -> list[Check]:
+    """Returns the reports between two times."""
+    return [check for check in checks if first <= check[0] <= last]
