@@ -184,22 +184,23 @@ class Joining:
             return [self.mark(row, DOUBT) for row in [*pending, *(row for row in rows if row.first > border)]]
         if (sync is None or sync > border + 1) and (pending or rows or pair in self.unknown):
             self.doubt(window, border + 1, window.end if sync is None else sync, pair, CUT, LONG)
-        self.doubt_edge(window, pair, rows, border)
+        self.doubt_back(window, pair, rows, border)
         crossing = {row.track: row for row in rows if row.first <= border + 1 <= row.last}
         made = [self.over_border(window, old, crossing.pop(old.track, None), border) for old in pending]
         rest = [*crossing.values(), *(row for row in rows if row.first > border + 1)]
         return made + [self.judged(window, row) for row in rest]
 
-    def doubt_edge(self, window: Window, pair: Pair, rows: list[Stretch], border: int) -> None:
-        """Doubts the first rows of a pair in a window if a formula may look back to before the pair's trace there: rows
-        of it may be missing."""
-        backs = [sight.back for sight in self.sights.values() if sight.values == {YES} and not sight.no_edge]
-        if not backs or not rows:
+    def doubt_back(self, window: Window, pair: Pair, rows: list[Stretch], border: int) -> None:
+        """Doubts the steps of a window from which a formula looks back to before the window's `sync` or, if that can
+        change its value, to before the pair's first row there: rows of it may be missing."""
+        sync, first = window.pair_syncs[pair], min((row.first for row in rows), default=None)
+        if sync is None or first is None:
             return
-        first = min(row.first for row in rows)
-        last = first + self.scenario.steps(max(backs))
-        if last > border:
-            self.doubt(window, max(first, border + 1), last + 1, pair, CUT, LATE)
+        for sight in self.sights.values():
+            back = self.scenario.steps(sight.back)
+            last = sync + back if sight.no_edge else max(sync, first) + back
+            if sight.values == {YES} and back and last > border:
+                self.doubt(window, border + 1, last + 1, pair, CUT, LATE)
 
     def is_doubtful(self, window: Window, pair: Pair) -> bool:
         return pair in self.doubtful or any(window.syncs.get(mmsi, ALWAYS) is None for mmsi in pair)
